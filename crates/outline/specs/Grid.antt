@@ -1,0 +1,43 @@
+-- The grid of an outline: all that the floors above the outline see of it.
+--
+--   Grid                 == the count of columns and rows of cells, the place in nm of each x line and y line, and the cells that
+--                           are inside. The cell (i, j) lies between the x lines i and i + 1 and the y lines j and j + 1
+--   Sound g              == 1 to 15 columns and rows; places rise from line to line within the frame, and never fall beyond it
+--                           (past the last line they repeat it); they are 16-bit numbers; no cell beyond the frame is inside
+--   Drawn g xs ys cells  == how a grid lies in memory: the places of the lines in 16 numbers each, and 16 x 16 bytes, 1 for an
+--                           inside cell, 0 beyond the frame, column after column
+use Prim.Native.Nat.{ℕ, suc, _+_, _*_, _≤_, _<_}
+use mathlib.Core.Path.{_≡_}
+use mathlib.Core.Bool.{Bool, false}
+use mathlib.Core.List.{List}
+use lib.ListN.{length, getD}
+use Rattle.sum.specs.Sum.{only}
+
+pub record Grid : Type 0 where
+  pub columns : ℕ
+  pub rows : ℕ
+  pub x : ℕ → ℕ
+  pub y : ℕ → ℕ
+  pub inside : ℕ → ℕ → Bool
+
+pub record Sound (g : Grid) : Type 0 where
+  pub columns-some : 1 ≤ g .columns
+  pub columns-most : g .columns ≤ 15
+  pub rows-some : 1 ≤ g .rows
+  pub rows-most : g .rows ≤ 15
+  pub x-up : (i : ℕ) → g .x i ≤ g .x (suc i)
+  pub y-up : (j : ℕ) → g .y j ≤ g .y (suc j)
+  pub x-rises : (i : ℕ) → i < g .columns → g .x i < g .x (suc i)
+  pub y-rises : (j : ℕ) → j < g .rows → g .y j < g .y (suc j)
+  pub x-most : (i : ℕ) → g .x i ≤ 65535
+  pub y-most : (j : ℕ) → g .y j ≤ 65535
+  pub right-none : (i j : ℕ) → g .columns ≤ i → g .inside i j ≡ false
+  pub above-none : (i j : ℕ) → g .rows ≤ j → g .inside i j ≡ false
+
+pub record Drawn (g : Grid) (xs ys cells : List ℕ) : Type 0 where
+  pub xs-length : length xs ≡ 16
+  pub ys-length : length ys ≡ 16
+  pub cells-length : length cells ≡ 256
+  pub x-at : (i : ℕ) → i ≤ g .columns → getD xs i 0 ≡ g .x i
+  pub y-at : (j : ℕ) → j ≤ g .rows → getD ys j 0 ≡ g .y j
+  pub cell-at : (i j : ℕ) → i < 16 → j < 16 → getD cells (16 * i + j) 0 ≡ only (g .inside i j) 1
