@@ -6,10 +6,13 @@
 --                           (past the last line they repeat it); they are 16-bit numbers; no cell beyond the frame is inside
 --   Drawn g xs ys cells  == how a grid lies in memory: the places of the lines in 16 numbers each, and 16 x 16 bytes, 1 for an
 --                           inside cell, 0 beyond the frame, column after column
-use Prim.Native.Nat.{ℕ, suc, _+_, _*_, _≤_, _<_}
+--   stored columns rows xs ys cells
+--                        == the grid that lies in memory so
+use Prim.Native.Nat.{ℕ, suc, _+_, _*_, _≤_, _<_, min}
 use mathlib.Core.Path.{_≡_}
-use mathlib.Core.Bool.{Bool, false}
+use mathlib.Core.Bool.{Bool, false, _&&_}
 use mathlib.Core.List.{List}
+use lib.Dec.{ltb, eqb}
 use lib.ListN.{length, getD}
 use Rattle.sum.specs.Sum.{only}
 
@@ -41,3 +44,13 @@ pub record Drawn (g : Grid) (xs ys cells : List ℕ) : Type 0 where
   pub x-at : (i : ℕ) → i ≤ g .columns → getD xs i 0 ≡ g .x i
   pub y-at : (j : ℕ) → j ≤ g .rows → getD ys j 0 ≡ g .y j
   pub cell-at : (i j : ℕ) → i < 16 → j < 16 → getD cells (16 * i + j) 0 ≡ only (g .inside i j) 1
+
+unfoldable pub stored : ℕ → ℕ → List ℕ → List ℕ → List ℕ → Grid
+stored columns rows xs ys cells =
+    record {
+      columns = columns;
+      rows = rows;
+      x = λ i. getD xs (min i columns) 0;
+      y = λ j. getD ys (min j rows) 0;
+      inside = λ i j. ltb i columns && (ltb j rows && eqb (getD cells (16 * i + j) 0) 1);
+    }
