@@ -1,1 +1,5 @@
 pub mod Grid
+pub mod Corners
+pub mod Lines
+pub mod Inside
+pub mod Promise

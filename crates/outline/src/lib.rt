@@ -9,6 +9,12 @@ pub struct Line(pub usize);
 // A place in whole nanometres.
 pub struct Place(pub u16);
 
+// A direction: places along x, or along y.
+pub enum Axis {
+    X,
+    Y,
+}
+
 // The grid of an outline, as crates/outline/specs/Grid.antt has it in memory: columns and rows of cells, the places of the
 // columns + 1 x lines and the rows + 1 y lines, and at 16 * i + j a 1 where the cell (i, j) is inside, else a 0.
 pub struct Grid {
