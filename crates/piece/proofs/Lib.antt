@@ -4,6 +4,6 @@ pub mod Turn
 pub mod Side
 pub mod Cover
 pub mod Straight
+pub mod Choice
 
--- pub mod Choice
 -- pub mod Bound
