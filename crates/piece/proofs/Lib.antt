@@ -5,5 +5,4 @@ pub mod Side
 pub mod Cover
 pub mod Straight
 pub mod Choice
-
--- pub mod Bound
+pub mod Bound

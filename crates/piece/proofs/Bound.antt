@@ -1,0 +1,187 @@
+-- No total exceeds document 01's number: each cell pays for itself and for its own exposed sides. Assumes nothing.
+--
+--   sideways g i j     == the exposed left and right sides of the cell (i, j), in nm; of the turned grid: bottom and top
+--   cost-due           == a piece costs at most 1,000 for each of its cells and the weight of their exposed sides
+--   cost-piece         == and so at most what the whole frame's cells and lines allow
+--   cost-most          == of a sound grid, under a rule in range, at most 2,097,345,000
+use Prim.Native.Nat.{ℕ, zero, suc, _+_, _*_, _-_, _≤_, _<_}
+use mathlib.Core.Path.{_≡_, refl, sym, _∙_, ap, ap₂}
+use mathlib.Core.Bool.{Bool, true, false, _&&_, not}
+use native.Mathlib.Omega.{arith}
+use native.Mathlib.Nat.{mul-le-mul-left, mul-le-mul, le-trans}
+use lib.Dec.{ltb}
+use Rattle.sum.specs.Sum.{over, only}
+use Rattle.sum.proofs.Sum as sum
+use Rattle.sum.proofs.Sum.{only-most}
+use Rattle.sum.proofs.Lists.{sumOf-le, All-imp}
+use Rattle.recurrence.specs.Scheme.{full}
+use Rattle.outline.specs.Grid.{Grid, Sound}
+use Rattle.rule.specs.declared.Rule.{Rule}
+use Rattle.piece.specs.Piece.{Piece, before, cellSum, cells, insideCells, kind, charge, sliver, left, right, bottom, top, width, height, lowSide, highSide, frame}
+use Rattle.piece.specs.Straight.{shots, cost}
+use Rattle.piece.proofs.Cells.{sum-add, sum-mul, sum-le, sum-part, cells-some, cells-product}
+use Rattle.piece.proofs.Turn.{turned, turn, sum-turn}
+use Rattle.piece.proofs.Straight.{Part, cover, shots-part}
+
+unfoldable sideways : Grid → ℕ → ℕ → ℕ
+sideways g i j =
+    only (lowSide (λ u. g .inside u j) i) (height g j (suc j)) + only (highSide (λ u. g .inside u j) (suc i)) (height g j (suc j))
+
+-- the sides of a piece are sides of its cells
+sides-cells : (g : Grid) (p : Piece) → p .a < p .c → left g p + right g p ≤ cellSum (sideways g) p
+unfolding left right cellSum sideways
+sides-cells g p h =
+    omega (
+      arith,
+      sum-add lo hi p,
+      sum.over-term (p .a) (p .c) (p .a) (λ i. over (p .b) (p .d) (lo i)) (omega arith) h,
+      sum.over-term (p .a) (p .c) (p .c - 1) (λ i. over (p .b) (p .d) (hi i)) (omega arith) (omega arith),
+      ap (λ c. over (p .b) (p .d) (λ j. only (highSide (λ u. g .inside u j) c) (height g j (suc j)))) back,
+    )
+  where
+    lo : ℕ → ℕ → ℕ
+    lo i j = only (lowSide (λ u. g .inside u j) i) (height g j (suc j))
+
+    hi : ℕ → ℕ → ℕ
+    hi i j = only (highSide (λ u. g .inside u j) (suc i)) (height g j (suc j))
+
+    back : suc (p .c - 1) ≡ p .c
+    back = omega arith
+
+-- along one row a line has at most one exposed side
+line-once : (f : ℕ → Bool) (k h : ℕ) → only (lowSide f k) h + only (highSide f k) h ≤ h
+unfolding lowSide highSide
+line-once f k h = go (f k) (before f k)
+  where
+    go : (s t : Bool) → only (s && not t) h + only (t && not s) h ≤ h
+    go true true = omega arith
+    go true false = omega arith
+    go false true = omega arith
+    go false false = omega arith
+
+row-most : (f : ℕ → Bool) (n h : ℕ) → over 0 n (λ u. only (lowSide f u) h + only (highSide f (suc u)) h) + only (lowSide f n) h ≤ suc n * h
+row-most f zero h =
+    omega (arith, sum.over-none 0 0 (λ u. only (lowSide f u) h + only (highSide f (suc u)) h) (omega arith), only-most (lowSide f 0) h)
+row-most f (suc n) h =
+    omega (
+      arith,
+      sum.over-last 0 n (λ u. only (lowSide f u) h + only (highSide f (suc u)) h) (omega arith),
+      row-most f n h,
+      line-once f (suc n) h,
+    )
+
+-- so the frame's cells have at most the frame's height for each x line
+frame-most : (g : Grid) (n m : ℕ) → ((j : ℕ) → g .y j ≤ g .y (suc j)) → over 0 n (λ i. over 0 m (sideways g i)) ≤ suc n * (g .y m - g .y 0)
+unfolding sideways height
+frame-most g n m up =
+    omega (
+      arith,
+      sum.over-swap 0 n 0 m (sideways g),
+      sum.over-le 0 m (λ j. over 0 n (λ i. sideways g i j)) (λ j. suc n * height g j (suc j))
+          (λ j q r. omega (arith, row-most (λ u. g .inside u j) n (height g j (suc j)))),
+      sum.over-mul 0 m (suc n) (λ j. height g j (suc j)),
+      ap (λ k. suc n * k) total,
+    )
+  where
+    total : over 0 m (λ j. height g j (suc j)) ≡ g .y m - g .y 0
+    total = omega (arith, sum.over-steps m (g .y) up)
+
+module _ (g : Grid) (r : Rule) where
+  -- the sides of the cells, both ways
+  sides : ℕ → ℕ → ℕ
+  sides i j = sideways g i j + sideways (turned g) j i
+
+  sides-sum : (p : Piece) → cellSum sides p ≡ cellSum (sideways g) p + cellSum (sideways (turned g)) (turn p)
+  unfolding sides
+  sides-sum p =
+      sum-add (sideways g) (λ i j. sideways (turned g) j i) p
+      ∙ ap (λ n. cellSum (sideways g) p + n) (sum-turn (λ i j. sideways (turned g) j i) p)
+
+  -- what a cell pays at most
+  due : ℕ → ℕ → ℕ
+  due i j = 1000 + r .weight * sides i j
+
+  due-sum : (p : Piece) → cellSum due p ≡ 1000 * cells p + r .weight * cellSum sides p
+  unfolding due cells
+  due-sum p =
+      sum-add (λ i j. 1000) (λ i j. r .weight * sides i j) p
+      ∙ ap₂ _+_ (sum-mul 1000 (λ i j. 1) p) (sum-mul (r .weight) sides p)
+
+  charge-due : (p : Piece) → p .a < p .c → p .b < p .d → 1 ≤ cells p → charge g r p ≤ cellSum due p
+  unfolding charge sliver
+  charge-due p ac bd h = omega (arith, due-sum p, mul-le-mul-left (r .weight) slivers)
+    where
+      upright : bottom g p + top g p ≤ cellSum (sideways (turned g)) (turn p)
+      upright = unfold bottom top left right width height in sides-cells (turned g) (turn p) bd
+
+      slivers : sliver g r p ≤ cellSum sides p
+      slivers =
+          unfold sliver in
+          omega (
+            arith,
+            only-most (ltb (width g (p .a) (p .c)) (r .threshold)) (left g p + right g p),
+            only-most (ltb (height g (p .b) (p .d)) (r .threshold)) (bottom g p + top g p),
+            sides-cells g p ac,
+            upright,
+            sides-sum p,
+          )
+
+  cost-due : (p : Piece) → cost g r p ≤ 1000 * cells p + r .weight * cellSum sides p
+  unfolding cost
+  cost-due p =
+      omega (
+        arith,
+        sumOf-le (charge g r) (cellSum due) (shots g r p)
+            (All-imp (λ s w. charge-due s (w .ac) (w .bd) (cells-some s (w .ac) (w .bd))) (shots g r p) (shots-part g r p)),
+        cover g r due p,
+        sum-le (λ i j. only (g .inside i j) (due i j)) due p (λ i j q. only-most (g .inside i j) (due i j)),
+        due-sum p,
+      )
+
+  module _ (s : Sound g) where
+    pub cost-piece : (p : Piece) → p .a ≤ p .c → p .c ≤ g .columns → p .b ≤ p .d → p .d ≤ g .rows
+        → cost g r p
+        ≤ 1000 * (g .columns * g .rows)
+        + r .weight * (suc (g .columns) * (g .y (g .rows) - g .y 0) + suc (g .rows) * (g .x (g .columns) - g .x 0))
+    cost-piece p ac c bd d =
+        omega (arith, cost-due p, mul-le-mul-left 1000 area, mul-le-mul-left (r .weight) borders)
+      where
+        part : (f : ℕ → ℕ → ℕ) → cellSum f p ≤ cellSum f (frame g)
+        part f = unfold frame in sum-part f p (frame g) (omega arith) ac c (omega arith) bd d
+
+        counted : cells p ≤ cells (frame g)
+        counted = unfold cells in part (λ i j. 1)
+
+        all : cells (frame g) ≡ g .columns * g .rows
+        all = unfold frame in (cells-product (frame g) (omega arith) (omega arith) ∙ ap₂ _*_ (whole (g .columns)) (whole (g .rows)))
+          where
+            whole : (n : ℕ) → n - 0 ≡ n
+            whole n = omega arith
+
+        area : cells p ≤ g .columns * g .rows
+        area = omega (arith, counted, all)
+
+        borders : cellSum sides p
+            ≤ suc (g .columns) * (g .y (g .rows) - g .y 0) + suc (g .rows) * (g .x (g .columns) - g .x 0)
+        borders =
+            unfold frame cellSum in
+            omega (
+              arith,
+              part sides,
+              sides-sum (frame g),
+              frame-most g (g .columns) (g .rows) (s .y-up),
+              frame-most (turned g) (g .rows) (g .columns) (s .x-up),
+            )
+
+    -- 16 lines each way, places up to 65,535, weight up to 1,000
+    pub cost-most : r .weight ≤ 1000 → (p : Piece) → p .a ≤ p .c → p .c ≤ g .columns → p .b ≤ p .d → p .d ≤ g .rows → cost g r p ≤ 2097345000
+    cost-most hw p ac c bd d =
+        le-trans (cost-piece p ac c bd d) (omega (arith, mul-le-mul (s .columns-most) (s .rows-most), mul-le-mul hw borders))
+      where
+        borders : suc (g .columns) * (g .y (g .rows) - g .y 0) + suc (g .rows) * (g .x (g .columns) - g .x 0) ≤ 2097120
+        borders =
+            omega (
+              arith,
+              mul-le-mul {n₁ = suc (g .columns)} {m₁ = g .y (g .rows) - g .y 0} {n₂ = 16} {m₂ = 65535} (omega (arith, s .columns-most)) (omega (arith, s .y-most (g .rows))),
+              mul-le-mul {n₁ = suc (g .rows)} {m₁ = g .x (g .columns) - g .x 0} {n₂ = 16} {m₂ = 65535} (omega (arith, s .rows-most)) (omega (arith, s .x-most (g .columns))),
+            )
