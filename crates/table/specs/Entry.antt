@@ -1,0 +1,46 @@
+-- The cost table: which entry is a piece's, and what the table holds (document 01, "Lent memory of a fracture").
+-- Lines are numbered from 0; `last` is the number of the last of them, which is also the count of columns or rows between them.
+--
+--   pairsBelow last a        == how many pairs of lines have their low line below a
+--   pairCount last           == how many pairs of lines there are
+--   pairNo last a c          == the number of the pair (a, c): (0, 1), (0, 2), .., (1, 2), .. from 0
+--   pairs last               == the pairs in the order of their numbers
+--   entryCount columns rows  == how many pieces, and so entries, there are
+--   entryOf columns rows p   == the entry of the piece p: the number of its x pair x the count of y pairs + the number of its y pair
+--   Valid columns rows p     == p is a piece of a grid of so many columns and rows
+--   costs g r                == the cost of every piece of the grid g under the rule r, in the order of entries
+use Prim.Native.Nat.{ℕ, zero, suc, _+_, _*_, _-_, _≤_, _<_}
+use mathlib.Core.List.{List, map}
+use Rattle.sum.specs.Sum.{join}
+use Rattle.outline.specs.Grid.{Grid}
+use Rattle.rule.specs.declared.Rule.{Rule}
+use Rattle.piece.specs.Piece.{Piece, box}
+use Rattle.piece.specs.Straight.{run, between, cost}
+
+unfoldable pub pairsBelow : ℕ → ℕ → ℕ
+pairsBelow last zero = 0
+pairsBelow last (suc a) = pairsBelow last a + (last - a)
+
+unfoldable pub pairCount : ℕ → ℕ
+pairCount last = pairsBelow last last
+
+unfoldable pub pairNo : ℕ → ℕ → ℕ → ℕ
+pairNo last a c = pairsBelow last a + (c - suc a)
+
+unfoldable pub pairs : ℕ → List (ℕ × ℕ)
+pairs last = join (λ a. map (λ c. (a, c)) (between a (suc last))) (run 0 last)
+
+unfoldable pub entryCount : ℕ → ℕ → ℕ
+entryCount columns rows = pairCount columns * pairCount rows
+
+unfoldable pub entryOf : ℕ → ℕ → Piece → ℕ
+entryOf columns rows p = pairNo columns (p .a) (p .c) * pairCount rows + pairNo rows (p .b) (p .d)
+
+pub record Valid (columns rows : ℕ) (p : Piece) : Type 0 where
+  pub ac : p .a < p .c
+  pub cx : p .c ≤ columns
+  pub bd : p .b < p .d
+  pub dy : p .d ≤ rows
+
+unfoldable pub costs : Grid → Rule → List ℕ
+costs g r = join (λ u. map (λ v. cost g r (box (u .0) (u .1) (v .0) (v .1))) (pairs (g .rows))) (pairs (g .columns))

@@ -1,0 +1,2 @@
+// The cost table: the entry of each piece, and the fill.
+pub mod numbering;
