@@ -2,18 +2,20 @@
 --
 --   sideways g i j     == the exposed left and right sides of the cell (i, j), in nm; of the turned grid: bottom and top
 --   cost-due           == a piece costs at most 1,000 for each of its cells and the weight of their exposed sides
---   cost-piece         == and so at most what the whole frame's cells and lines allow
---   cost-most          == of a sound grid, under a rule in range, at most 2,097,345,000
+--   cost-most          == a piece of a sound grid costs at most 2,097,345,000 under a rule in range
+--   slivers-most       == its shots have at most 2,097,120 nm of sliver together
+--   count-most         == and they are at most 225
 use Prim.Native.Nat.{ℕ, zero, suc, _+_, _*_, _-_, _≤_, _<_}
 use mathlib.Core.Path.{_≡_, refl, sym, _∙_, ap, ap₂}
 use mathlib.Core.Bool.{Bool, true, false, _&&_, not}
 use native.Mathlib.Omega.{arith}
-use native.Mathlib.Nat.{mul-le-mul-left, mul-le-mul, le-trans}
+use native.Mathlib.Nat.{mul-le-mul-left, mul-le-mul}
+use lib.ListN.{length}
 use lib.Dec.{ltb}
-use Rattle.sum.specs.Sum.{over, only}
+use Rattle.sum.specs.Sum.{over, only, sumOf}
 use Rattle.sum.proofs.Sum as sum
 use Rattle.sum.proofs.Sum.{only-most}
-use Rattle.sum.proofs.Lists.{sumOf-le, All-imp}
+use Rattle.sum.proofs.Lists.{sumOf-le, sumOf-ones, All-imp}
 use Rattle.recurrence.specs.Scheme.{full}
 use Rattle.outline.specs.Grid.{Grid, Sound}
 use Rattle.rule.specs.declared.Rule.{Rule}
@@ -107,48 +109,49 @@ module _ (g : Grid) (r : Rule) where
       sum-add (λ i j. 1000) (λ i j. r .weight * sides i j) p
       ∙ ap₂ _+_ (sum-mul 1000 (λ i j. 1) p) (sum-mul (r .weight) sides p)
 
-  charge-due : (p : Piece) → p .a < p .c → p .b < p .d → 1 ≤ cells p → charge g r p ≤ cellSum due p
-  unfolding charge sliver
-  charge-due p ac bd h = omega (arith, due-sum p, mul-le-mul-left (r .weight) slivers)
+  sliver-sides : (p : Piece) → p .a < p .c → p .b < p .d → sliver g r p ≤ cellSum sides p
+  unfolding sliver
+  sliver-sides p ac bd =
+      omega (
+        arith,
+        only-most (ltb (width g (p .a) (p .c)) (r .threshold)) (left g p + right g p),
+        only-most (ltb (height g (p .b) (p .d)) (r .threshold)) (bottom g p + top g p),
+        sides-cells g p ac,
+        upright,
+        sides-sum p,
+      )
     where
       upright : bottom g p + top g p ≤ cellSum (sideways (turned g)) (turn p)
       upright = unfold bottom top left right width height in sides-cells (turned g) (turn p) bd
 
-      slivers : sliver g r p ≤ cellSum sides p
-      slivers =
-          unfold sliver in
-          omega (
-            arith,
-            only-most (ltb (width g (p .a) (p .c)) (r .threshold)) (left g p + right g p),
-            only-most (ltb (height g (p .b) (p .d)) (r .threshold)) (bottom g p + top g p),
-            sides-cells g p ac,
-            upright,
-            sides-sum p,
-          )
+  charge-due : (p : Piece) → p .a < p .c → p .b < p .d → charge g r p ≤ cellSum due p
+  unfolding charge
+  charge-due p ac bd =
+      omega (arith, due-sum p, cells-some p ac bd, mul-le-mul-left (r .weight) (sliver-sides p ac bd))
+
+  -- what each shot has at most, summed over its cells, the shots of a piece have together at most, summed over the piece's
+  shots-most : (f : Piece → ℕ) (w : ℕ → ℕ → ℕ) → ((s : Piece) → s .a < s .c → s .b < s .d → f s ≤ cellSum w s)
+      → (p : Piece) → sumOf f (shots g r p) ≤ cellSum w p
+  shots-most f w h p =
+      omega (
+        arith,
+        sumOf-le f (cellSum w) (shots g r p) (All-imp (λ s v. h s (v .ac) (v .bd)) (shots g r p) (shots-part g r p)),
+        cover g r w p,
+        sum-le (λ i j. only (g .inside i j) (w i j)) w p (λ i j q. only-most (g .inside i j) (w i j)),
+      )
 
   cost-due : (p : Piece) → cost g r p ≤ 1000 * cells p + r .weight * cellSum sides p
   unfolding cost
-  cost-due p =
-      omega (
-        arith,
-        sumOf-le (charge g r) (cellSum due) (shots g r p)
-            (All-imp (λ s w. charge-due s (w .ac) (w .bd) (cells-some s (w .ac) (w .bd))) (shots g r p) (shots-part g r p)),
-        cover g r due p,
-        sum-le (λ i j. only (g .inside i j) (due i j)) due p (λ i j q. only-most (g .inside i j) (due i j)),
-        due-sum p,
-      )
+  cost-due p = omega (arith, shots-most (charge g r) due charge-due p, due-sum p)
 
-  module _ (s : Sound g) where
-    pub cost-piece : (p : Piece) → p .a ≤ p .c → p .c ≤ g .columns → p .b ≤ p .d → p .d ≤ g .rows
-        → cost g r p
-        ≤ 1000 * (g .columns * g .rows)
-        + r .weight * (suc (g .columns) * (g .y (g .rows) - g .y 0) + suc (g .rows) * (g .x (g .columns) - g .x 0))
-    cost-piece p ac c bd d =
-        omega (arith, cost-due p, mul-le-mul-left 1000 area, mul-le-mul-left (r .weight) borders)
+  module _ (s : Sound g) (p : Piece) (ac : p .a ≤ p .c) (c : p .c ≤ g .columns) (bd : p .b ≤ p .d) (d : p .d ≤ g .rows) where
+    part : (f : ℕ → ℕ → ℕ) → cellSum f p ≤ cellSum f (frame g)
+    unfolding frame
+    part f = sum-part f p (frame g) (omega arith) ac c (omega arith) bd d
+
+    area : cells p ≤ g .columns * g .rows
+    area = omega (arith, counted, all)
       where
-        part : (f : ℕ → ℕ → ℕ) → cellSum f p ≤ cellSum f (frame g)
-        part f = unfold frame in sum-part f p (frame g) (omega arith) ac c (omega arith) bd d
-
         counted : cells p ≤ cells (frame g)
         counted = unfold cells in part (λ i j. 1)
 
@@ -158,30 +161,33 @@ module _ (g : Grid) (r : Rule) where
             whole : (n : ℕ) → n - 0 ≡ n
             whole n = omega arith
 
-        area : cells p ≤ g .columns * g .rows
-        area = omega (arith, counted, all)
+    area-most : cells p ≤ 225
+    area-most = omega (arith, area, mul-le-mul (s .columns-most) (s .rows-most))
 
-        borders : cellSum sides p
-            ≤ suc (g .columns) * (g .y (g .rows) - g .y 0) + suc (g .rows) * (g .x (g .columns) - g .x 0)
-        borders =
-            unfold frame cellSum in
-            omega (
-              arith,
-              part sides,
-              sides-sum (frame g),
-              frame-most g (g .columns) (g .rows) (s .y-up),
-              frame-most (turned g) (g .rows) (g .columns) (s .x-up),
-            )
+    -- 16 lines each way, places up to 65,535
+    sides-most : cellSum sides p ≤ 2097120
+    unfolding frame cellSum
+    sides-most =
+        omega (
+          arith,
+          part sides,
+          sides-sum (frame g),
+          frame-most g (g .columns) (g .rows) (s .y-up),
+          frame-most (turned g) (g .rows) (g .columns) (s .x-up),
+          mul-le-mul {n₁ = suc (g .columns)} {m₁ = g .y (g .rows) - g .y 0} {n₂ = 16} {m₂ = 65535}
+              (omega (arith, s .columns-most))
+              (omega (arith, s .y-most (g .rows))),
+          mul-le-mul {n₁ = suc (g .rows)} {m₁ = g .x (g .columns) - g .x 0} {n₂ = 16} {m₂ = 65535}
+              (omega (arith, s .rows-most))
+              (omega (arith, s .x-most (g .columns))),
+        )
 
-    -- 16 lines each way, places up to 65,535, weight up to 1,000
-    pub cost-most : r .weight ≤ 1000 → (p : Piece) → p .a ≤ p .c → p .c ≤ g .columns → p .b ≤ p .d → p .d ≤ g .rows → cost g r p ≤ 2097345000
-    cost-most hw p ac c bd d =
-        le-trans (cost-piece p ac c bd d) (omega (arith, mul-le-mul (s .columns-most) (s .rows-most), mul-le-mul hw borders))
-      where
-        borders : suc (g .columns) * (g .y (g .rows) - g .y 0) + suc (g .rows) * (g .x (g .columns) - g .x 0) ≤ 2097120
-        borders =
-            omega (
-              arith,
-              mul-le-mul {n₁ = suc (g .columns)} {m₁ = g .y (g .rows) - g .y 0} {n₂ = 16} {m₂ = 65535} (omega (arith, s .columns-most)) (omega (arith, s .y-most (g .rows))),
-              mul-le-mul {n₁ = suc (g .rows)} {m₁ = g .x (g .columns) - g .x 0} {n₂ = 16} {m₂ = 65535} (omega (arith, s .rows-most)) (omega (arith, s .x-most (g .columns))),
-            )
+    pub cost-most : r .weight ≤ 1000 → cost g r p ≤ 2097345000
+    cost-most hw = omega (arith, cost-due p, area-most, mul-le-mul hw sides-most)
+
+    pub slivers-most : sumOf (sliver g r) (shots g r p) ≤ 2097120
+    slivers-most = omega (arith, shots-most (sliver g r) sides sliver-sides p, sides-most)
+
+    pub count-most : length (shots g r p) ≤ 225
+    unfolding cells
+    count-most = omega (arith, sumOf-ones (shots g r p), shots-most (λ q. 1) (λ i j. 1) cells-some p, area-most)

@@ -2,7 +2,7 @@
 --
 --   sumOf-append, sumOf-one, sumOf-join  == the sum over two lists, over one member, over joined lists
 --   sumOf-le, sumOf-same, sumOf-zero     == member by member: at most, the same, nothing
---   sumOf-add, sumOf-mul                 == a sum of sums, a factor
+--   sumOf-add, sumOf-mul, sumOf-ones     == a sum of sums, a factor, the length
 --   All-all, All-imp, All-append, All-map, All-unmap, All-join, All-parts   == a property of all members of ..
 --   All-at, All-of                       == .. and of each member
 --   Some-map, Some-left, Some-right      == a member of a map, of two lists
@@ -11,6 +11,7 @@ use Prim.Native.Nat.{ℕ, _+_, _*_, _≤_}
 use mathlib.Core.Path.{_≡_, refl, sym, _∙_, ap, subst}
 use mathlib.Core.List.{List, [], _∷_, _++_, map, append-assoc, List·Memᴰ as Member, List·Memᴰ·head, List·Memᴰ·tail}
 use native.Mathlib.Omega.{arith}
+use lib.ListN.{length}
 use native.Mathlib.Nat.{mul-add}
 use Rattle.sum.specs.Sum.{sumOf, All, Some, join}
 
@@ -50,6 +51,11 @@ module _ {A : Type 0} where
   unfolding sumOf
   sumOf-zero f [] h = refl
   sumOf-zero f (s ∷ l) h = omega (arith, h .0, sumOf-zero f l (h .1))
+
+  pub sumOf-ones : (l : List A) → sumOf (λ s. 1) l ≡ length l
+  unfolding sumOf
+  sumOf-ones [] = refl
+  sumOf-ones (s ∷ l) = omega (arith, sumOf-ones l)
 
   pub sumOf-add : (f g : A → ℕ) (l : List A) → sumOf (λ s. f s + g s) l ≡ sumOf f l + sumOf g l
   unfolding sumOf
