@@ -1,0 +1,113 @@
+/* Pinarewhemi: right-angled outlines into rectangular shots for a variable shaped beam writer,
+ * and the job bytes that carry them.
+ *
+ * Every call returns 0 on success and otherwise the number of its refusal (enum pw_refusal below).
+ * No call keeps anything between calls, allocates, or blocks; calls on separate memory may run at
+ * the same time on several threads.
+ *
+ * Memory.
+ *   - A slice is a pointer and a length, counted in elements of what it points to (not in bytes).
+ *     The pointer is aligned for its element and not null, also where the length is 0; nothing is
+ *     read or written through it beyond that length.
+ *   - A pointer to a single number (threshold, shots, offset, ..) is not null. The call writes every
+ *     one of these on every path, refusals included; what they held before does not matter.
+ *   - What a call may write (a pointer without const) overlaps nothing else that is handed to the
+ *     same call: not another such pointer, and not a const one. Two const ones may overlap.
+ *   - What is read is not changed by anyone until the call returns.
+ *   - A refusal leaves every lent slice as it came in, except that PW_LIST_SHORT leaves the cost
+ *     table filled as on success. On success each lent slice is written from its front, and beyond
+ *     that it is as it came in. Nothing that a slice held before influences any answer.
+ *   - Beside a refusal every single number is 0, except: shots beside PW_LIST_SHORT is the number of
+ *     shots that there are; offset beside PW_BYTES_END, PW_NOT_SHORTEST, PW_OUT_OF_RANGE and
+ *     PW_BYTES_LEFT from a reading call is where, in the bytes lent, the faulty number starts
+ *     (PW_BYTES_LEFT: the first byte too many).
+ *
+ * All places are whole nanometres, 0 to 65535.
+ */
+#ifndef PINAREWHEMI_H
+#define PINAREWHEMI_H
+
+#include <stddef.h>
+#include <stdint.h>
+
+#ifdef __cplusplus
+extern "C" {
+#endif
+
+/* When the answer is no. */
+enum pw_refusal {
+  PW_OK = 0,
+  PW_RULE = 1,          /* threshold or weight above 1000 */
+  PW_LENGTH = 2,        /* list of corners odd in length, under 8 numbers or over 64 */
+  PW_SLANTED = 3,       /* an edge changes both coordinates */
+  PW_STRAIGHT = 4,      /* an edge changes neither, or two neighbours change the same one */
+  PW_EMPTY = 5,         /* no cell is inside */
+  PW_TABLE_SHORT = 6,   /* cost table has fewer entries than there are pieces */
+  PW_LIST_SHORT = 7,    /* shot list holds fewer than 4 x shots numbers */
+  PW_BYTES_END = 8,     /* bytes end before a number does */
+  PW_NOT_SHORTEST = 9,  /* a number's last byte is 0 and not its only one */
+  PW_OUT_OF_RANGE = 10, /* a third byte has its top bit set, or a value is outside its range */
+  PW_BYTES_LEFT = 11,   /* bytes follow the last outline */
+  PW_JOB_LONG = 12,     /* job over 4096 bytes */
+  PW_NO_OUTLINE = 13,   /* outline k asked for, k not below the number of outlines */
+  PW_BUFFER_SHORT = 14, /* buffer too short for what would be written */
+  PW_NO_PRESET = 15     /* preset number above 3 */
+};
+
+/* Room that is enough for every outline and every job. */
+enum pw_room {
+  PW_TABLE_ENTRIES = 14400,  /* 16 lines each way: 120 x 120 pieces */
+  PW_LIST_NUMBERS = 900,     /* 225 shots of 4 numbers */
+  PW_CORNER_NUMBERS = 64,    /* 32 corners of 2 numbers */
+  PW_HEADER_BYTES = 6,       /* threshold, weight and count of outlines */
+  PW_OUTLINE_BYTES = 193,    /* V and 64 coordinates of 3 bytes */
+  PW_JOB_BYTES = 4096
+};
+
+/* The rule of a preset, 0 to 3. Refuses: PW_NO_PRESET. */
+uint32_t pw_preset(uint32_t number, uint32_t *threshold, uint32_t *weight);
+
+/* Fractures the outline corners[0..corners_len) = x, y, x, y, .. by the rule (threshold in nm,
+ * weight in thousandths of a shot per nm of sliver length). Afterwards the front of table holds the
+ * cost of every piece, the front of list 4 numbers for each shot (x low, y low, x high, y high);
+ * shots, cost (thousandths of a shot) and sliver (nm) are their count and sums.
+ * Refuses: PW_RULE to PW_LIST_SHORT, the first that holds. */
+uint32_t pw_fracture(const uint16_t *corners, size_t corners_len, uint32_t threshold, uint32_t weight,
+                     uint32_t *table, size_t table_len, uint16_t *list, size_t list_len,
+                     uint32_t *shots, uint32_t *cost, uint32_t *sliver);
+
+/* The same by the default rule, preset 0. Refuses: PW_LENGTH to PW_LIST_SHORT. */
+uint32_t pw_fracture_default(const uint16_t *corners, size_t corners_len,
+                     uint32_t *table, size_t table_len, uint16_t *list, size_t list_len,
+                     uint32_t *shots, uint32_t *cost, uint32_t *sliver);
+
+/* Reads the number that starts at bytes[at]: its value, of any range, and the place behind it.
+ * Any at is allowed; past the end is bytes that end.
+ * Refuses: PW_BYTES_END, PW_NOT_SHORTEST, PW_OUT_OF_RANGE (third byte), each with its offset. */
+uint32_t pw_number(const uint8_t *bytes, size_t len, size_t at, uint32_t *value, size_t *next, size_t *offset);
+
+/* Checks a whole job: its rule and the number of its outlines.
+ * Refuses: PW_JOB_LONG, then PW_BYTES_END to PW_BYTES_LEFT with the offset. */
+uint32_t pw_job_check(const uint8_t *job, size_t len, uint32_t *threshold, uint32_t *weight, uint32_t *outlines, size_t *offset);
+
+/* Where outline k of a job lies: job[start .. start + length), from its V to its last coordinate.
+ * The whole job is checked first. Refuses as pw_job_check, then PW_NO_OUTLINE. */
+uint32_t pw_job_outline(const uint8_t *job, size_t len, size_t k, size_t *start, size_t *length, size_t *offset);
+
+/* Unpacks such a part: its coordinates to the front of list, and V, the number of corners.
+ * Refuses: PW_BYTES_END to PW_BYTES_LEFT with the offset in the part, then PW_BUFFER_SHORT. */
+uint32_t pw_unpack(const uint8_t *part, size_t len, uint16_t *list, size_t list_len, uint32_t *corners, size_t *offset);
+
+/* Writes the header of a job. Refuses: PW_RULE, PW_OUT_OF_RANGE (outlines above 255),
+ * PW_BUFFER_SHORT. */
+uint32_t pw_write_header(uint32_t threshold, uint32_t weight, uint32_t outlines, uint8_t *out, size_t out_len, size_t *written);
+
+/* Writes one outline of a job: V and its coordinates. Only the length of the list of corners is
+ * looked at. Refuses: PW_LENGTH, PW_BUFFER_SHORT. */
+uint32_t pw_write_outline(const uint16_t *corners, size_t corners_len, uint8_t *out, size_t out_len, size_t *written);
+
+#ifdef __cplusplus
+}
+#endif
+
+#endif

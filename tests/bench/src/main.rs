@@ -1,0 +1,186 @@
+//! The benchmark: one table, measured in one run.
+//!
+//!     bench [--rounds N]
+//!
+//! Library and baseline take turns, round by round, on the same outlines and in the same buffers;
+//! the best round of each counts. Table (14,400 entries) and list (900 numbers) are lent whole and
+//! not cleared between calls: each call finds what the last one left. Every call is whole: checks,
+//! grid, fill, emission.
+
+use drawings::document::{B, JOB, L};
+use drawings::outlines;
+use drawings::seeded::Seeded;
+use law::bytes::{header, written_outline};
+use law::{Calls, Law, Told};
+use std::hint::black_box;
+use std::time::Instant;
+
+type Fracture<'a> = &'a dyn Fn(&[u16], &mut [u32], &mut [u16]) -> Told;
+
+/// A line of the table: its name and its outlines.
+struct Line {
+    name: &'static str,
+    outlines: Vec<Vec<u16>>,
+}
+
+/// 32 corners, 16 lines each way.
+fn staircase() -> Vec<u16> {
+    let mut corners = vec![0, 0];
+    for step in 0..15u16 {
+        corners.extend([(15 - step) * 30, step * 40, (15 - step) * 30, (step + 1) * 40]);
+    }
+    corners.extend([0, 600]);
+    corners
+}
+
+/// Of many crossing walks over 16 by 16 lines the one with most mixed pieces.
+fn worst() -> Vec<u16> {
+    let mixed = |corners: &Vec<u16>| {
+        let figure = law::figure::figure(corners).unwrap();
+        let fracture = law::cutting::Fracture::new(&figure, 25, 40);
+        fracture.pieces().into_iter().filter(|&p| fracture.kind(p) == law::cutting::Kind::Mixed).count()
+    };
+    let made = (0..300).map(|seed| {
+        let mut s = Seeded::new(seed);
+        let shape = outlines::SORTS[8].1(&mut s);
+        shape.iter().flat_map(|&(x, y)| [x as u16 * 20 + 5, y as u16 * 30 + 5]).collect::<Vec<u16>>()
+    });
+    made.max_by_key(mixed).unwrap()
+}
+
+/// Layout-like outlines: what a mask has, mostly rectangles, Ls, skylines, combs, bumped rectangles.
+fn layout() -> Vec<Vec<u16>> {
+    let mut s = Seeded::new(200);
+    let mut list = Vec::new();
+    while list.len() < 200 {
+        let sort = s.pick(&[0, 0, 0, 1, 1, 2, 2, 3, 4, 5]);
+        let corners = outlines::of_sort(&mut s, sort);
+        if Law.fracture(&corners, 25, 40, &mut vec![0; 14_400], &mut vec![0; 900]).number == 0 {
+            list.push(corners);
+        }
+    }
+    list
+}
+
+/// ns per outline of one round: all outlines of a line, over and over.
+fn round(outlines: &[Vec<u16>], fracture: Fracture, table: &mut [u32], list: &mut [u16], turns: usize) -> f64 {
+    let start = Instant::now();
+    for _ in 0..turns {
+        for corners in outlines {
+            let told = fracture(black_box(corners), table, list);
+            assert!(black_box(told).number == 0);
+        }
+    }
+    start.elapsed().as_secs_f64() * 1e9 / (turns * outlines.len()) as f64
+}
+
+/// So many turns that a round takes some ten milliseconds.
+fn turns(outlines: &[Vec<u16>], fracture: Fracture, table: &mut [u32], list: &mut [u16]) -> usize {
+    let mut turns = 1;
+    loop {
+        let took = round(outlines, fracture, table, list, turns) * (turns * outlines.len()) as f64;
+        if took > 5e6 {
+            return (turns as f64 * 1e7 / took).ceil() as usize;
+        }
+        turns *= 4;
+    }
+}
+
+/// A job of 40 layout-like outlines, as far as they fit.
+fn job() -> Vec<u8> {
+    let mut body = Vec::new();
+    let mut count = 0;
+    for corners in layout().iter().take(40) {
+        let part = written_outline(corners);
+        if body.len() + part.len() <= 4000 {
+            body.extend(part);
+            count += 1;
+        }
+    }
+    [header(25, 40, count), body].concat()
+}
+
+/// Reads a job: checks it, takes each outline, unpacks it. Gives a number that depends on all of it.
+fn read(calls: &dyn Calls, job: &[u8], list: &mut [u16]) -> u64 {
+    let told = calls.job_check(job);
+    let mut sum = told.numbers[0];
+    for k in 0..told.numbers[2] as usize {
+        let part = calls.job_outline(job, k).numbers;
+        sum += calls.unpack(&job[part[0] as usize..(part[0] + part[1]) as usize], list).numbers[0];
+    }
+    sum
+}
+
+/// Best ns of a call over some rounds.
+fn best(rounds: usize, mut call: impl FnMut()) -> f64 {
+    let mut least = f64::MAX;
+    for _ in 0..rounds {
+        let start = Instant::now();
+        for _ in 0..100 {
+            call();
+        }
+        least = least.min(start.elapsed().as_secs_f64() * 1e9 / 100.0);
+    }
+    least
+}
+
+fn load() -> String {
+    let load = std::fs::read_to_string("/proc/loadavg").unwrap_or_default();
+    load.split(' ').take(3).collect::<Vec<_>>().join(" ")
+}
+
+fn main() {
+    let words: Vec<String> = std::env::args().collect();
+    let rounds = match words.get(1).map(String::as_str) {
+        Some("--rounds") => words[2].parse().unwrap(),
+        _ => 40,
+    };
+    let lines = [
+        Line { name: "L, 3 by 3 lines", outlines: vec![L.to_vec()] },
+        Line { name: "B, 3 by 4 lines", outlines: vec![B.to_vec()] },
+        Line { name: "staircase, 32 corners", outlines: vec![staircase()] },
+        Line { name: "16 by 16 lines, most pieces mixed", outlines: vec![worst()] },
+        Line { name: "200 layout-like outlines", outlines: layout() },
+    ];
+    let library = lent::library();
+    let ours: Fracture = &|corners, table, list| match library {
+        Some(library) => library.fracture(corners, 25, 40, table, list),
+        None => Law.fracture(corners, 25, 40, table, list),
+    };
+    let baseline: Fracture = &|corners, table, list| lent::baseline(corners, 25, 40, table, list);
+    let who = if library.is_some() { "library" } else { "plain Rust" };
+    println!("ns per fracture, whole call, rule 25, 40; best of {rounds} rounds in turn; buffers not cleared between calls");
+    println!("machine: {}, load before {}", std::env::consts::ARCH, load());
+    println!("| Outline | {who} | C++ baseline | ratio |\n|---|---:|---:|---:|");
+    let (mut table, mut list) = (vec![0u32; 14_400], vec![0u16; 900]);
+    for line in &lines {
+        let (our_turns, its_turns) = (
+            turns(&line.outlines, ours, &mut table, &mut list),
+            turns(&line.outlines, baseline, &mut table, &mut list),
+        );
+        let (mut our_best, mut its_best) = (f64::MAX, f64::MAX);
+        for _ in 0..rounds {
+            our_best = our_best.min(round(&line.outlines, ours, &mut table, &mut list, our_turns));
+            its_best = its_best.min(round(&line.outlines, baseline, &mut table, &mut list, its_turns));
+        }
+        println!("| {} | {our_best:.0} | {its_best:.0} | {:.2} |", line.name, our_best / its_best);
+    }
+    let job = job();
+    let calls: &dyn Calls = match library {
+        Some(library) => library,
+        None => &Law,
+    };
+    println!("\n| Job, by the {who} | bytes | outlines | ns |\n|---|---:|---:|---:|");
+    for (name, job) in [("worked example", &JOB.to_vec()), ("layout-like outlines", &job)] {
+        let count = Law.job_check(job).numbers[2];
+        let checked = best(rounds, || {
+            black_box(calls.job_check(black_box(job)));
+        });
+        let read = best(rounds, || {
+            black_box(read(calls, black_box(job), &mut list));
+        });
+        println!("| {name}: checked | {} | {count} | {checked:.0} |", job.len());
+        println!("| {name}: checked, and every outline taken and unpacked | {} | {count} | {read:.0} |", job.len());
+    }
+    println!("load after {}", load());
+}

@@ -1,0 +1,80 @@
+//! The comparison that the gate runs: the proved library, through its C interface, and the C++
+//! baseline against document 01 in plain Rust (`law`), answer by answer and buffer by buffer.
+//!
+//!     compare [--outlines N] [--jobs N] [--seed S] [--threads T] [--record FILE] [--without-library]
+//!
+//! It stops at the first difference and says from which seed it came. `--record` also writes cases
+//! with their outcomes for the C program `replay`. Without the library only the baseline is compared.
+
+mod fractures;
+mod jobs;
+mod progress;
+mod record;
+mod room;
+
+use law::Calls;
+use progress::Progress;
+
+/// What to compare, and on how much.
+pub struct Plan {
+    pub outlines: usize,
+    pub jobs: usize,
+    pub seed: u64,
+    pub threads: usize,
+    pub record: Option<String>,
+    pub library: Option<&'static (dyn Calls + Sync)>,
+}
+
+fn plan() -> Plan {
+    let mut plan = Plan {
+        outlines: 120_000,
+        jobs: 120_000,
+        seed: 1,
+        threads: std::thread::available_parallelism().map_or(1, |n| n.get()),
+        record: None,
+        library: lent::library(),
+    };
+    let mut without = false;
+    let mut words = std::env::args().skip(1);
+    while let Some(word) = words.next() {
+        let mut number = || words.next().and_then(|n| n.parse().ok()).unwrap_or_else(|| panic!("{word} takes a number"));
+        match word.as_str() {
+            "--outlines" => plan.outlines = number(),
+            "--jobs" => plan.jobs = number(),
+            "--seed" => plan.seed = number() as u64,
+            "--threads" => plan.threads = number(),
+            "--record" => plan.record = words.next(),
+            "--without-library" => without = true,
+            _ => panic!("unknown word {word}"),
+        }
+    }
+    assert!(without || plan.library.is_some(), "the library is not linked (PINAREWHEMI_ARCHIVE)");
+    if without {
+        plan.library = None;
+    }
+    plan
+}
+
+fn main() {
+    let plan = plan();
+    let progress = Progress::new();
+    println!(
+        "comparing {} with document 01 in plain Rust: seed {}, {} threads",
+        if plan.library.is_some() { "the library and the C++ baseline" } else { "the C++ baseline alone" },
+        plan.seed,
+        plan.threads
+    );
+    fractures::rows(&plan, &progress);
+    fractures::presets(&plan, &progress);
+    fractures::every_length(&plan, &progress);
+    fractures::every_cutting(&plan, &progress);
+    fractures::outlines(&plan, &progress);
+    jobs::numbers(&plan, &progress);
+    jobs::writers(&plan, &progress);
+    jobs::limits(&plan, &progress);
+    jobs::damaged(&plan, &progress);
+    if let Some(file) = &plan.record {
+        record::write(file, plan.seed, &progress);
+    }
+    progress.end();
+}

@@ -1,0 +1,174 @@
+//! The job bytes: numbers, a whole job, its parts, and the writers.
+
+use crate::Told;
+
+/// A fault of bytes that were read: its number, and where the faulty number starts.
+#[derive(Clone, Copy, PartialEq, Eq, Debug)]
+pub struct Fault {
+    pub number: u32,
+    pub at: usize,
+}
+
+impl Fault {
+    fn told(self) -> u64 {
+        self.at as u64
+    }
+}
+
+/// The number that starts at a place, and the place behind it.
+pub fn number(bytes: &[u8], at: usize) -> Result<(u32, usize), Fault> {
+    let no = |number| Err(Fault { number, at });
+    // the groups up to the first byte whose top bit is clear, at most three
+    let rest = bytes.get(at..).unwrap_or(&[]);
+    let last = rest.iter().take(3).position(|byte| byte & 0x80 == 0);
+    let Some(last) = last else {
+        return if rest.len() < 3 { no(8) } else { no(10) };
+    };
+    if last > 0 && rest[last] == 0 {
+        return no(9);
+    }
+    let value = rest[..=last].iter().rev().fold(0, |value, byte| value << 7 | (byte & 0x7f) as u32);
+    Ok((value, at + last + 1))
+}
+
+/// A number that has to lie in a range.
+fn ranged(bytes: &[u8], at: usize, low: u32, high: u32) -> Result<(u32, usize), Fault> {
+    let (value, next) = number(bytes, at)?;
+    if value < low || value > high {
+        return Err(Fault { number: 10, at });
+    }
+    Ok((value, next))
+}
+
+/// One outline from a place on: its coordinates, and the place behind it.
+fn outline(bytes: &[u8], at: usize) -> Result<(Vec<u16>, usize), Fault> {
+    let (corners, mut place) = ranged(bytes, at, 4, 32)?;
+    let mut list = Vec::new();
+    for _ in 0..2 * corners {
+        let (value, next) = ranged(bytes, place, 0, 65_535)?;
+        list.push(value as u16);
+        place = next;
+    }
+    Ok((list, place))
+}
+
+/// A job that was read: its rule, and of each outline its place in the bytes and its coordinates.
+#[derive(Clone, PartialEq, Eq, Debug)]
+pub struct Job {
+    pub threshold: u32,
+    pub weight: u32,
+    pub outlines: Vec<(std::ops::Range<usize>, Vec<u16>)>,
+}
+
+pub fn job(bytes: &[u8]) -> Result<Job, Fault> {
+    if bytes.len() > 4096 {
+        return Err(Fault { number: 12, at: 0 });
+    }
+    let (threshold, at) = ranged(bytes, 0, 0, 1000)?;
+    let (weight, at) = ranged(bytes, at, 0, 1000)?;
+    let (count, mut at) = ranged(bytes, at, 0, 255)?;
+    let mut outlines = Vec::new();
+    for _ in 0..count {
+        let (list, next) = outline(bytes, at)?;
+        outlines.push((at..next, list));
+        at = next;
+    }
+    if at < bytes.len() {
+        return Err(Fault { number: 11, at });
+    }
+    Ok(Job { threshold, weight, outlines })
+}
+
+/// The bytes of a number, the fewest there are.
+fn push(out: &mut Vec<u8>, mut value: u32) {
+    while value >= 0x80 {
+        out.push((value & 0x7f) as u8 | 0x80);
+        value >>= 7;
+    }
+    out.push(value as u8);
+}
+
+pub fn header(threshold: u32, weight: u32, outlines: u32) -> Vec<u8> {
+    let mut out = Vec::new();
+    for value in [threshold, weight, outlines] {
+        push(&mut out, value);
+    }
+    out
+}
+
+pub fn written_outline(corners: &[u16]) -> Vec<u8> {
+    let mut out = Vec::new();
+    push(&mut out, corners.len() as u32 / 2);
+    for &value in corners {
+        push(&mut out, value as u32);
+    }
+    out
+}
+
+pub fn told_number(bytes: &[u8], at: usize) -> Told {
+    match number(bytes, at) {
+        Ok((value, next)) => Told::done([value as u64, next as u64, 0, 0]),
+        Err(fault) => Told { number: fault.number, numbers: [0, 0, fault.told(), 0] },
+    }
+}
+
+pub fn told_check(bytes: &[u8]) -> Told {
+    match job(bytes) {
+        Ok(job) => Told::done([job.threshold as u64, job.weight as u64, job.outlines.len() as u64, 0]),
+        Err(fault) => Told { number: fault.number, numbers: [0, 0, 0, fault.told()] },
+    }
+}
+
+pub fn told_outline(bytes: &[u8], k: usize) -> Told {
+    match job(bytes) {
+        Ok(job) => match job.outlines.get(k) {
+            Some((part, _)) => Told::done([part.start as u64, part.len() as u64, 0, 0]),
+            None => Told::refused(13),
+        },
+        Err(fault) => Told { number: fault.number, numbers: [0, 0, fault.told(), 0] },
+    }
+}
+
+pub fn told_unpack(part: &[u8], list: &mut [u16]) -> Told {
+    let read = outline(part, 0).and_then(|(values, at)| {
+        if at < part.len() {
+            Err(Fault { number: 11, at })
+        } else {
+            Ok(values)
+        }
+    });
+    match read {
+        Ok(values) if list.len() < values.len() => Told::refused(14),
+        Ok(values) => {
+            list[..values.len()].copy_from_slice(&values);
+            Told::done([values.len() as u64 / 2, 0, 0, 0])
+        }
+        Err(fault) => Told { number: fault.number, numbers: [0, fault.told(), 0, 0] },
+    }
+}
+
+/// Writes to the front of what is lent, or 14.
+fn put(bytes: &[u8], out: &mut [u8]) -> Told {
+    if out.len() < bytes.len() {
+        return Told::refused(14);
+    }
+    out[..bytes.len()].copy_from_slice(bytes);
+    Told::done([bytes.len() as u64, 0, 0, 0])
+}
+
+pub fn told_header(threshold: u32, weight: u32, outlines: u32, out: &mut [u8]) -> Told {
+    if threshold > 1000 || weight > 1000 {
+        return Told::refused(1);
+    }
+    if outlines > 255 {
+        return Told::refused(10);
+    }
+    put(&header(threshold, weight, outlines), out)
+}
+
+pub fn told_written_outline(corners: &[u16], out: &mut [u8]) -> Told {
+    if corners.len() % 2 == 1 || corners.len() < 8 || corners.len() > 64 {
+        return Told::refused(2);
+    }
+    put(&written_outline(corners), out)
+}

@@ -1,0 +1,174 @@
+//! Costs and verdicts of the pieces of a figure, by a recursion from a piece down to its parts.
+
+use crate::figure::Figure;
+
+/// A piece lies between the x lines a < c and the y lines b < d.
+#[derive(Clone, Copy, PartialEq, Eq, Hash, Debug)]
+pub struct Piece {
+    pub a: usize,
+    pub c: usize,
+    pub b: usize,
+    pub d: usize,
+}
+
+/// The piece at its place: x low, y low, x high, y high.
+pub type Shot = [u16; 4];
+
+#[derive(Clone, Copy, PartialEq, Eq, Debug)]
+pub enum Kind {
+    Outside,
+    Full,
+    Mixed,
+}
+
+#[derive(Clone, Copy, PartialEq, Eq, Debug)]
+pub enum Verdict {
+    Outside,
+    Shot,
+    CutAtX(usize),
+    CutAtY(usize),
+}
+
+/// A figure under a rule, with the verdict and cost of each piece as far as they are known.
+pub struct Fracture<'a> {
+    pub figure: &'a Figure,
+    threshold: u32,
+    weight: u32,
+    known: Vec<Option<(Verdict, u32)>>,
+}
+
+impl<'a> Fracture<'a> {
+    pub fn new(figure: &'a Figure, threshold: u32, weight: u32) -> Self {
+        Fracture { figure, threshold, weight, known: vec![None; 1 << 16] }
+    }
+
+    pub fn frame(&self) -> Piece {
+        Piece { a: 0, c: self.figure.xs.len() - 1, b: 0, d: self.figure.ys.len() - 1 }
+    }
+
+    /// Every piece, in the order of the cost table: pairs (0,1), (0,2), .., (1,2), ..; x before y.
+    pub fn pieces(&self) -> Vec<Piece> {
+        let (n, m) = (self.figure.xs.len(), self.figure.ys.len());
+        let mut all = Vec::new();
+        for a in 0..n {
+            for c in a + 1..n {
+                for b in 0..m {
+                    for d in b + 1..m {
+                        all.push(Piece { a, c, b, d });
+                    }
+                }
+            }
+        }
+        all
+    }
+
+    pub fn kind(&self, p: Piece) -> Kind {
+        let mut seen = [false; 2];
+        for i in p.a..p.c {
+            for j in p.b..p.d {
+                seen[self.figure.inside(i as isize, j as isize) as usize] = true;
+            }
+        }
+        match seen {
+            [_, false] => Kind::Outside,
+            [false, true] => Kind::Full,
+            [true, true] => Kind::Mixed,
+        }
+    }
+
+    /// Exposed length along an x line, between the y lines b and d: `within` and `across` are the
+    /// columns on the two sides of it.
+    fn exposed_along_x(&self, within: isize, across: isize, b: usize, d: usize) -> u32 {
+        (b..d)
+            .filter(|&j| self.figure.inside(within, j as isize) && !self.figure.inside(across, j as isize))
+            .map(|j| (self.figure.ys[j + 1] - self.figure.ys[j]) as u32)
+            .sum()
+    }
+
+    /// The same along a y line.
+    fn exposed_along_y(&self, within: isize, across: isize, a: usize, c: usize) -> u32 {
+        (a..c)
+            .filter(|&i| self.figure.inside(i as isize, within) && !self.figure.inside(i as isize, across))
+            .map(|i| (self.figure.xs[i + 1] - self.figure.xs[i]) as u32)
+            .sum()
+    }
+
+    /// The sliver length of a piece as a shot.
+    pub fn sliver(&self, p: Piece) -> u32 {
+        let (a, c, b, d) = (p.a as isize, p.c as isize, p.b as isize, p.d as isize);
+        let [x_low, y_low, x_high, y_high] = self.shot(p);
+        let mut length = 0;
+        if ((x_high - x_low) as u32) < self.threshold {
+            length += self.exposed_along_x(a, a - 1, p.b, p.d);
+            length += self.exposed_along_x(c - 1, c, p.b, p.d);
+        }
+        if ((y_high - y_low) as u32) < self.threshold {
+            length += self.exposed_along_y(b, b - 1, p.a, p.c);
+            length += self.exposed_along_y(d - 1, d, p.a, p.c);
+        }
+        length
+    }
+
+    pub fn charge(&self, p: Piece) -> u32 {
+        1000 + self.weight * self.sliver(p)
+    }
+
+    pub fn shot(&self, p: Piece) -> Shot {
+        let f = self.figure;
+        [f.xs[p.a], f.ys[p.b], f.xs[p.c], f.ys[p.d]]
+    }
+
+    /// The verdict and the cost of a piece.
+    pub fn judge(&mut self, p: Piece) -> (Verdict, u32) {
+        let place = p.a << 12 | p.c << 8 | p.b << 4 | p.d;
+        if let Some(answer) = self.known[place] {
+            return answer;
+        }
+        let answer = match self.kind(p) {
+            Kind::Outside => (Verdict::Outside, 0),
+            Kind::Full => (Verdict::Shot, self.charge(p)),
+            Kind::Mixed => {
+                let mut best = None;
+                for cut in cuts(p) {
+                    let (low, high) = parts(p, cut);
+                    let cost = self.judge(low).1 + self.judge(high).1;
+                    // the first of equals stays
+                    if best.map_or(true, |(_, least)| cost < least) {
+                        best = Some((cut, cost));
+                    }
+                }
+                best.expect("a mixed piece has two cells, so a line between its ends")
+            }
+        };
+        self.known[place] = Some(answer);
+        answer
+    }
+
+    /// The shots of a piece: by itself, or those of the low part and then those of the high part.
+    pub fn shots(&mut self, p: Piece) -> Vec<Piece> {
+        match self.judge(p).0 {
+            Verdict::Outside => Vec::new(),
+            Verdict::Shot => vec![p],
+            cut => {
+                let (low, high) = parts(p, cut);
+                let mut all = self.shots(low);
+                all.extend(self.shots(high));
+                all
+            }
+        }
+    }
+}
+
+/// The cuts of a piece in the order of ties: vertical before horizontal, low before high.
+pub fn cuts(p: Piece) -> impl Iterator<Item = Verdict> {
+    (p.a + 1..p.c).map(Verdict::CutAtX).chain((p.b + 1..p.d).map(Verdict::CutAtY))
+}
+
+/// The low and the high part of a cut.
+pub fn parts(p: Piece, cut: Verdict) -> (Piece, Piece) {
+    match cut {
+        Verdict::CutAtX(line) => (Piece { c: line, ..p }, Piece { a: line, ..p }),
+        Verdict::CutAtY(line) => (Piece { d: line, ..p }, Piece { b: line, ..p }),
+        Verdict::Outside | Verdict::Shot => panic!("no cut"),
+    }
+}

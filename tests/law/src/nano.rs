@@ -1,0 +1,112 @@
+//! The cost of a figure once more, nanometre by nanometre: a figure is a set of unit squares, a
+//! piece four places, an exposed stretch a unit edge. Only for small figures; it holds `cutting`
+//! to account.
+
+use std::collections::HashMap;
+
+pub type Place = u16;
+
+/// The unit squares of an outline, by the odd count, from the raw corners.
+pub struct Squares {
+    side: usize,
+    filled: Vec<bool>,
+    pub xs: Vec<Place>,
+    pub ys: Vec<Place>,
+}
+
+/// A piece by its places: x low, y low, x high, y high.
+pub type Span = [Place; 4];
+
+impl Squares {
+    /// Of an outline whose edges are sound.
+    pub fn new(corners: &[u16]) -> Squares {
+        let side = *corners.iter().max().unwrap() as usize + 1;
+        let mut filled = vec![false; side * side];
+        let count = corners.len() / 2;
+        for edge in 0..count {
+            let (x, y) = (corners[2 * edge], corners[2 * edge + 1]);
+            let next = (edge + 1) % count;
+            let (x_next, y_next) = (corners[2 * next], corners[2 * next + 1]);
+            if x == x_next {
+                // a vertical edge turns over every unit square to its right
+                for v in y.min(y_next)..y.max(y_next) {
+                    for u in x as usize..side {
+                        filled[u * side + v as usize] ^= true;
+                    }
+                }
+            }
+        }
+        let every = |from: usize| {
+            let mut places: Vec<Place> = corners.iter().skip(from).step_by(2).copied().collect();
+            places.sort();
+            places.dedup();
+            places
+        };
+        Squares { side, filled, xs: every(0), ys: every(1) }
+    }
+
+    pub fn filled(&self, x: i32, y: i32) -> bool {
+        let side = self.side as i32;
+        x >= 0 && y >= 0 && x < side && y < side && self.filled[(x * side + y) as usize]
+    }
+
+    /// How many unit squares of a span are filled.
+    pub fn area(&self, [x0, y0, x1, y1]: Span) -> usize {
+        let mut sum = 0;
+        for x in x0..x1 {
+            for y in y0..y1 {
+                sum += self.filled(x as i32, y as i32) as usize;
+            }
+        }
+        sum
+    }
+
+    /// The sliver length of a span, one unit edge after the other.
+    pub fn sliver(&self, [x0, y0, x1, y1]: Span, threshold: u32) -> u32 {
+        let bare = |x: i32, y: i32, x_across: i32, y_across: i32| (self.filled(x, y) && !self.filled(x_across, y_across)) as u32;
+        let (l, b, r, t) = (x0 as i32, y0 as i32, x1 as i32, y1 as i32);
+        let mut sum = 0;
+        if ((r - l) as u32) < threshold {
+            for y in b..t {
+                sum += bare(l, y, l - 1, y) + bare(r - 1, y, r, y);
+            }
+        }
+        if ((t - b) as u32) < threshold {
+            for x in l..r {
+                sum += bare(x, b, x, b - 1) + bare(x, t - 1, x, t);
+            }
+        }
+        sum
+    }
+}
+
+/// The cost of a span and its shots in order.
+pub fn cut(squares: &Squares, rule: (u32, u32), span: Span, known: &mut HashMap<Span, (u64, Vec<Span>)>) -> (u64, Vec<Span>) {
+    if let Some(answer) = known.get(&span) {
+        return answer.clone();
+    }
+    let [x0, y0, x1, y1] = span;
+    let area = squares.area(span);
+    let answer = if area == 0 {
+        (0, Vec::new())
+    } else if area == (x1 - x0) as usize * (y1 - y0) as usize {
+        (1000 + rule.1 as u64 * squares.sliver(span, rule.0) as u64, vec![span])
+    } else {
+        let mut halves = Vec::new();
+        for &x in squares.xs.iter().filter(|&&x| x0 < x && x < x1) {
+            halves.push(([x0, y0, x, y1], [x, y0, x1, y1]));
+        }
+        for &y in squares.ys.iter().filter(|&&y| y0 < y && y < y1) {
+            halves.push(([x0, y0, x1, y], [x0, y, x1, y1]));
+        }
+        let mut answers: Vec<(u64, Vec<Span>)> = Vec::new();
+        for (low, high) in halves {
+            let (low, high) = (cut(squares, rule, low, known), cut(squares, rule, high, known));
+            answers.push((low.0 + high.0, [low.1, high.1].concat()));
+        }
+        let least = answers.iter().map(|a| a.0).min().unwrap();
+        answers.into_iter().find(|a| a.0 == least).unwrap()
+    };
+    known.insert(span, answer.clone());
+    answer
+}

@@ -1,0 +1,160 @@
+//! Safe functions over the C interface of include/pinarewhemi.h, and over the C++ baseline.
+//!
+//! Nothing checks these declarations against the Rattle source: they are the header's, word for
+//! word. Each single number is lent full of a mark, so that one that a call does not write shows.
+
+#![allow(clippy::too_many_arguments)]
+
+use law::{Calls, Told};
+
+type Fractures = unsafe extern "C" fn(
+    *const u16, usize, u32, u32, *mut u32, usize, *mut u16, usize, *mut u32, *mut u32, *mut u32,
+) -> u32;
+
+extern "C" {
+    fn baseline_fracture(
+        corners: *const u16, corners_len: usize, threshold: u32, weight: u32,
+        table: *mut u32, table_len: usize, list: *mut u16, list_len: usize,
+        shots: *mut u32, cost: *mut u32, sliver: *mut u32,
+    ) -> u32;
+}
+
+#[cfg(archive)]
+mod pw {
+    extern "C" {
+        pub fn pw_preset(number: u32, threshold: *mut u32, weight: *mut u32) -> u32;
+        pub fn pw_fracture(
+            corners: *const u16, corners_len: usize, threshold: u32, weight: u32,
+            table: *mut u32, table_len: usize, list: *mut u16, list_len: usize,
+            shots: *mut u32, cost: *mut u32, sliver: *mut u32,
+        ) -> u32;
+        pub fn pw_fracture_default(
+            corners: *const u16, corners_len: usize,
+            table: *mut u32, table_len: usize, list: *mut u16, list_len: usize,
+            shots: *mut u32, cost: *mut u32, sliver: *mut u32,
+        ) -> u32;
+        pub fn pw_number(bytes: *const u8, len: usize, at: usize, value: *mut u32, next: *mut usize, offset: *mut usize) -> u32;
+        pub fn pw_job_check(
+            job: *const u8, len: usize, threshold: *mut u32, weight: *mut u32, outlines: *mut u32, offset: *mut usize,
+        ) -> u32;
+        pub fn pw_job_outline(
+            job: *const u8, len: usize, k: usize, start: *mut usize, length: *mut usize, offset: *mut usize,
+        ) -> u32;
+        pub fn pw_unpack(
+            part: *const u8, len: usize, list: *mut u16, list_len: usize, corners: *mut u32, offset: *mut usize,
+        ) -> u32;
+        pub fn pw_write_header(
+            threshold: u32, weight: u32, outlines: u32, out: *mut u8, out_len: usize, written: *mut usize,
+        ) -> u32;
+        pub fn pw_write_outline(
+            corners: *const u16, corners_len: usize, out: *mut u8, out_len: usize, written: *mut usize,
+        ) -> u32;
+    }
+}
+
+/// What a lent number holds before a call: no call answers it.
+const MARK: u32 = 0xdead_beef;
+const MARK_SIZE: usize = 0xdead_beef_dead_beef;
+
+fn fracture_by(
+    call: Fractures, corners: &[u16], threshold: u32, weight: u32, table: &mut [u32], list: &mut [u16],
+) -> Told {
+    let (mut shots, mut cost, mut sliver) = (MARK, MARK, MARK);
+    // The slices are valid for their lengths, and exclusive where they are written.
+    let number = unsafe {
+        call(
+            corners.as_ptr(), corners.len(), threshold, weight,
+            table.as_mut_ptr(), table.len(), list.as_mut_ptr(), list.len(),
+            &mut shots, &mut cost, &mut sliver,
+        )
+    };
+    Told { number, numbers: [shots as u64, cost as u64, sliver as u64, 0] }
+}
+
+/// One fracture by the baseline, for the comparison and the benchmark.
+pub fn baseline(corners: &[u16], threshold: u32, weight: u32, table: &mut [u32], list: &mut [u16]) -> Told {
+    fracture_by(baseline_fracture, corners, threshold, weight, table, list)
+}
+
+/// The proved library, if it is linked.
+#[cfg(not(archive))]
+pub fn library() -> Option<&'static (dyn Calls + Sync)> {
+    let _ = (MARK_SIZE, Told::refused(0));
+    None
+}
+
+#[cfg(archive)]
+pub fn library() -> Option<&'static (dyn Calls + Sync)> {
+    Some(&Library)
+}
+
+/// The proved library through its C interface.
+#[cfg(archive)]
+pub struct Library;
+
+#[cfg(archive)]
+impl Calls for Library {
+    fn preset(&self, number: u32) -> Told {
+        let (mut threshold, mut weight) = (MARK, MARK);
+        let number = unsafe { pw::pw_preset(number, &mut threshold, &mut weight) };
+        Told { number, numbers: [threshold as u64, weight as u64, 0, 0] }
+    }
+
+    fn fracture(&self, corners: &[u16], threshold: u32, weight: u32, table: &mut [u32], list: &mut [u16]) -> Told {
+        fracture_by(pw::pw_fracture, corners, threshold, weight, table, list)
+    }
+
+    fn fracture_default(&self, corners: &[u16], table: &mut [u32], list: &mut [u16]) -> Told {
+        let (mut shots, mut cost, mut sliver) = (MARK, MARK, MARK);
+        let number = unsafe {
+            pw::pw_fracture_default(
+                corners.as_ptr(), corners.len(),
+                table.as_mut_ptr(), table.len(), list.as_mut_ptr(), list.len(),
+                &mut shots, &mut cost, &mut sliver,
+            )
+        };
+        Told { number, numbers: [shots as u64, cost as u64, sliver as u64, 0] }
+    }
+
+    fn number(&self, bytes: &[u8], at: usize) -> Told {
+        let (mut value, mut next, mut offset) = (MARK, MARK_SIZE, MARK_SIZE);
+        let number = unsafe { pw::pw_number(bytes.as_ptr(), bytes.len(), at, &mut value, &mut next, &mut offset) };
+        Told { number, numbers: [value as u64, next as u64, offset as u64, 0] }
+    }
+
+    fn job_check(&self, job: &[u8]) -> Told {
+        let (mut threshold, mut weight, mut outlines, mut offset) = (MARK, MARK, MARK, MARK_SIZE);
+        let number =
+            unsafe { pw::pw_job_check(job.as_ptr(), job.len(), &mut threshold, &mut weight, &mut outlines, &mut offset) };
+        Told { number, numbers: [threshold as u64, weight as u64, outlines as u64, offset as u64] }
+    }
+
+    fn job_outline(&self, job: &[u8], k: usize) -> Told {
+        let (mut start, mut length, mut offset) = (MARK_SIZE, MARK_SIZE, MARK_SIZE);
+        let number = unsafe { pw::pw_job_outline(job.as_ptr(), job.len(), k, &mut start, &mut length, &mut offset) };
+        Told { number, numbers: [start as u64, length as u64, offset as u64, 0] }
+    }
+
+    fn unpack(&self, part: &[u8], list: &mut [u16]) -> Told {
+        let (mut corners, mut offset) = (MARK, MARK_SIZE);
+        let number = unsafe {
+            pw::pw_unpack(part.as_ptr(), part.len(), list.as_mut_ptr(), list.len(), &mut corners, &mut offset)
+        };
+        Told { number, numbers: [corners as u64, offset as u64, 0, 0] }
+    }
+
+    fn write_header(&self, threshold: u32, weight: u32, outlines: u32, out: &mut [u8]) -> Told {
+        let mut written = MARK_SIZE;
+        let number =
+            unsafe { pw::pw_write_header(threshold, weight, outlines, out.as_mut_ptr(), out.len(), &mut written) };
+        Told { number, numbers: [written as u64, 0, 0, 0] }
+    }
+
+    fn write_outline(&self, corners: &[u16], out: &mut [u8]) -> Told {
+        let mut written = MARK_SIZE;
+        let number = unsafe {
+            pw::pw_write_outline(corners.as_ptr(), corners.len(), out.as_mut_ptr(), out.len(), &mut written)
+        };
+        Told { number, numbers: [written as u64, 0, 0, 0] }
+    }
+}
