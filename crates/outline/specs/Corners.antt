@@ -8,6 +8,10 @@
 --   edges cs         == the edges of the outline with the corners cs, the closing one among them
 --   turns cs         == each edge of the outline with the next, the last with the first too
 --   changes a e      == the edge e changes the coordinate along the axis a
+--   both e           == the edge e changes both coordinates
+--   neither e        == the edge e changes neither
+--   same a t         == both edges of the turn t change the coordinate along the axis a
+--   alike t          == the two edges of the turn t change the same one
 --   odd n            == n is odd
 --   any t l          == some member of l passes the test t
 --   badLength l      == 2: the list's length is odd, under 8 or over 64
@@ -73,12 +77,22 @@ odd n = eqb (n % 2) 1
 unfoldable pub badLength : List ℕ → Bool
 badLength l = odd (length l) || (ltb (length l) 8 || ltb 64 (length l))
 
+unfoldable pub both : Link Corner → Bool
+both e = changes X e && changes Y e
+
+unfoldable pub neither : Link Corner → Bool
+neither e = not (changes X e) && not (changes Y e)
+
+unfoldable pub same : Axis → Link (Link Corner) → Bool
+same a t = changes a (t .from) && changes a (t .to)
+
+unfoldable pub alike : Link (Link Corner) → Bool
+alike t = same X t || same Y t
+
 -- 3
 unfoldable pub slanted : List Corner → Bool
-slanted cs = any (λ e. changes X e && changes Y e) (edges cs)
+slanted cs = any both (edges cs)
 
 -- 4
 unfoldable pub straight : List Corner → Bool
-straight cs =
-    any (λ e. not (changes X e) && not (changes Y e)) (edges cs)
-    || any (λ t. (changes X (t .from) && changes X (t .to)) || (changes Y (t .from) && changes Y (t .to))) (turns cs)
+straight cs = any neither (edges cs) || any alike (turns cs)

@@ -3,3 +3,4 @@ pub mod Corners
 pub mod Lines
 pub mod Inside
 pub mod Promise
+pub mod Steps

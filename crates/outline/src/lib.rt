@@ -3,6 +3,8 @@ ghost use mathlib.Core.Path.{_≡_};
 ghost use Prim.Native.Nat.{_<_};
 ghost use lib.ListN.{length, getD};
 
+mod edges;
+
 // The number of a line, from 0 for the lowest; x lines and y lines are numbered apart.
 pub struct Line(pub usize);
 

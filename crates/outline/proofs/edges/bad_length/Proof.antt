@@ -1,0 +1,16 @@
+use borrow.Author.Needs.{needs}
+use Rattle.outline.proofs.Corners
+use Rattle.outline.proofs.edges.bad_length.Statement.{statement}
+use Rattle.outline.proofs.edges.bad_length.Tie as tie
+
+returns : tie.Need-returns
+returns c = Corners.length-odd _ (c .if1 .taken)
+
+returns-2 : tie.Need-returns-2
+returns-2 c = Corners.length-few _ (c .before .if1 .left) (c .if2 .taken)
+
+returns-3 : tie.Need-returns-3
+returns-3 c = Corners.length-many _ (c .before .if1 .left) (c .if2 .left)
+
+pub bad-length-spec : {M : Type 1} → statement M
+bad-length-spec = tie.close (tie.spec returns returns-2 returns-3)

@@ -1,0 +1,74 @@
+-- What the inner functions promise, on the way from the corners to the cells. Nobody has to believe these: the promise of a
+-- drawing does not cite them.
+--
+--   corner l k, edge l k, turn l k   == the corner k of the list l, the edge that ends at it, and that edge with the one before
+--   before k n                       == the number before k of n, once round
+--   Right l                          == the outline passes 2, 3 and 4
+--   Room ls n v, Inserted ..         == the first n of ls rise, and there is room to insert v; ls with v inserted, and their number
+--   flip t n                         == n, 0 or 1, turned over where the test t holds
+--   span ys lo hi j                  == the row j of cells between the y lines ys lies between lo and hi
+--   stands xs ys n w                 == the wall w stands on the low x of the cell n, and its span covers the cell
+--   marks cs k n                     == 1 where an odd number of the first k edges are walls that stand at the cell n, else 0
+--   swept l i j                      == 1 where an odd number of the marks of row j up to column i are 1, else 0
+use Prim.Native.Nat.{ℕ, zero, suc, _+_, _*_, _-_, _/_, _%_, _≤_}
+use mathlib.Core.Path.{_≡_}
+use mathlib.Core.Bool.{Bool, true, false, _&&_}
+use mathlib.Core.List.{List, _++_}
+use lib.Dec.{leb, ltb, eqb}
+use lib.ListN.{length, getD, take, drop}
+use Rattle.sum.specs.Sum.{only}
+use Rattle.outline.specs.declared.Axis.the-variants.{X, Y}
+use Rattle.outline.specs.Corners.{Corner, Link, corners, edges, turns, odd, badLength, slanted, straight}
+use Rattle.outline.specs.Lines.{Up, insert, lines, place}
+use Rattle.outline.specs.Inside.{Wall, walls, count}
+
+unfoldable pub origin : Corner
+origin = record { x = 0; y = 0 }
+
+unfoldable pub still : {A : Type 0} → A → Link A
+still a = record { from = a; to = a }
+
+unfoldable pub corner : List ℕ → ℕ → Corner
+corner l k = getD (corners l) k origin
+
+unfoldable pub edge : List ℕ → ℕ → Link Corner
+edge l k = getD (edges (corners l)) k (still origin)
+
+unfoldable pub turn : List ℕ → ℕ → Link (Link Corner)
+turn l k = getD (turns (corners l)) k (still (still origin))
+
+unfoldable pub before : ℕ → ℕ → ℕ
+before zero n = n - 1
+before (suc k) n = k
+
+pub record Right (l : List ℕ) : Type 0 where
+  pub length-good : badLength l ≡ false
+  pub slanted-none : slanted (corners l) ≡ false
+  pub straight-none : straight (corners l) ≡ false
+
+pub record Room (ls : List ℕ) (n v : ℕ) : Type 0 where
+  pub within : n ≤ length ls
+  pub up : Up (take n ls)
+  pub fits : length (insert v (take n ls)) ≤ length ls
+
+pub record Inserted (ls : List ℕ) (n v r : ℕ) (after : List ℕ) : Type 0 where
+  pub number : r ≡ length (insert v (take n ls))
+  pub list : after ≡ insert v (take n ls) ++ drop r ls
+
+abbrev pub flip : Bool → ℕ → ℕ
+flip true n = 1 - n
+flip false n = n
+
+unfoldable pub span : List ℕ → ℕ → ℕ → ℕ → Bool
+span ys lo hi j = ltb (suc j) (length ys) && (leb lo (getD ys j 0) && leb (getD ys (suc j) 0) hi)
+
+unfoldable pub stands : List ℕ → List ℕ → ℕ → Wall → Bool
+stands xs ys n w =
+    (ltb (n / 16) (length xs) && eqb (w .x) (getD xs (n / 16) 0)) && span ys (w .lo) (w .hi) (n % 16)
+
+unfoldable pub marks : List Corner → ℕ → ℕ → ℕ
+marks cs k n = only (odd (count (stands (lines X cs) (lines Y cs) n) (walls (take k (edges cs))))) 1
+
+unfoldable pub swept : List ℕ → ℕ → ℕ → ℕ
+swept l zero j = getD l j 0
+swept l (suc i) j = (swept l i j + getD l (16 * suc i + j) 0) % 2
