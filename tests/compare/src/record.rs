@@ -1,2 +1,186 @@
 //! Cases with their outcomes, for the C program `replay`, which links the archive that is shipped.
-pub fn write(_file: &str, _seed: u64, _progress: &crate::progress::Progress) {}
+//!
+//! The record is a run of 32-bit words, low byte first. A call is its number below and its
+//! arguments: lengths, other numbers and the mark of the lent buffers, then bytes (four to a word)
+//! or corners (one to a word); a size that is the largest there is stands as 0xffffffff. Then its
+//! outcome, two words for each: the number, the single numbers, a hash over each lent buffer with
+//! 16 elements before and beyond it. Calls: 1 preset, 2 fracture, 3 fracture by the default rule,
+//! 4 number, 5 job check, 6 job outline, 7 unpack, 8 write header, 9 write outline, 10 the end.
+
+use crate::progress::Progress;
+use drawings::jobs::{damaged, sound, DAMAGES};
+use drawings::outlines;
+use drawings::seeded::Seeded;
+use law::figure::figure;
+use law::{Calls, Law, Told};
+use std::io::Write;
+
+const MARGIN: usize = 16;
+const OUTLINES: u64 = 6_000;
+const JOBS: u64 = 6_000;
+
+struct Record {
+    words: Vec<u32>,
+    calls: usize,
+}
+
+fn pattern(mark: u32, at: usize, bits: u32) -> u32 {
+    mark.wrapping_add((at as u32).wrapping_mul(2_654_435_761)) >> (32 - bits)
+}
+
+/// A lent buffer filled with its pattern, the margins too.
+fn lend<T: Copy>(length: usize, mark: u32, bits: u32, from: fn(u32) -> T) -> Vec<T> {
+    (0..length + 2 * MARGIN).map(|at| from(pattern(mark, at, bits))).collect()
+}
+
+fn hash(elements: impl Iterator<Item = u32>) -> u64 {
+    elements.fold(2_166_136_261u32, |h, element| (h ^ element).wrapping_mul(16_777_619)) as u64
+}
+
+impl Record {
+    fn size(&mut self, n: usize) {
+        self.words.push(if n == usize::MAX { u32::MAX } else { n as u32 });
+    }
+
+    fn bytes(&mut self, bytes: &[u8]) {
+        for four in bytes.chunks(4) {
+            self.words.push(four.iter().rev().fold(0, |word, &byte| word << 8 | byte as u32));
+        }
+    }
+
+    fn corners(&mut self, corners: &[u16]) {
+        self.words.extend(corners.iter().map(|&place| place as u32));
+    }
+
+    fn outcome(&mut self, told: Told, numbers: usize, hashes: &[u64]) {
+        let all = [told.number as u64].into_iter().chain(told.numbers[..numbers].iter().copied());
+        for value in all.chain(hashes.iter().copied()) {
+            self.words.extend([value as u32, (value >> 32) as u32]);
+        }
+        self.calls += 1;
+    }
+
+    fn fracture(&mut self, corners: &[u16], rule: Option<(u32, u32)>, entries: usize, numbers: usize, mark: u32) {
+        let mut table = lend(entries, mark, 32, |x| x);
+        let mut list = lend(numbers, mark, 16, |x| x as u16);
+        let (inner_table, inner_list) = (&mut table[MARGIN..MARGIN + entries], &mut list[MARGIN..MARGIN + numbers]);
+        let told = match rule {
+            Some((threshold, weight)) => {
+                self.words.extend([2, threshold, weight]);
+                Law.fracture(corners, threshold, weight, inner_table, inner_list)
+            }
+            None => {
+                self.words.push(3);
+                Law.fracture_default(corners, inner_table, inner_list)
+            }
+        };
+        self.size(corners.len());
+        self.size(entries);
+        self.size(numbers);
+        self.words.push(mark);
+        self.corners(corners);
+        self.outcome(told, 3, &[hash(table.into_iter()), hash(list.into_iter().map(u32::from))]);
+    }
+
+    fn job(&mut self, job: &[u8], s: &mut Seeded) {
+        self.words.push(5);
+        self.size(job.len());
+        self.bytes(job);
+        let told = Law.job_check(job);
+        self.outcome(told, 4, &[]);
+        let count = told.numbers[2] as usize;
+        for k in [s.within(0, count + 1), s.pick(&[0, 254, 255, usize::MAX])] {
+            self.words.push(6);
+            self.size(job.len());
+            self.size(k);
+            self.bytes(job);
+            let told = Law.job_outline(job, k);
+            self.outcome(told, 3, &[]);
+            if told.number == 0 {
+                let part = told.numbers[0] as usize..(told.numbers[0] + told.numbers[1]) as usize;
+                let room = s.pick(&[64, 64, 9, 70]);
+                self.unpack(&job[part], room, k as u32);
+            }
+        }
+        let any = s.within(0, job.len() + 2);
+        let at = s.pick(&[0, job.len(), any, usize::MAX]);
+        self.words.push(4);
+        self.size(job.len());
+        self.size(at);
+        self.bytes(job);
+        self.outcome(Law.number(job, at), 3, &[]);
+    }
+
+    fn unpack(&mut self, part: &[u8], numbers: usize, mark: u32) {
+        self.words.push(7);
+        self.size(part.len());
+        self.size(numbers);
+        self.words.push(mark);
+        self.bytes(part);
+        let mut list = lend(numbers, mark, 16, |x| x as u16);
+        let told = Law.unpack(part, &mut list[MARGIN..MARGIN + numbers]);
+        self.outcome(told, 2, &[hash(list.into_iter().map(u32::from))]);
+    }
+
+    fn writers(&mut self, s: &mut Seeded) {
+        let pick = |s: &mut Seeded| s.pick(&[0, 127, 128, 255, 256, 1000, 1001, u32::MAX]);
+        let (threshold, weight, outlines) = (pick(s), pick(s), pick(s));
+        let (room, mark) = (s.within(0, 8), s.any() as u32);
+        self.words.extend([8, threshold, weight, outlines]);
+        self.size(room);
+        self.words.push(mark);
+        let mut out = lend(room, mark, 8, |x| x as u8);
+        let told = Law.write_header(threshold, weight, outlines, &mut out[MARGIN..MARGIN + room]);
+        self.outcome(told, 1, &[hash(out.into_iter().map(u32::from))]);
+
+        let length = s.within(0, 70);
+        let top = s.pick(&[2, 128, 129, 16_385, 65_536]);
+        let corners: Vec<u16> = (0..length).map(|_| s.below(top) as u16).collect();
+        let any = s.within(0, 200);
+        let room = s.pick(&[200, any]);
+        self.words.push(9);
+        self.size(length);
+        self.size(room);
+        self.words.push(mark);
+        self.corners(&corners);
+        let mut out = lend(room, mark, 8, |x| x as u8);
+        let told = Law.write_outline(&corners, &mut out[MARGIN..MARGIN + room]);
+        self.outcome(told, 1, &[hash(out.into_iter().map(u32::from))]);
+    }
+}
+
+pub fn write(file: &str, seed: u64, progress: &Progress) {
+    let mut record = Record { words: Vec::new(), calls: 0 };
+    for number in 0..6 {
+        record.words.extend([1, number]);
+        record.outcome(Law.preset(number), 2, &[]);
+    }
+    for turn in 0..OUTLINES {
+        let mut s = Seeded::new(seed << 32 | 0x4ec0 << 16 | turn);
+        let sort = s.below(outlines::SORTS.len() + 2);
+        let corners =
+            if sort < outlines::SORTS.len() { outlines::of_sort(&mut s, sort) } else { outlines::bad(&mut s) };
+        let pieces = figure(&corners).map_or(50, |f| f.pieces());
+        let entries = s.pick(&[pieces, pieces, pieces + 3, pieces - 1]);
+        let few = s.within(0, 60);
+        let numbers = s.pick(&[900, 900, 901, few]);
+        let rule = if s.once_in(8) { None } else { Some(outlines::rule(&mut s, &corners)) };
+        let mark = s.any() as u32;
+        record.fracture(&corners, rule, entries, numbers, mark);
+        progress.at("recording", turn as usize, OUTLINES as usize);
+    }
+    for turn in 0..JOBS {
+        let mut s = Seeded::new(seed << 32 | 0x10b5 << 16 | turn);
+        let mut job = sound(&mut s);
+        if turn % 4 > 0 {
+            let (at, way) = (s.within(0, job.len()), s.below(DAMAGES));
+            job = damaged(&mut s, &job, at, way);
+        }
+        record.job(&job, &mut s);
+        record.writers(&mut s);
+    }
+    record.words.push(10);
+    let bytes: Vec<u8> = record.words.iter().flat_map(|word| word.to_le_bytes()).collect();
+    std::fs::File::create(file).and_then(|mut f| f.write_all(&bytes)).unwrap_or_else(|e| panic!("{file}: {e}"));
+    progress.done(format!("recorded {} calls in {} bytes", record.calls, bytes.len()));
+}

@@ -1,0 +1,201 @@
+/* Replays recorded calls against the archive that is linked: standard input holds calls of the C
+ * interface with the outcomes that document 01 gives them (compare --record writes it, and says
+ * the layout). Each lent buffer is filled with a pattern, 16 elements before and beyond it too, and
+ * a hash over all of it is compared. The last line counts what was replayed; the status is 0 if all
+ * was the same. */
+#include "../../include/pinarewhemi.h"
+#include "plain.h"
+
+enum { MARGIN = 16, MOST = 80000 };
+
+static uint8_t room8[MOST];
+static uint16_t room16[MOST];
+static uint32_t room32[MOST];
+static uint8_t bytes[MOST];
+static uint16_t corners[MOST];
+
+/* ---- standard input, a word of 32 bits at a time */
+
+static uint32_t words[16384];
+static size_t have, next_word;
+
+static uint32_t word(void) {
+  if (next_word == have) {
+    size_t got = 0;
+    while (got < sizeof words) {
+      long n = read(0, (char *)words + got, sizeof words - got);
+      if (n <= 0) break;
+      got += (size_t)n;
+    }
+    have = got / 4;
+    next_word = 0;
+    if (have == 0) return 0;
+  }
+  return words[next_word++];
+}
+
+static size_t size(void) {
+  uint32_t w = word();
+  return w == 0xffffffffu ? (size_t)-1 : w;
+}
+
+static void read_bytes(size_t n) {
+  for (size_t i = 0; i < n; i += 4) {
+    uint32_t w = word();
+    for (size_t j = 0; j < 4; j++) bytes[i + j] = (uint8_t)(w >> 8 * j);
+  }
+}
+
+static void read_corners(size_t n) {
+  for (size_t i = 0; i < n; i++) corners[i] = (uint16_t)word();
+}
+
+/* ---- lent buffers */
+
+#define ROOM(bits)                                                             \
+  static uint##bits##_t *lend##bits(size_t length, uint32_t mark) {            \
+    for (size_t i = 0; i < length + 2 * MARGIN; i++)                           \
+      room##bits[i] = (uint##bits##_t)((mark + (uint32_t)i * 2654435761u) >> (32 - bits)); \
+    return room##bits + MARGIN;                                                \
+  }                                                                            \
+  static uint32_t hash##bits(size_t length) {                                  \
+    uint32_t h = 2166136261u;                                                  \
+    for (size_t i = 0; i < length + 2 * MARGIN; i++) h = (h ^ room##bits[i]) * 16777619u; \
+    return h;                                                                  \
+  }
+ROOM(8)
+ROOM(16)
+ROOM(32)
+
+/* ---- comparison */
+
+static uint64_t replayed, wrong;
+
+static void expect(const char *what, uint64_t told) {
+  uint32_t low = word(), high = word();
+  uint64_t right = (uint64_t)high << 32 | low;
+  if (told == right) return;
+  if (wrong++ < 10) {
+    say("call ");
+    say_number(replayed);
+    say(": ");
+    say(what);
+    say(" ");
+    say_number(told);
+    say(" and not ");
+    say_number(right);
+    say("\n");
+  }
+}
+
+static void fracture(int named) {
+  uint32_t threshold = named ? word() : 0, weight = named ? word() : 0;
+  size_t corners_len = size(), table_len = size(), list_len = size();
+  uint32_t mark = word();
+  read_corners(corners_len);
+  uint32_t shots = 77, cost = 77, sliver = 77;
+  uint32_t *table = lend32(table_len, mark);
+  uint16_t *list = lend16(list_len, mark);
+  expect("fracture", named ? pw_fracture(corners, corners_len, threshold, weight, table, table_len, list, list_len,
+                                         &shots, &cost, &sliver)
+                           : pw_fracture_default(corners, corners_len, table, table_len, list, list_len,
+                                                 &shots, &cost, &sliver));
+  expect("shots", shots);
+  expect("cost", cost);
+  expect("sliver", sliver);
+  expect("table", hash32(table_len));
+  expect("list", hash16(list_len));
+}
+
+static void preset(void) {
+  uint32_t threshold = 77, weight = 77;
+  expect("preset", pw_preset(word(), &threshold, &weight));
+  expect("threshold", threshold);
+  expect("weight", weight);
+}
+
+static void number(void) {
+  size_t len = size(), at = size(), next = 77, offset = 77;
+  uint32_t value = 77;
+  read_bytes(len);
+  expect("number", pw_number(bytes, len, at, &value, &next, &offset));
+  expect("value", value);
+  expect("next", next);
+  expect("offset", offset);
+}
+
+static void job_check(void) {
+  size_t len = size(), offset = 77;
+  uint32_t threshold = 77, weight = 77, outlines = 777;
+  read_bytes(len);
+  expect("job check", pw_job_check(bytes, len, &threshold, &weight, &outlines, &offset));
+  expect("threshold", threshold);
+  expect("weight", weight);
+  expect("outlines", outlines);
+  expect("offset", offset);
+}
+
+static void job_outline(void) {
+  size_t len = size(), k = size(), start = 77, length = 77, offset = 77;
+  read_bytes(len);
+  expect("job outline", pw_job_outline(bytes, len, k, &start, &length, &offset));
+  expect("start", start);
+  expect("length", length);
+  expect("offset", offset);
+}
+
+static void unpack(void) {
+  size_t len = size(), list_len = size(), offset = 77;
+  uint32_t count = 77, mark = word();
+  read_bytes(len);
+  expect("unpack", pw_unpack(bytes, len, lend16(list_len, mark), list_len, &count, &offset));
+  expect("corners", count);
+  expect("offset", offset);
+  expect("list", hash16(list_len));
+}
+
+static void write_header(void) {
+  uint32_t threshold = word(), weight = word(), outlines = word();
+  size_t out_len = size(), written = 77;
+  uint32_t mark = word();
+  expect("write header", pw_write_header(threshold, weight, outlines, lend8(out_len, mark), out_len, &written));
+  expect("written", written);
+  expect("out", hash8(out_len));
+}
+
+static void write_outline(void) {
+  size_t corners_len = size(), out_len = size(), written = 77;
+  uint32_t mark = word();
+  read_corners(corners_len);
+  expect("write outline", pw_write_outline(corners, corners_len, lend8(out_len, mark), out_len, &written));
+  expect("written", written);
+  expect("out", hash8(out_len));
+}
+
+int main(void) {
+  int over = 0;
+  while (!over) {
+    switch (word()) {
+    case 1: preset(); break;
+    case 2: fracture(1); break;
+    case 3: fracture(0); break;
+    case 4: number(); break;
+    case 5: job_check(); break;
+    case 6: job_outline(); break;
+    case 7: unpack(); break;
+    case 8: write_header(); break;
+    case 9: write_outline(); break;
+    case 10: over = 1; break;
+    default:
+      say("replay: the record is not whole\n");
+      return 2;
+    }
+    if (!over) replayed++;
+  }
+  say("replayed ");
+  say_number(replayed);
+  say(" calls, ");
+  say_number(wrong);
+  say(" different answers\n");
+  return wrong == 0 ? 0 : 1;
+}
