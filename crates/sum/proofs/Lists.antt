@@ -1,6 +1,6 @@
 -- Laws of lists: sums, joins and properties of members. Assumes nothing.
 --
---   sumOf-append, sumOf-one, sumOf-join  == the sum over two lists, over one member, over joined lists
+--   sumOf-append, sumOf-one, sumOf-join, sumOf-map   == the sum over two lists, over one member, over joined lists, over a map
 --   sumOf-le, sumOf-same, sumOf-zero     == member by member: at most, the same, nothing
 --   sumOf-add, sumOf-mul, sumOf-ones     == a sum of sums, a factor, the length
 --   All-all, All-imp, All-append, All-map, All-unmap, All-join, All-parts   == a property of all members of ..
@@ -114,6 +114,11 @@ module _ {A B : Type 0} where
   unfolding join sumOf
   sumOf-join v f [] = refl
   sumOf-join v f (s ∷ l) = sumOf-append v (f s) (join f l) ∙ ap (λ n. sumOf v (f s) + n) (sumOf-join v f l)
+
+  pub sumOf-map : (v : B → ℕ) (f : A → B) (l : List A) → sumOf v (map f l) ≡ sumOf (λ s. v (f s)) l
+  unfolding sumOf
+  sumOf-map v f [] = refl
+  sumOf-map v f (s ∷ l) = ap (λ n. v (f s) + n) (sumOf-map v f l)
 
   pub All-join : (Q : B → Type 0) (f : A → List B) (l : List A) → All (λ s. All Q (f s)) l → All Q (join f l)
   unfolding join
