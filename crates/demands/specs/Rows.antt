@@ -1,0 +1,89 @@
+-- The ten proved rows of document 01, "Drawings to test on".
+--
+--   By                 == the rule that a row is for: one of threshold and weight, or any in range
+--   Meant b t w        == the row is for the rule of threshold t and weight w
+--   Rival              == a cut of the frame, and what its two parts cost together
+--   Row                == a drawing, its rule, and the outcome: number, cost, sliver length, the list of shots, and cuts of the frame that
+--                         document 01 names
+--   Holds row          == for every rule that the row is for, and any buffers with room for 14,400 entries and 225 shots, that is the
+--                         outcome
+--   rows               == the table
+use Prim.Native.Nat.{ℕ, _*_, _≤_}
+use mathlib.Core.Path.{_≡_}
+use mathlib.Core.Bool.{true}
+use mathlib.Core.List.{List, [], _∷_}
+use lib.ListN.{length, take}
+use Rattle.sum.specs.Sum.{sumOf, All}
+use Rattle.rule.specs.Rules.{inRange}
+use Rattle.piece.specs.Piece.{frame}
+use Rattle.piece.specs.Straight.{Cut, vertical, horizontal, parts, cost as costOf}
+use Rattle.demands.specs.Promise.{rule, drawn, Outcome, outcome}
+
+pub data By : Type 0 where
+  only-by : ℕ → ℕ → By
+  any : By
+
+abbrev pub Meant : By → ℕ → ℕ → Type 0
+Meant (only-by t₀ w₀) t w = (t ≡ t₀) × (w ≡ w₀)
+Meant any t w = Unit {0}
+
+pub record Rival : Type 0 where
+  pub cut : Cut
+  pub cost : ℕ
+
+pub record Row : Type 0 where
+  pub outline : List ℕ
+  pub by : By
+  pub number : ℕ
+  pub cost : ℕ
+  pub sliver : ℕ
+  pub list : List ℕ
+  pub rivals : List Rival
+
+-- what a row says of an outcome
+pub record Says (row : Row) (t w : ℕ) (o : Outcome) : Type 0 where
+  pub number : o .number ≡ row .number
+  pub cost : o .cost ≡ row .cost
+  pub sliver : o .sliver ≡ row .sliver
+  pub count : 4 * o .shots ≡ length (row .list)
+  pub list : take (4 * o .shots) (o .list) ≡ row .list
+  pub rivals : All (λ k. sumOf (costOf (drawn (row .outline)) (rule t w)) (parts (frame (drawn (row .outline))) (k .cut)) ≡ k .cost) (row .rivals)
+
+abbrev pub Holds : Row → Type 0
+Holds row =
+    (t w : ℕ) → Meant (row .by) t w → inRange t w ≡ true
+    → (table list : List ℕ) → 14400 ≤ length table → 900 ≤ length list
+    → Says row t w (outcome (row .outline) t w table list)
+
+-- an accepted outline
+abbrev good : List ℕ → ℕ → ℕ → ℕ → ℕ → List ℕ → List Rival → Row
+good o t w c s l k = record { outline = o; by = only-by t w; number = 0; cost = c; sliver = s; list = l; rivals = k }
+
+abbrev pub L : List ℕ
+L = 0 ∷ 0 ∷ 100 ∷ 0 ∷ 100 ∷ 20 ∷ 60 ∷ 20 ∷ 60 ∷ 80 ∷ 0 ∷ 80 ∷ []
+
+abbrev pub B : List ℕ
+B = 0 ∷ 0 ∷ 200 ∷ 0 ∷ 200 ∷ 50 ∷ 210 ∷ 50 ∷ 210 ∷ 150 ∷ 200 ∷ 150 ∷ 200 ∷ 200 ∷ 0 ∷ 200 ∷ []
+
+-- the line of y = 20 is the second y line of L
+abbrev pub rows : List Row
+rows =
+    good L 25 40 5200 80 (0 ∷ 0 ∷ 60 ∷ 80 ∷ 60 ∷ 0 ∷ 100 ∷ 20 ∷ []) (record { cut = horizontal 1; cost = 7600 } ∷ [])
+    ∷ good L 20 40 2000 0 (0 ∷ 0 ∷ 60 ∷ 80 ∷ 60 ∷ 0 ∷ 100 ∷ 20 ∷ []) (record { cut = vertical 1; cost = 2000 } ∷ record { cut = horizontal 1; cost = 2000 } ∷ [])
+    ∷ good B 25 40 3000 0 (0 ∷ 0 ∷ 200 ∷ 50 ∷ 0 ∷ 50 ∷ 210 ∷ 150 ∷ 0 ∷ 150 ∷ 200 ∷ 200 ∷ []) []
+    ∷ good B 25 10 3000 100 (0 ∷ 0 ∷ 200 ∷ 200 ∷ 200 ∷ 50 ∷ 210 ∷ 150 ∷ []) []
+    ∷ good B 25 9 2900 100 (0 ∷ 0 ∷ 200 ∷ 200 ∷ 200 ∷ 50 ∷ 210 ∷ 150 ∷ []) []
+    ∷ good (0 ∷ 0 ∷ 100 ∷ 0 ∷ 100 ∷ 24 ∷ 0 ∷ 24 ∷ []) 25 40 9000 200 (0 ∷ 0 ∷ 100 ∷ 24 ∷ []) []
+    ∷ good (0 ∷ 0 ∷ 100 ∷ 0 ∷ 100 ∷ 24 ∷ 0 ∷ 24 ∷ []) 24 40 1000 0 (0 ∷ 0 ∷ 100 ∷ 24 ∷ []) []
+    ∷ good (0 ∷ 0 ∷ 10 ∷ 0 ∷ 10 ∷ 10 ∷ 0 ∷ 10 ∷ []) 25 40 2600 40 (0 ∷ 0 ∷ 10 ∷ 10 ∷ []) []
+    ∷ good (0 ∷ 0 ∷ 10 ∷ 0 ∷ 10 ∷ 20 ∷ 20 ∷ 20 ∷ 20 ∷ 10 ∷ 0 ∷ 10 ∷ []) 0 40 2000 0 (0 ∷ 0 ∷ 10 ∷ 10 ∷ 10 ∷ 10 ∷ 20 ∷ 20 ∷ []) []
+    ∷ record {
+      outline = 0 ∷ 0 ∷ 1 ∷ 0 ∷ 1 ∷ 1 ∷ 0 ∷ 1 ∷ 0 ∷ 0 ∷ 1 ∷ 0 ∷ 1 ∷ 1 ∷ 0 ∷ 1 ∷ [];
+      by = any;
+      number = 5;
+      cost = 0;
+      sliver = 0;
+      list = [];
+      rivals = [];
+    }
+    ∷ []
