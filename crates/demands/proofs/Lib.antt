@@ -1,3 +1,4 @@
 pub mod Promise
 pub mod Square
 pub mod Rows
+pub mod Refusals
