@@ -1,1 +1,4 @@
 pub mod Corners
+pub mod Lines
+pub mod Inserting
+pub mod Gathering

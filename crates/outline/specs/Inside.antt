@@ -10,7 +10,7 @@
 --   insideCells g      == the number of cells of g that are inside
 --   empty g            == 5: no cell is inside
 use Prim.Native.Nat.{ℕ, suc, _-_, min, max}
-use mathlib.Core.Bool.{Bool, true, false, _&&_}
+use mathlib.Core.Bool.{Bool, cond, _&&_}
 use mathlib.Core.List.{List, [], _∷_}
 use lib.Dec.{leb, ltb, eqb}
 use lib.ListN.{length}
@@ -27,10 +27,8 @@ pub record Wall : Type 0 where
 
 unfoldable pub wall : Link Corner → List Wall
 wall e =
-    elim (changes X e) [
-      | true ↦ []
-      | false ↦ record { x = e .to .x; lo = min (e .from .y) (e .to .y); hi = max (e .from .y) (e .to .y) } ∷ []
-    ]
+    cond (changes X e) []
+    (record { x = e .to .x; lo = min (e .from .y) (e .to .y); hi = max (e .from .y) (e .to .y) } ∷ [])
 
 unfoldable pub walls : List (Link Corner) → List Wall
 walls es = join wall es

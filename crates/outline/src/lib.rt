@@ -4,6 +4,7 @@ ghost use Prim.Native.Nat.{_<_};
 ghost use lib.ListN.{length, getD};
 
 mod edges;
+mod rising;
 
 // The number of a line, from 0 for the lowest; x lines and y lines are numbered apart.
 pub struct Line(pub usize);
