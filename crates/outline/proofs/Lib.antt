@@ -2,3 +2,4 @@ pub mod Corners
 pub mod Lines
 pub mod Inserting
 pub mod Gathering
+pub mod Turns
