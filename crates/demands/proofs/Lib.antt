@@ -1,4 +1,5 @@
 pub mod Promise
 pub mod Square
+pub mod Ways
 pub mod Rows
 pub mod Refusals
