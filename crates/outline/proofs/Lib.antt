@@ -3,3 +3,4 @@ pub mod Lines
 pub mod Inserting
 pub mod Gathering
 pub mod Turns
+pub mod Inside
