@@ -1,2 +1,3 @@
 // The cost table: the entry of each piece, and the fill.
 pub mod numbering;
+pub mod runs;
