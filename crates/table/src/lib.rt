@@ -1,3 +1,4 @@
 // The cost table: the entry of each piece, and the fill.
 pub mod numbering;
 pub mod runs;
+pub mod settling;
