@@ -1,3 +1,4 @@
 pub mod Entry
 pub mod Run
 pub mod Strip
+pub mod Vertical

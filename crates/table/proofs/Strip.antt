@@ -332,3 +332,27 @@ module _ (sums ys : List ℕ) (r : Rule) (rows wide b count cells flanks at next
           ∙ a .other (next + i) (inr (omega (arith, w .ahead, Entry.below-up rows (suc b) d (w .above))))
           ∙ ap (λ n. getD row₀ n 0) (omega (arith, w .ahead, pair-first rows d (d + 1 + i) (omega arith)))
           ∙ k .recurs .right d (d + 1 + i) (omega (arith, w .above)) (omega arith) (omega arith)
+
+-- the lines from the top down
+module _ (s : ℕ → ℕ → ℕ) (sums ys : List ℕ) (r : Rule) (rows wide : ℕ) (row : List ℕ) (b : ℕ) (h : 0 < b) where
+  pub recurs-back : Recurs s sums ys r rows wide row b → Recurs s sums ys r rows wide row (b - 1 + 1)
+  recurs-back k = subst (Recurs s sums ys r rows wide row) (omega arith) k
+
+pub first-all : (rows pairs : ℕ) → pairs ≡ pairCount rows → pairs ≡ pairsBelow rows rows
+unfolding pairCount
+first-all rows pairs e = e
+
+pub first-back : (rows b first : ℕ) → 0 < b → first ≡ pairsBelow rows b → first - (rows - (b - 1)) ≡ pairsBelow rows (b - 1)
+first-back rows b first h e =
+    let z : b - 1 + 1 ≡ b = omega arith in
+    omega (arith, Entry.below-next rows (b - 1), ap (pairsBelow rows) z)
+
+pub first-enough : (rows b first : ℕ) → 0 < b → first ≡ pairsBelow rows b → rows - (b - 1) ≤ first
+first-enough rows b first h e =
+    let z : b - 1 + 1 ≡ b = omega arith in
+    omega (arith, Entry.below-next rows (b - 1), ap (pairsBelow rows) z)
+
+pub recurs-end : (s : ℕ → ℕ → ℕ) (sums ys : List ℕ) (r : Rule) (rows wide : ℕ) (row : List ℕ) (b : ℕ) → b ≤ 0
+    → Recurs s sums ys r rows wide row b
+    → Recurs s sums ys r rows wide row 0
+recurs-end s sums ys r rows wide row b h k = subst (Recurs s sums ys r rows wide row) (omega arith) k

@@ -2,3 +2,4 @@
 pub mod numbering;
 pub mod runs;
 pub mod settling;
+pub mod weighing;

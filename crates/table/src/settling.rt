@@ -115,3 +115,28 @@ fn settle_from(
         d += 1;
     }
 }
+
+// Settles a row: of each piece it has the least of the vertical cuts, and afterwards the cost. The highest lines come first, so that
+// the high part of each cut is settled before it is weighed.
+pub fn settle_row(
+    row: &mut [u32],
+    ys: &[u16],
+    sums: &[u32],
+    rule: Rule,
+    rows: usize,
+    wide: u32,
+    pairs: usize,
+)
+    requires { ⌜ Measured (now sums) (now ys) rule rows wide ⌝ }
+    requires { ⌜ (pairs ≡ pairCount rows) × (length (now row) ≡ pairCount rows) ⌝ }
+    requires { ⌜ Solvable (now sums) (now ys) rule rows wide (now row) rows ⌝ }
+    ensures { λ _. ⌜ ((s : ℕ → ℕ → ℕ) → Recurs s (now (sums .entry)) (now (ys .entry)) rule rows wide (now (row .entry)) rows → Recurs s (now (sums .entry)) (now (ys .entry)) rule rows wide (now (row .exit)) 0) ⌝ }
+{
+    let mut first = pairs;
+    let mut b = rows;
+    while 0 < b {
+        b -= 1;
+        first -= rows - b;
+        settle_from(row, ys, sums, rule, rows, wide, Line(b), first);
+    }
+}
