@@ -1,0 +1,6 @@
+pub mod Across
+pub mod Emitted
+pub mod Judged
+pub mod Lengths
+pub mod Search
+pub mod Sides

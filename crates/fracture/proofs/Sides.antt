@@ -1,0 +1,54 @@
+-- Laws of the sides of a piece in memory.
+--
+--   exposed-at      : a stretch whose cell within is inside and whose cell across is not counts whole
+--   exposed-within  : one whose cell within is not inside counts nothing
+--   exposed-across  : nor does one whose cell across is inside
+--   exposed-none    : no stretch, no length
+--   exposed-more    : one stretch more
+--   exposed-all     : all stretches make the side
+-- Assumes nothing.
+use Prim.Native.Nat.{ℕ, suc, _+_, _*_, _-_, _≤_, _<_}
+use mathlib.Core.Path.{_≡_, refl, ap, sym, _∙_}
+use mathlib.Core.Bool.{Bool, true, false, _&&_}
+use mathlib.Core.List.{List}
+use native.Mathlib.Omega.{arith}
+use native.Mathlib.Numerals.{add-one}
+use lib.Dec.{eqb}
+use lib.ListN.{length, getD}
+use borrow.Author.Tests.{eq-eqb, ne-eqb}
+use Rattle.sum.specs.Sum.{only, over}
+use Rattle.sum.proofs.Sum.{over-none, over-last}
+use Rattle.fracture.specs.Sides.{exposedAt, exposedIn}
+use Rattle.fracture.specs.declared.slivers.Side.{Side}
+
+module _ (near far low high : ℕ) where
+  pub exposed-at : near ≡ 1 → far ≡ 0 → high - low ≡ exposedAt near far low high
+  unfolding exposedAt
+  exposed-at n f = simp (eq-eqb near 1 n, eq-eqb far 0 f)
+
+  pub exposed-within : (near ≡ 1 → ⊥) → 0 ≡ exposedAt near far low high
+  unfolding exposedAt
+  exposed-within n = simp (ne-eqb near 1 n)
+
+  pub exposed-across : near ≡ 1 → (far ≡ 0 → ⊥) → 0 ≡ exposedAt near far low high
+  unfolding exposedAt
+  exposed-across n f = simp (eq-eqb near 1 n, ne-eqb far 0 f)
+
+module _ (cells places : List ℕ) (near far step from : ℕ) where
+  pub exposed-none : 0 ≡ exposedIn cells places (record { near = near; far = far; step = step; from = record { 0 = from }; to = record { 0 = from } })
+  unfolding exposedIn
+  exposed-none = sym (over-none from from _ (omega arith))
+
+  pub exposed-more : (k : ℕ) {sum v : ℕ} → from ≤ k
+      → sum ≡ exposedIn cells places (record { near = near; far = far; step = step; from = record { 0 = from }; to = record { 0 = k } })
+      → v ≡ exposedAt (getD cells (near + step * k) 0) (getD cells (far + step * k) 0) (getD places k 0) (getD places (k + 1) 0)
+      → sum + v ≡ exposedIn cells places (record { near = near; far = far; step = step; from = record { 0 = from }; to = record { 0 = k + 1 } })
+  unfolding exposedIn
+  exposed-more k h e f = rw (add-one k, over-last, ← e, ← f)
+
+pub exposed-all : (cells places : List ℕ) (s : Side) (k : ℕ) {sum : ℕ} → k ≤ s .to .0 → s .to .0 ≤ k
+    → sum ≡ exposedIn cells places (record { near = s .near; far = s .far; step = s .step; from = s .from; to = record { 0 = k } })
+    → sum ≡ exposedIn cells places s
+exposed-all cells places s k h q e =
+    let i : k ≡ s .to .0 = omega arith in
+    e ∙ ap (λ (n : ℕ). exposedIn cells places (record { near = s .near; far = s .far; step = s .step; from = s .from; to = record { 0 = n } })) i

@@ -1,0 +1,26 @@
+-- `fracture::emission::shoot` meets its contract. Assumes nothing.
+use borrow.Author.Needs.{needs}
+use Rattle.fracture.proofs.Emitted.{written-one}
+use Rattle.fracture.proofs.emission.shoot.Statement.{statement}
+use Rattle.fracture.proofs.emission.shoot.Tie as tie
+use Rattle.fracture.proofs.emission.shoot.Reads as reads
+use Rattle.fracture.proofs.emission.shoot.Lts as lts
+use Rattle.fracture.proofs.emission.write_shot.Reads as write-shot-reads
+use Rattle.fracture.proofs.slivers.sliver_of.Reads as sliver-of-reads
+
+write-shot-requires : tie.Need-write-shot-requires
+write-shot-requires c κs = search needs
+
+sliver-of-requires : tie.Need-sliver-of-requires
+sliver-of-requires c κs = search needs
+
+same-length : tie.Need-same-length
+same-length c = search needs
+
+returns : tie.Need-returns
+returns c g r w e =
+    let s = c .before .before .before .before .before .before .before .before .before .args in
+    written-one g r (s .xs .now) (s .ys .now) (s .cells .now) _ w (s .list .now) _ _ (c .before .before .before .write-shot .ensures) (c .sliver-of .ensures g r w e)
+
+pub shoot-spec : {M : Type 1} → statement M
+shoot-spec = tie.close (tie.spec write-shot-requires sliver-of-requires same-length returns)

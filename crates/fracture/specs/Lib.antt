@@ -1,0 +1,5 @@
+pub mod Verdict
+pub mod Memory
+pub mod Emission
+pub mod Search
+pub mod Sides

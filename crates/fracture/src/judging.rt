@@ -1,0 +1,141 @@
+// The verdict of a piece, from the table of costs and the cells.
+use super::Direction;
+use super::Piece;
+use super::Plan;
+use super::Verdict;
+use outline::Line;
+use table::numbering::pair_count;
+use table::numbering::pair_number;
+ghost use mathlib.Core.Path.{_≡_};
+ghost use Prim.Native.Nat.{ℕ, _+_, _*_, _-_, _<_, _≤_};
+ghost use lib.ListN.{length, getD};
+ghost use Rattle.outline.specs.Grid.{Grid};
+ghost use Rattle.rule.specs.declared.Rule.{Rule};
+ghost use Rattle.fracture.specs.Memory.{Filled, Ready};
+ghost use Rattle.fracture.specs.Verdict.{meant, verdictOf};
+ghost use Rattle.fracture.specs.Search.{First, AllInside, across, Weighable};
+
+// The first row from b on whose cell in the column i is not inside, or d where each of them is.
+fn first_hole(cells: &[u8], i: usize, b: Line, d: Line) -> usize
+    requires { ⌜ (16 * i + d .0 ≤ length (now cells)) × (b .0 ≤ d .0) ⌝ }
+    ensures { λ r. ⌜ First (λ j. getD (now (cells .entry)) (16 * i + j) 0 ≡ 1 → ⊥) (b .0) (d .0) r ⌝ }
+{
+    let end = d.0;
+    let mut j = b.0;
+    while j < end {
+        if cells[16 * i + j] != 1 {
+            return j;
+        }
+        j += 1;
+    }
+    j
+}
+
+// Whether every cell of the piece is inside.
+fn all_inside(cells: &[u8], p: Piece) -> bool
+    requires { ⌜ (p .c .0 ≤ 15) × ((p .b .0 ≤ p .d .0) × ((p .d .0 ≤ 15) × (length (now cells) ≡ 256))) ⌝ }
+    ensures { λ r. ⌜ AllInside (now (cells .entry)) p r ⌝ }
+{
+    let b = p.b;
+    let d = p.d;
+    let top = p.d.0;
+    let end = p.c.0;
+    let mut i = p.a.0;
+    while i < end {
+        if first_hole(cells, i, b, d) < top {
+            return false;
+        }
+        i += 1;
+    }
+    true
+}
+
+// The cuts of a piece in one direction, as the table has them: they lie on the lines between low and high, of the lines 0 to
+// last; whole is the number of the pair (low, high), and the part between a pair of lines has its cost at base + stride x its number.
+struct Cuts {
+    pub last: usize,
+    pub low: Line,
+    pub high: Line,
+    pub whole: usize,
+    pub stride: usize,
+    pub base: usize,
+}
+
+// The first line whose two parts cost so much together, or high where there is none.
+fn first_line(table: &[u32], cuts: Cuts, cost: u32) -> Line
+    requires { ⌜ Weighable (now table) cuts ⌝ }
+    ensures { λ r. ⌜ First (λ j. across (now (table .entry)) cuts j ≡ cost) (cuts .low .0 + 1) (cuts .high .0) (r .0) ⌝ }
+{
+    let last = cuts.last;
+    let low = cuts.low.0;
+    let high = cuts.high.0;
+    let whole = cuts.whole;
+    let stride = cuts.stride;
+    let base = cuts.base;
+    let mut j = low + 1;
+    let mut lower = whole - (high - j);
+    let mut upper = whole + (last - 1 - low);
+    while j < high {
+        let parts = table[base + stride * lower] + table[base + stride * upper];
+        if parts == cost {
+            return Line(j);
+        }
+        lower += 1;
+        upper += last - 1 - j;
+        j += 1;
+    }
+    Line(j)
+}
+
+// The verdict of a piece. What costs nothing is outside; what is inside in all cells is a shot; else the cut is the first, vertical ones first and
+// the lower line first, whose parts cost together what the piece costs.
+pub fn judge(costs: &[u32], cells: &[u8], plan: Plan, p: Piece) -> Verdict
+    requires { ⌜ Ready (now costs) (now cells) plan (meant p) ⌝ }
+    ensures { λ v. ⌜ ((g : Grid) (r : Rule) → Filled g r (now (costs .entry)) (now (cells .entry)) plan → v ≡ verdictOf g r (meant p)) ⌝ }
+{
+    let columns = plan.columns;
+    let rows = plan.rows;
+    let a = p.a;
+    let b = p.b;
+    let c = p.c;
+    let d = p.d;
+    let x_pair = pair_number(columns, a, c);
+    let y_pair = pair_number(rows, b, d);
+    let y_pairs = pair_count(rows);
+    let row = x_pair * y_pairs;
+    let cost = costs[row + y_pair];
+    if cost == 0 {
+        return Verdict::Outside;
+    }
+    if all_inside(cells, p) {
+        return Verdict::Shot;
+    }
+    let i = first_line(
+        costs,
+        Cuts {
+            last: columns,
+            low: a,
+            high: c,
+            whole: x_pair,
+            stride: y_pairs,
+            base: y_pair,
+        },
+        cost,
+    );
+    if i.0 < c.0 {
+        return Verdict::Cut(Direction::Vertical(i));
+    }
+    let j = first_line(
+        costs,
+        Cuts {
+            last: rows,
+            low: b,
+            high: d,
+            whole: y_pair,
+            stride: 1,
+            base: row,
+        },
+        cost,
+    );
+    Verdict::Cut(Direction::Horizontal(j))
+}

@@ -1,0 +1,34 @@
+// From an outline to its shots: the verdict of each piece, emission, and the two calls.
+use outline::Line;
+
+mod emission;
+mod judging;
+mod slivers;
+
+// A piece lies between the x lines a < c and the y lines b < d.
+pub struct Piece {
+    pub a: Line,
+    pub c: Line,
+    pub b: Line,
+    pub d: Line,
+}
+
+// A cut names its direction and its line: a vertical cut lies on an x line, a horizontal one on a y line.
+pub enum Direction {
+    Vertical(Line),
+    Horizontal(Line),
+}
+
+// What becomes of a piece: nothing of it is inside, or all of it is one shot, or it is cut.
+pub enum Verdict {
+    Outside,
+    Shot,
+    Cut(Direction),
+}
+
+// What a walk over the pieces goes by besides the lent slices: the size of the grid, and the rule's threshold in nm.
+pub struct Plan {
+    pub columns: usize,
+    pub rows: usize,
+    pub threshold: u32,
+}
