@@ -5,6 +5,8 @@
 --   outcome-table        == 6: the table has too few entries
 --   outcome-list         == 7: the list is too short
 --   outcome-accepted     == none of these
+--   outcome-number       == the number is that of the first reason that holds
+--   outcome-zero, outcome-seven, outcome-other   == the outcome by its number
 --   outcome-unique       == two outcomes that are what was promised are equal
 --   written-length, written-front, written-at   == a buffer after it was written: its length, its front, one of its numbers
 use Prim.Native.Nat.{ℕ, _+_, _*_, _≤_, _<_}
@@ -15,7 +17,7 @@ use native.Mathlib.Omega.{arith}
 use lib.Dec.{ltb, eqb}
 use lib.ListN.{length, drop, take, getD, length-append, length-drop, List·getD-append}
 use lib.Seq.{take-at}
-use borrow.Author.Tests.{lt-ltb, le-ltb, ne-eqb}
+use borrow.Author.Tests.{lt-ltb, le-ltb, ne-eqb, eqb-true}
 use Rattle.rule.specs.Rules.{inRange}
 use Rattle.outline.specs.Corners.{corners, badLength, slanted, straight}
 use Rattle.outline.specs.Inside.{grid, empty}
@@ -41,6 +43,30 @@ module _ (l : List ℕ) (t w : ℕ) (table list : List ℕ) where
       → outcome l t w table list ≡ cond (eqb n 0) (accepted l t w table list) (cond (eqb n 7) (short l t w table list) (refused l t w table list n))
   unfolding outcome
   by-number n e = ap (λ n. cond (eqb n 0) (accepted l t w table list) (cond (eqb n 7) (short l t w table list) (refused l t w table list n))) e
+
+  -- the outcome's number, and the outcome by its number
+  pub outcome-number : outcome l t w table list .number ≡ numberOf l t w table list
+  unfolding outcome accepted short refused
+  outcome-number = go (eqb (numberOf l t w table list) 0) refl (eqb (numberOf l t w table list) 7) refl
+    where
+      go : (a : Bool) → eqb (numberOf l t w table list) 0 ≡ a → (b : Bool) → eqb (numberOf l t w table list) 7 ≡ b
+          → cond a (accepted l t w table list) (cond b (short l t w table list) (refused l t w table list (numberOf l t w table list))) .number
+          ≡ numberOf l t w table list
+      go true e b f = sym (eqb-true _ _ e)
+      go false e true f = sym (eqb-true _ _ f)
+      go false e false f = refl
+
+  pub outcome-zero : outcome l t w table list .number ≡ 0 → outcome l t w table list ≡ accepted l t w table list
+  outcome-zero e = by-number 0 (sym outcome-number ∙ e)
+
+  pub outcome-seven : outcome l t w table list .number ≡ 7 → outcome l t w table list ≡ short l t w table list
+  outcome-seven e = by-number 7 (sym outcome-number ∙ e)
+
+  pub outcome-other : (n : ℕ) → 0 < n → n < 7 → outcome l t w table list .number ≡ n → outcome l t w table list ≡ refused l t w table list n
+  outcome-other n h k e =
+      by-number n (sym outcome-number ∙ e)
+      ∙ ap (λ b. cond b (accepted l t w table list) (cond (eqb n 7) (short l t w table list) (refused l t w table list n))) (ne-eqb n 0 (λ z. omega arith))
+      ∙ ap (λ b. cond b (short l t w table list) (refused l t w table list n)) (ne-eqb n 7 (λ z. omega arith))
 
   -- 6, 7 or success
   room : ℕ
@@ -86,9 +112,11 @@ module _ (l : List ℕ) (t w : ℕ) (table list : List ℕ) where
 
   pub outcome-outline : inRange t w ≡ true → (n : ℕ) → refusal l ≡ n → 0 < n → outcome l t w table list ≡ refused l t w table list n
   outcome-outline e n h k =
-      by-number n (number-outline e ∙ ap (λ m. cond (eqb m 0) room m) h ∙ ap (λ b. cond b room n) (ne-eqb n 0 (λ z. omega arith)))
-      ∙ ap (λ b. cond b (accepted l t w table list) (cond (eqb n 7) (short l t w table list) (refused l t w table list n))) (ne-eqb n 0 (λ z. omega arith))
-      ∙ ap (λ b. cond b (short l t w table list) (refused l t w table list n)) (ne-eqb n 7 (λ z. omega (arith, refusal-most)))
+      outcome-other n k (omega (arith, refusal-most))
+      (outcome-number
+      ∙ number-outline e
+      ∙ ap (λ m. cond (eqb m 0) room m) h
+      ∙ ap (λ b. cond b room n) (ne-eqb n 0 (λ z. omega arith)))
 
   module _ (e : inRange t w ≡ true) (h : refusal l ≡ 0) where
     number-room : numberOf l t w table list ≡ room

@@ -3,6 +3,7 @@
 --   test-true, test-false    == where a reason's test passes its condition holds; where not, it does not
 --   number-first, first-number   == the number n is given exactly when n is the first condition that holds
 --   number-none, none-number     == 0 is given exactly when none holds
+--   number-known             == no other number is given
 use Prim.Native.Nat.{ℕ, _*_, _-_, _%_, _≤_, _<_}
 use mathlib.Core.Path.{_≡_, refl, sym, _∙_, ap, subst}
 use mathlib.Core.Logic.{_⊎_, inl, inr}
@@ -180,7 +181,7 @@ each Q h nothingInside = h .1 .1 .1 .1 .0
 each Q h tableShort = h .1 .1 .1 .1 .1 .0
 each Q h listShort = h .1 .1 .1 .1 .1 .1 .0
 
-number-some : (c : Reason) → 0 < number c
+pub number-some : (c : Reason) → 0 < number c
 unfolding order number
 number-some = each (λ c. 0 < number c) (omega arith)
 
@@ -255,6 +256,14 @@ module _ (l : List ℕ) (t w : ℕ) (table list : List ℕ) where
       go : Told (test l t w table list) order (numberOf l t w table list) → Condition l t w table list c → ⊥
       go (inl h) = fails c (each _ (h .1) c)
       go (inr h) = absurd (omega (arith, h .1, number-some (h .0)))
+
+  pub number-known : (numberOf l t w table list ≡ 0) ⊎ ((c : Reason) × (numberOf l t w table list ≡ number c))
+  number-known = go said
+    where
+      go : Told (test l t w table list) order (numberOf l t w table list)
+          → (numberOf l t w table list ≡ 0) ⊎ ((c : Reason) × (numberOf l t w table list ≡ number c))
+      go (inl h) = inl (h .0)
+      go (inr h) = inr (h .0, h .1)
 
   pub none-number : ((c : Reason) → Condition l t w table list c → ⊥) → numberOf l t w table list ≡ 0
   none-number f = go said

@@ -3,7 +3,8 @@
 --   Lined g onX onY      == the places that may be cut at are those of the grid's lines
 --   locate               == a place between two lines lies between two neighbours of them
 --   square-cell          == a unit square that a piece holds lies in one of its cells
---   kind-squares         == a piece all of whose unit squares are inside is full; none of them: outside
+--   cell-square          == what all unit squares of a piece are, its cells are
+--   nothing-squares, squares-nothing   == no cell is inside exactly when no unit square is
 --   never-cheaper        == a way to cut a piece's rectangle totals no less than the piece's cost
 --   way-attained         == one way has the piece's shots
 use Prim.Native.Nat.{ℕ, zero, suc, _+_, _≤_, _<_}
@@ -106,6 +107,29 @@ module _ (g : Grid) (F : ℕ → ℕ → Bool) (sound : Sound g) (shows : Shows 
       (omega (arith, rise (g .x) (sound .x-up) (suc i) (p .c) (w .c)))
       (rise (g .y) (sound .y-up) (p .b) j (w .b))
       (omega (arith, rise (g .y) (sound .y-up) (suc j) (p .d) (w .d))))
+
+  -- no cell is inside exactly when no unit square is
+  pub nothing-squares : ((i j : ℕ) → i < g .columns → j < g .rows → g .inside i j ≡ false) → (x y : ℕ) → F x y ≡ false
+  nothing-squares h x y = elim (le-or (g .x 0) x) [
+    | inr q ↦ shows .left-none x y q
+    | inl a ↦ elim (le-or (g .x (g .columns)) x) [
+      | inl q ↦ shows .right-none x y q
+      | inr b ↦ elim (le-or (g .y 0) y) [
+        | inr q ↦ shows .below-none x y q
+        | inl c ↦ elim (le-or (g .y (g .rows)) y) [
+          | inl q ↦ shows .above-none x y q
+          | inr d ↦
+              (let m = locate (g .x) 0 (g .columns) x (omega arith) a b in
+              let n = locate (g .y) 0 (g .rows) y (omega arith) c d in
+              shows .cell (m .0) (n .0) x y (m .2) (n .2) (m .3) (m .4) (n .3) (n .4) ∙ h (m .0) (n .0) (m .2) (n .2))
+        ]
+      ]
+    ]
+  ]
+
+  pub squares-nothing : ((x y : ℕ) → F x y ≡ false) → (i j : ℕ) → i < g .columns → j < g .rows → g .inside i j ≡ false
+  squares-nothing h i j hi hj =
+      sym (shows .cell i j (g .x i) (g .y j) hi hj (omega arith) (sound .x-rises i hi) (omega arith) (sound .y-rises j hj)) ∙ h (g .x i) (g .y j)
 
   module _ (onX onY : ℕ → Type 0) (lined : Lined g onX onY) (t w : ℕ) where
     pub never-cheaper : {s : Shot} (way : Way F onX onY s) (p : Piece) → Valid (g .columns) (g .rows) p → rectangle g p ≡ s

@@ -1,5 +1,6 @@
 pub mod Promise
+pub mod Refusals
 pub mod Square
 pub mod Ways
+pub mod Demands
 pub mod Rows
-pub mod Refusals

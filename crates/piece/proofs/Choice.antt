@@ -7,10 +7,11 @@
 --   choice-in            == the choice lies so, if the piece is mixed
 --   choice-cost          == and its parts cost what the piece costs
 --   passed-vertical, passed-horizontal == and of no line before it in the tie order do they
---   shots-vertical, shots-horizontal   == the shots of a mixed piece are those of the low part, then those of the high part
+--   choice-least         == it is the least of all cuts by what their parts cost, of equals the first
+--   shots-choice, shots-vertical, shots-horizontal   == the shots of a mixed piece are those of the low part, then those of the high part
 --   numbers-none, numbers-one, numbers-append, numbers-length          == the numbers of a list of shots
 use Prim.Native.Nat.{ℕ, zero, suc, _+_, _*_, _-_, _≤_, _<_}
-use mathlib.Core.Path.{_≡_, refl, sym, _∙_, ap, subst}
+use mathlib.Core.Path.{_≡_, refl, sym, _∙_, ap, ap₂, subst}
 use mathlib.Core.Bool.{Bool, true, false}
 use mathlib.Core.List.{List, [], _∷_, _++_, map, append-nil}
 use mathlib.Core.Logic.{_⊎_, inl, inr}
@@ -21,15 +22,15 @@ use lib.ListN.{length, length-append}
 use Rattle.sum.specs.Sum.{sumOf, All, join}
 use Rattle.sum.proofs.Sum.{le-or}
 use Rattle.sum.proofs.Lists.{sumOf-join, join-append}
-use Rattle.recurrence.specs.Choice.{first}
+use Rattle.recurrence.specs.Choice.{first, least}
 use Rattle.recurrence.specs.Scheme.{mixed}
-use Rattle.recurrence.proofs.Choice.{first-yes, first-no}
+use Rattle.recurrence.proofs.Choice.{first-yes, first-no, least-low, least-one, least-first}
 use Rattle.recurrence.proofs.Scheme as scheme
 use Rattle.outline.specs.Grid.{Grid}
 use Rattle.rule.specs.declared.Rule.{Rule}
 use Rattle.piece.specs.Piece.{Piece, leftPart, rightPart, lowerPart, upperPart, cells, kind}
 use Rattle.piece.specs.Straight.{Cut, vertical, horizontal, run, between, cuts, parts, straight, shots, cost, choice, numbers}
-use Rattle.piece.proofs.Straight.{ends, cuts-all, cost-one, across-vertical, across-horizontal}
+use Rattle.piece.proofs.Straight.{ends, cuts-all, cost-one, cost-cuts, across-vertical, across-horizontal}
 
 -- the first of a run of lines, and a run passed over
 module _ {A : Type 0} (f : A → ℕ) (g : ℕ → A) (v : ℕ) (z : A) (rest : List A) where
@@ -160,6 +161,23 @@ module _ (g : Grid) (r : Rule) (p : Piece) where
     pub choice-cost : cost g r p ≡ sumOf (cost g r) (parts p (choice g r p))
     unfolding cost
     choice-cost = ap (sumOf _) made ∙ sumOf-join _ (shots g r) (parts p (choice g r p))
+
+    pub shots-choice : shots g r p ≡ join (shots g r) (parts p (choice g r p))
+    shots-choice = made
+
+    -- by the least of all cuts, of equals the first
+    pub choice-least : (k : Cut) (ks : List Cut) → cuts p ≡ k ∷ ks → choice g r p ≡ least (λ k. sumOf (cost g r) (parts p k)) k ks
+    unfolding choice
+    choice-least k ks q = ap₂ (λ n l. first v n (vertical 0) l) (omega (arith, low, high, choice-cost)) q ∙ least-first v (vertical 0) k ks
+      where
+        v : Cut → ℕ
+        v k = sumOf (cost g r) (parts p k)
+
+        low : v (least v k ks) ≤ v (choice g r p)
+        low = chosen (λ c. v (least v k ks) ≤ v c) (subst (All (λ c. v (least v k ks) ≤ v c)) (sym q) (least-low v k ks))
+
+        high : cost g r p ≤ v (least v k ks)
+        high = let a = subst (All (λ c. cost g r p ≤ v c)) q (cost-cuts g r p e) in least-one v (λ c. cost g r p ≤ v c) k ks (a .0) (a .1)
 
     pub shots-vertical : (j : ℕ) → choice g r p ≡ vertical j → shots g r p ≡ shots g r (leftPart p j) ++ shots g r (rightPart p j)
     unfolding join parts

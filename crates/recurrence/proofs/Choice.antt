@@ -3,10 +3,10 @@
 --   least-low, least-one     == the least is at most each, and is one of them
 --   first-yes, first-no      == the first of a list whose head has the value, and has it not
 --   least-first              == the least is the first that has the least value
---   least-map                == the least of a map is the map at the least
+--   least-map, least-same    == the least of a map is the map at the least; the same values give the same least
 --   cheapest-low, cheapest-one   == the cheapest list costs at most what each costs, and is one of them
 use Prim.Native.Nat.{ℕ, _≤_}
-use mathlib.Core.Path.{_≡_, refl, sym, _∙_, ap}
+use mathlib.Core.Path.{_≡_, refl, sym, _∙_, ap, ap₂}
 use mathlib.Core.Bool.{Bool, true, false}
 use mathlib.Core.List.{List, [], _∷_, map}
 use mathlib.Core.Logic.{_≢_}
@@ -109,3 +109,15 @@ module _ {A B : Type 0} where
       go : (t : Bool) → _≡_ {A = B} (elim t [ true ↦ h b | false ↦ h a ]) (h (elim t [ true ↦ b | false ↦ a ]))
       go true = refl
       go false = refl
+
+-- member by member the same values: the same least
+pub least-same : {A : Type 0} (f g : A → ℕ) (a : A) (l : List A) → f a ≡ g a → All (λ b. f b ≡ g b) l → least f a l ≡ least g a l
+unfolding least
+least-same f g a [] h k = refl
+least-same f g a (b ∷ l) h k =
+    ap (λ t. least f (elim t [ true ↦ b | false ↦ a ]) l) (ap₂ ltb (k .0) h) ∙ go (ltb (g b) (g a)) (least-same f g b l (k .0) (k .1)) (least-same f g a l h (k .1))
+  where
+    go : (t : Bool) → least f b l ≡ least g b l → least f a l ≡ least g a l
+        → least f (elim t [ true ↦ b | false ↦ a ]) l ≡ least g (elim t [ true ↦ b | false ↦ a ]) l
+    go true i j = i
+    go false i j = j

@@ -3,15 +3,16 @@
 --   sumOf-append, sumOf-one, sumOf-join, sumOf-map   == the sum over two lists, over one member, over joined lists, over a map
 --   sumOf-le, sumOf-same, sumOf-zero     == member by member: at most, the same, nothing
 --   sumOf-add, sumOf-mul, sumOf-ones     == a sum of sums, a factor, the length
+--   sumOf-member, sumOf-at, sumOf-two, sumOf-some   == one member's summand, two members'; a member that has a summand
 --   All-all, All-imp, All-append, All-map, All-unmap, All-join, All-parts   == a property of all members of ..
 --   All-at, All-of                       == .. and of each member
 --   Some-map, Some-left, Some-right      == a member of a map, of two lists
 --   map-same, join-same, join-append     == member by member the same; the join of two lists
-use Prim.Native.Nat.{ℕ, _+_, _*_, _≤_}
+use Prim.Native.Nat.{ℕ, zero, suc, _+_, _*_, _≤_, _<_}
 use mathlib.Core.Path.{_≡_, refl, sym, _∙_, ap, subst}
 use mathlib.Core.List.{List, [], _∷_, _++_, map, append-assoc, List·Memᴰ as Member, List·Memᴰ·head, List·Memᴰ·tail}
 use native.Mathlib.Omega.{arith}
-use lib.ListN.{length}
+use lib.ListN.{length, getD}
 use native.Mathlib.Nat.{mul-add}
 use Rattle.sum.specs.Sum.{sumOf, All, Some, join}
 
@@ -82,6 +83,34 @@ module _ {A : Type 0} where
   pub All-at : (Q : A → Type 0) {s : A} {l : List A} → Member s l → All Q l → Q s
   All-at Q (List·Memᴰ·head e) h = subst Q (sym e) (h .0)
   All-at Q (List·Memᴰ·tail m) h = All-at Q m (h .1)
+
+  -- one member's summand, two members' summands, and a member that has one
+  pub sumOf-member : (f : A → ℕ) {s : A} {l : List A} → Member s l → f s ≤ sumOf f l
+  unfolding sumOf
+  sumOf-member f (List·Memᴰ·head e) = omega (arith, ap f e)
+  sumOf-member f (List·Memᴰ·tail m) = omega (arith, sumOf-member f m)
+
+  pub sumOf-at : (f : A → ℕ) (d : A) (l : List A) (i : ℕ) → i < length l → f (getD l i d) ≤ sumOf f l
+  unfolding sumOf
+  sumOf-at f d [] i h = absurd (omega arith)
+  sumOf-at f d (s ∷ l) zero h = omega arith
+  sumOf-at f d (s ∷ l) (suc i) h = omega (arith, sumOf-at f d l i (omega arith))
+
+  pub sumOf-two : (f : A → ℕ) (d : A) (l : List A) (i j : ℕ) → i < j → j < length l → f (getD l i d) + f (getD l j d) ≤ sumOf f l
+  unfolding sumOf
+  sumOf-two f d [] i j h k = absurd (omega arith)
+  sumOf-two f d (s ∷ l) zero (suc j) h k = omega (arith, sumOf-at f d l j (omega arith))
+  sumOf-two f d (s ∷ l) (suc i) (suc j) h k = omega (arith, sumOf-two f d l i j (omega arith) (omega arith))
+  sumOf-two f d (s ∷ l) i zero h k = absurd (omega arith)
+
+  pub sumOf-some : (f : A → ℕ) (l : List A) → 0 < sumOf f l → (s : A) × Member s l × (0 < f s)
+  unfolding sumOf
+  sumOf-some f [] h = absurd (omega arith)
+  sumOf-some f (s ∷ l) h = go (f s) refl (λ k. sumOf-some f l k)
+    where
+      go : (n : ℕ) → f s ≡ n → (0 < sumOf f l → (u : A) × Member u l × (0 < f u)) → (u : A) × Member u (s ∷ l) × (0 < f u)
+      go zero e i = let m = i (omega arith) in (m .0, List·Memᴰ·tail (m .1), m .2)
+      go (suc n) e i = (s, List·Memᴰ·head refl, omega arith)
 
   -- what holds of each member holds of all
   pub All-of : (Q : A → Type 0) (l : List A) → ((s : A) → Member s l → Q s) → All Q l

@@ -1,0 +1,55 @@
+-- What the demands speak of, beside the outcome.
+--
+--   Words l            == an outline is a list of 16-bit numbers
+--   figure l x y       == the unit square at (x, y) is inside, by the odd count on the raw corners
+--   reported o         == the shots in the list of an outcome: its first 4 x shots numbers, four by four
+--   entry o g p        == what the table of an outcome has for the piece p
+--   Filled o           == the table was filled: on success, and beside 7
+--   partsCost E p k    == what the two parts of the cut k of p have together in a table E
+--   Recurrence g r E p == the paper's equation (2) at the piece p of the grid g, for a table of costs E, with document 01's tie order: 0
+--                         outside; the charge where full; else the least, over its cuts, of its parts' costs, of equals the first; and
+--                         the shots are those of that cut's low part, then those of its high part
+use Prim.Native.Nat.{ℕ, _*_, _≤_}
+use mathlib.Core.Path.{_≡_}
+use mathlib.Core.Logic.{_⊎_}
+use mathlib.Core.Bool.{Bool}
+use mathlib.Core.List.{List, _∷_}
+use lib.ListN.{take, getD}
+use Rattle.sum.specs.Sum.{All, sumOf, join}
+use Rattle.recurrence.specs.Choice.{least}
+use Rattle.recurrence.specs.Scheme.{outside, full, mixed}
+use Rattle.rule.specs.declared.Rule.{Rule}
+use Rattle.outline.specs.Grid.{Grid}
+use Rattle.outline.specs.Corners.{corners}
+use Rattle.outline.specs.Inside.{insideAt}
+use Rattle.piece.specs.Piece.{Piece, kind, charge}
+use Rattle.piece.specs.Straight.{Cut, cuts, parts, shots}
+use Rattle.table.specs.Entry.{entryOf}
+use Rattle.demands.specs.Promise.{Outcome}
+use Rattle.demands.specs.Square.{Shot, shotsIn}
+
+abbrev pub Words : List ℕ → Type 0
+Words l = All (λ v. v ≤ 65535) l
+
+abbrev pub figure : List ℕ → ℕ → ℕ → Bool
+figure l = insideAt (corners l)
+
+unfoldable pub reported : Outcome → List Shot
+reported o = shotsIn (take (4 * o .shots) (o .list))
+
+unfoldable pub entry : Outcome → Grid → Piece → ℕ
+entry o g p = getD (o .table) (entryOf (g .columns) (g .rows) p) 0
+
+abbrev pub Filled : Outcome → Type 0
+Filled o = (o .number ≡ 0) ⊎ (o .number ≡ 7)
+
+unfoldable pub partsCost : (Piece → ℕ) → Piece → Cut → ℕ
+partsCost E p k = sumOf E (parts p k)
+
+pub record Recurrence (g : Grid) (r : Rule) (E : Piece → ℕ) (p : Piece) : Type 0 where
+  pub outside : kind g p ≡ outside → E p ≡ 0
+  pub full : kind g p ≡ full → E p ≡ charge g r p
+  pub mixed : kind g p ≡ mixed
+      → (k : Cut) × (ks : List Cut) × (cuts p ≡ k ∷ ks)
+      × (E p ≡ partsCost E p (least (partsCost E p) k ks))
+      × (shots g r p ≡ join (shots g r) (parts p (least (partsCost E p) k ks)))
