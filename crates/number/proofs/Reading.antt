@@ -1,0 +1,102 @@
+-- Laws of readings: one after another, and many. Assumes nothing.
+--
+--   then-same        == what follows a reading goes by what it found
+--   past-then        == the place past a reading stays where only its value is put to use
+--   many-none, many-more, many-stop == the ways that reading n + 1 in a row can go
+--   told-as          == what an answer tells, where its case is known
+--   past-fault, past-read == a reading, by the place that it got to
+--   many-first, many-length == what many in a row begin with, and how many they are
+--   then-inv         == a reading after another that found something: both did
+use Prim.Native.Nat.{ℕ, zero, suc, _+_, _-_, _<_, _≤_}
+use mathlib.Core.Path.{_≡_, _∙_, refl, sym, ap, ap₂}
+use mathlib.Core.List.{List, [], _∷_}
+use native.Mathlib.Omega.{arith}
+use lib.ListN.{length}
+use Rattle.number.specs.declared.Refusal.{Refusal}
+use Rattle.number.specs.Reading.{Reading, read, fault, andThen, many, past}
+use Rattle.number.proofs.Number.{apart}
+
+module _ {A : Type 0} where
+  -- where a reading got to, and what it then found
+  pub past-fault : (u : Reading A) {r : Refusal} {p : ℕ} → fault r p ≡ past u → u ≡ fault r p
+  past-fault (read a next) e = absurd (apart (sym e))
+  past-fault (fault t q) {r} {p} e = let k : t ≡ r = cc in let m : q ≡ p = cc in ap₂ fault k m
+
+  pub past-read : (u : Reading A) {n : ℕ} → read tt n ≡ past u → (a : A) × (u ≡ read a n)
+  past-read (read a next) {n} e = let z : next ≡ n = cc in (a, ap (read a) z)
+  past-read (fault r p) e = absurd (apart e)
+
+module _ {A B : Type 0} where
+  pub then-same : (f : A → ℕ → Reading B) {u v : Reading A} → u ≡ v → andThen u f ≡ andThen v f
+  then-same f e = ap (λ u. andThen u f) e
+
+  pub past-then : (f : A → B) (r : Reading A) → past (andThen r (λ a next. read (f a) next)) ≡ past r
+  past-then f (read a next) = refl
+  past-then f (fault r p) = refl
+
+  -- a reading that went on to the end
+  pub then-inv : (f : A → ℕ → Reading B) (u : Reading A) {b : B} {last : ℕ} → andThen u f ≡ read b last
+      → (a : A) × (next : ℕ) × (u ≡ read a next) × (f a next ≡ read b last)
+  then-inv f (read a next) e = (a, next, refl, e)
+  then-inv f (fault r p) e = absurd (apart (sym e))
+
+module _ {A : Type 0} (f : ℕ → Reading A) (at : ℕ) where
+  pub many-none : many f 0 at ≡ read [] at
+  unfolding many
+  many-none = refl
+
+  onward : (n : ℕ) → A → ℕ → Reading (List A)
+  onward n a next = andThen (many f n next) (λ l last. read (a ∷ l) last)
+
+  pub many-more : (n : ℕ) {next : ℕ} → read tt next ≡ past (f at) → past (many f (suc n) at) ≡ past (many f n next)
+  unfolding many onward
+  many-more n {next} e = go (f at) refl e
+    where
+      go : (u : Reading A) → f at ≡ u → read tt next ≡ past u → past (many f (suc n) at) ≡ past (many f n next)
+      go (read a m) p q =
+          let z : m ≡ next = cc in ap past (then-same (onward n) p) ∙ past-then (λ l. a ∷ l) (many f n m) ∙ ap (λ m. past (many f n m)) z
+      go (fault r k) p q = absurd (apart q)
+
+  pub many-stop : (n : ℕ) {r : Refusal} {p : ℕ} → fault r p ≡ past (f at) → past (many f (suc n) at) ≡ fault r p
+  unfolding many onward
+  many-stop n {r} {p} e = go (f at) refl e
+    where
+      go : (u : Reading A) → f at ≡ u → fault r p ≡ past u → past (many f (suc n) at) ≡ fault r p
+      go (read a m) q w = absurd (apart (sym w))
+      go (fault t k) q w = ap past (then-same (onward n) q) ∙ sym w
+
+  -- the same by how many of n are left after i
+  module _ (n i : ℕ) (h : i < n) where
+    one-less : n - i ≡ suc (n - (i + 1))
+    one-less = omega arith
+
+    pub many-more-left : {next : ℕ} → read tt next ≡ past (f at) → past (many f (n - i) at) ≡ past (many f (n - (i + 1)) next)
+    many-more-left e = ap (λ m. past (many f m at)) one-less ∙ many-more (n - (i + 1)) e
+
+    pub many-stop-left : {r : Refusal} {p : ℕ} → fault r p ≡ past (f at) → past (many f (n - i) at) ≡ fault r p
+    many-stop-left e = ap (λ m. past (many f m at)) one-less ∙ many-stop (n - (i + 1)) e
+
+  pub many-done-left : (n i : ℕ) → n ≤ i → past (many f (n - i) at) ≡ read tt at
+  many-done-left n i h = ap (λ m. past (many f m at)) (let z : n - i ≡ 0 = omega arith in z) ∙ ap past many-none
+
+module _ {A : Type 0} (f : ℕ → Reading A) where
+  -- what many in a row begin with
+  pub many-first : (n at : ℕ) {l : List A} {last : ℕ} → many f (suc n) at ≡ read l last
+      → (a : A) × (next : ℕ) × (m : List A) × (f at ≡ read a next) × (many f n next ≡ read m last) × (l ≡ a ∷ m)
+  unfolding many
+  many-first n at {l} {last} e =
+      let i = then-inv (λ a next. andThen (many f n next) (λ m k. read (a ∷ m) k)) (f at) e in
+      let j = then-inv (λ m k. read (i .0 ∷ m) k) (many f n (i .1)) (i .3) in
+      let p : i .0 ∷ j .0 ≡ l = cc in
+      let q : j .1 ≡ last = cc in
+      (i .0, i .1, j .0, i .2, j .2 ∙ ap (read (j .0)) q, sym p)
+
+  pub many-length : (n at : ℕ) {l : List A} {last : ℕ} → many f n at ≡ read l last → length l ≡ n
+  unfolding many
+  many-length zero at {l} e = let z : l ≡ [] = cc in ap length z
+  many-length (suc n) at e =
+      let i = many-first n at e in ap length (i .5) ∙ ap suc (many-length n (i .1) (i .4))
+
+-- what an answer tells, where a match has found which case it is
+pub told-as : {A B : Type 0} (tell : A → B) {r x : A} {b : B} → r ≡ x → tell r ≡ b → tell x ≡ b
+told-as tell found told = sym (ap tell found) ∙ told
