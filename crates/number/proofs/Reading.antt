@@ -6,12 +6,15 @@
 --   told-as          == what an answer tells, where its case is known
 --   past-fault, past-read == a reading, by the place that it got to
 --   many-first, many-length == what many in a row begin with, and how many they are
+--   many-nth         == one of many: those before it are read, and then it
+--   many-onward      == many in a row go on within the bytes where each does
 --   then-inv         == a reading after another that found something: both did
 use Prim.Native.Nat.{ℕ, zero, suc, _+_, _-_, _<_, _≤_}
 use mathlib.Core.Path.{_≡_, _∙_, refl, sym, ap, ap₂}
 use mathlib.Core.List.{List, [], _∷_}
 use native.Mathlib.Omega.{arith}
-use lib.ListN.{length}
+use native.Mathlib.Nat.{le-of-suc-le-suc, not-suc-le-zero}
+use lib.ListN.{length, getD}
 use Rattle.number.specs.declared.Refusal.{Refusal}
 use Rattle.number.specs.Reading.{Reading, read, fault, andThen, many, past}
 use Rattle.number.proofs.Number.{apart}
@@ -96,6 +99,34 @@ module _ {A : Type 0} (f : ℕ → Reading A) where
   many-length zero at {l} e = let z : l ≡ [] = cc in ap length z
   many-length (suc n) at e =
       let i = many-first n at e in ap length (i .5) ∙ ap suc (many-length n (i .1) (i .4))
+
+  -- one of many: those before it are read, and then it
+  pub many-nth : (n at k : ℕ) (d : A) {l : List A} {last : ℕ} → many f n at ≡ read l last → k < n
+      → (m : List A) × (start : ℕ) × (end : ℕ) × (many f k at ≡ read m start) × (f start ≡ read (getD l k d) end)
+  unfolding many
+  many-nth zero at k d e h = absurd (not-suc-le-zero h)
+  many-nth (suc n) at zero d e h =
+      let i = many-first n at e in ([], at, i .1, many-none f at, i .3 ∙ ap (λ (l : List A). read (getD l 0 d) (i .1)) (sym (i .5)))
+  many-nth (suc n) at (suc k) d e h =
+      let i = many-first n at e in
+      let j = many-nth n (i .1) k d (i .4) (le-of-suc-le-suc h) in
+      (i .0 ∷ j .0, j .1, j .2, one-more k at (i .3) (j .3), j .4 ∙ ap (λ (l : List A). read (getD l (suc k) d) (j .2)) (sym (i .5)))
+    where
+      one-more : (k at : ℕ) {a : A} {next start : ℕ} {m : List A} → f at ≡ read a next → many f k next ≡ read m start
+          → many f (suc k) at ≡ read (a ∷ m) start
+      one-more k at {a} p q =
+          then-same (λ a next. andThen (many f k next) (λ m k. read (a ∷ m) k)) p ∙ then-same (λ m k. read (a ∷ m) k) q
+
+  -- many in a row lie in a range where each of them goes on within it
+  pub many-onward : (most : ℕ) → ((at : ℕ) (a : A) (next : ℕ) → f at ≡ read a next → (at ≤ next) × (next ≤ most))
+      → (n at : ℕ) {l : List A} {last : ℕ} → at ≤ most → many f n at ≡ read l last → (at ≤ last) × (last ≤ most)
+  unfolding many
+  many-onward most step zero at {l} {last} h e = let z : at ≡ last = cc in omega arith
+  many-onward most step (suc n) at h e =
+      let i = many-first n at e in
+      let s = step at (i .0) (i .1) (i .3) in
+      let r = many-onward most step n (i .1) (s .1) (i .4) in
+      omega arith
 
 -- what an answer tells, where a match has found which case it is
 pub told-as : {A B : Type 0} (tell : A → B) {r x : A} {b : B} → r ≡ x → tell r ≡ b → tell x ≡ b

@@ -1,0 +1,4 @@
+pub mod Bytes
+pub mod Job
+pub mod Calls
+pub mod Steps
