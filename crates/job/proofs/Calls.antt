@@ -128,7 +128,7 @@ module _ (s : List ℕ) (k : ℕ) where
         let w = read-whole s e in
         let j = job-said s (w .2) (w .3) in
         let p : told n 0 [] ≡ partTaken s k (read (w .0) (w .1)) =
-            ap (λ m. told m 0 []) f ∙ simp (le-ltb k (length (w .0 .parts)) (omega arith))
+        ap (λ m. told m 0 []) f ∙ simp (le-ltb k (length (w .0 .parts)) (omega arith))
         in p ∙ sym (ap (partTaken s k) (w .2))
 
     -- outline k of a sound job stands where it is looked for
@@ -142,13 +142,17 @@ module _ (s : List ℕ) (k : ℕ) where
         let a : q .head ≡ h = cc in
         let b : q .first ≡ next = cc in
         let all : outlines s (h .count) next ≡ read (w .0 .parts) (w .1) =
-            ap₂ (λ (x : Header) y. outlines s (x .count) y) (sym a) (sym b) ∙ q .parts-are
+        ap₂ (λ (x : Header) y. outlines s (x .count) y) (sym a) (sym b) ∙ q .parts-are
         in
         let n = many-nth (part s) (h .count) next k noPart all c in
         let r = part-read s (n .1) (n .4) in
-        let u : outlines s k next ≡ read (n .0) (n .1) = n .3 in
-        (w .0, w .1, w .2, omega (arith, many-length (part s) (h .count) next all),
-        sym (located-part s k next (sym (ap past u)) (sym (ap past (r .0)))) ∙ ap₂ read (sym (r .1)) (sym (r .2)))
+        let u : outlines s k next ≡ read (n .0) (n .1) = n .3 in (
+          w .0,
+          w .1,
+          w .2,
+          omega (arith, many-length (part s) (h .count) next all),
+          sym (located-part s k next (sym (ap past u)) (sym (ap past (r .0)))) ∙ ap₂ read (sym (r .1)) (sym (r .2)),
+        )
 
     pub taken-never : {r : Refusal} {p : ℕ} → k < h .count → fault r p ≡ located s k next → ⊥
     taken-never c f = apart (sym (f ∙ located-nth c .4))

@@ -1,2 +1,4 @@
 pub mod Job
 pub mod Calls
+pub mod Writing
+pub mod Unpacking

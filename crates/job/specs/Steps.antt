@@ -4,10 +4,11 @@
 --   headTold     == what a header says
 --   placeTold    == where an outline starts and ends
 --   whole s      == the header of a job that is sound as a whole
+--   IsRead, valuesOf == that something is read, and the numbers that are
 --   located s k at == where outline k stands, with the outlines from a place on
 use Prim.Native.Nat.{ℕ}
 use Rattle.number.specs.Reading.{Reading, read, fault, andThen}
-use mathlib.Core.List.{List}
+use mathlib.Core.List.{List, []}
 use Rattle.job.specs.Job.{Header, header, job, outlines, outline}
 use Rattle.job.specs.declared.read.Place.{Place}
 use Rattle.job.specs.declared.read.Place.the-variants as place
@@ -38,3 +39,13 @@ placeTold (place.Fault r at) = fault r at
 -- past k outlines, and then past one more
 unfoldable pub located : List ℕ → ℕ → ℕ → Reading ℕ
 located s k at = andThen (outlines s k at) (λ ps start. andThen (outline s start) (λ l end. read start end))
+
+-- something is read, and no fault
+abbrev pub IsRead : {A : Type 0} → Reading A → Type 0
+IsRead (read a last) = Unit {0}
+IsRead (fault r at) = ⊥
+
+-- the numbers read
+abbrev pub valuesOf : Reading (List ℕ) → List ℕ
+valuesOf (read l last) = l
+valuesOf (fault r at) = []

@@ -1,15 +1,15 @@
 -- Laws of the rule and its preset table. Assumes nothing.
 --
 --   rule-given, rule-over-threshold, rule-over-weight == the cases of `ruleTold`
---   rule-within      == a rule that is given has both numbers within the limit
+--   rule-made, rule-refused == what the constructor's answer says of its two numbers
+--   range-true       == numbers in range are within the limit
 --   preset-row, preset-past == the cases of `presetTold`
 --   preset-product   == weight times threshold is 1,000 in every row, by one test computed over the table
---   preset-within    == every row is a rule within the limit
 --   made-one, row-one == two answers that tell the same are the same
 use Prim.Native.Nat.{ℕ, zero, suc, _*_, _<_, _≤_}
 use mathlib.Core.Path.{_≡_, refl, subst, sym, ap, _∙_}
 use mathlib.Core.List.{List, [], _∷_}
-use mathlib.Core.Bool.{Bool, true, false, cond, _&&_}
+use mathlib.Core.Bool.{Bool, true, false, cond, _&&_, false≢true}
 use native.Mathlib.Nat.{le-of-suc-le-suc, not-suc-le-zero}
 use native.Mathlib.Omega.{arith}
 use lib.Dec.{T, eqb, eqb→eq, leb}
@@ -21,6 +21,10 @@ use Rattle.rule.specs.declared.Made.the-variants as made
 use Rattle.rule.specs.declared.Preset.{Preset}
 use Rattle.rule.specs.declared.Preset.the-variants as preset
 use Rattle.rule.specs.Rules.{limit, inRange, Told, given, refused, ruleTold, presets, row, presetTold, madeTold, rowTold}
+
+same-rule : {r s : Rule} → given r ≡ given s → r ≡ s
+same-rule {r} {s} e =
+    ap (λ (t : Told). record { threshold = t .threshold; weight = t .weight }) e
 
 -- ruleTold
 
@@ -35,6 +39,32 @@ rule-over-threshold t w h = simp lt-leb
 pub rule-over-weight : (t w : ℕ) → t ≤ limit → limit < w → refused 1 ≡ ruleTold t w
 unfolding ruleTold inRange
 rule-over-weight t w h k = simp (le-leb, lt-leb)
+
+-- what the constructor's answer says of the two numbers
+cond-given : (b : Bool) (r s : Rule) → given r ≡ cond b (given s) (refused 1) → (b ≡ true) × (r ≡ s)
+cond-given true r s e = (refl, same-rule e)
+cond-given false r s e = absurd (let z : _≡_ {A = ℕ} 0 1 = ap (λ (t : Told). t .number) e in omega arith)
+
+cond-refused : (b : Bool) (s : Rule) → refused 1 ≡ cond b (given s) (refused 1) → b ≡ false
+cond-refused true s e = absurd (let z : _≡_ {A = ℕ} 1 0 = ap (λ (t : Told). t .number) e in omega arith)
+cond-refused false s e = refl
+
+pub rule-made : (t w : ℕ) {r : Rule} → given r ≡ ruleTold t w → (inRange t w ≡ true) × (r ≡ record { threshold = t; weight = w })
+unfolding ruleTold
+rule-made t w {r} e = cond-given (inRange t w) r _ e
+
+pub rule-refused : (t w : ℕ) → refused 1 ≡ ruleTold t w → inRange t w ≡ false
+unfolding ruleTold
+rule-refused t w e = cond-refused (inRange t w) _ e
+
+pub range-true : (t w : ℕ) → inRange t w ≡ true → (t ≤ limit) × (w ≤ limit)
+unfolding inRange
+range-true t w e = go (leb t limit) refl (leb w limit) refl e
+  where
+    go : (a : Bool) → leb t limit ≡ a → (b : Bool) → leb w limit ≡ b → (a && b) ≡ true → (t ≤ limit) × (w ≤ limit)
+    go true p true q z = (leb-true t limit p, leb-true w limit q)
+    go true p false q z = absurd (false≢true z)
+    go false p b q z = absurd (false≢true z)
 
 -- presetTold
 
@@ -84,10 +114,6 @@ unfolding product-right
 preset-product n d h = eqb→eq _ 1000 (every-at product-right presets tt n d h)
 
 -- two answers that tell the same are the same
-
-same-rule : {r s : Rule} → given r ≡ given s → r ≡ s
-same-rule {r} {s} e =
-    ap (λ (t : Told). record { threshold = t .threshold; weight = t .weight }) e
 
 pub made-one : (u v : Made) → madeTold u ≡ madeTold v → u ≡ v
 made-one (made.Rule r) (made.Rule s) e = ap made.Rule (same-rule e)

@@ -1,0 +1,85 @@
+-- `unpack` meets its contract: each exit is a case of `unpacked`. Assumes nothing.
+use mathlib.Core.Path.{sym}
+use native.Mathlib.Omega.{arith}
+use Rattle.number.specs.Number.{readTold}
+use Rattle.number.proofs.Reading.{told-as}
+use Rattle.job.specs.Steps.{pastTold}
+use Rattle.job.proofs.Job.{value-read}
+use Rattle.job.proofs.Unpacking.{unpacked-V, unpacked-coordinates, unpacked-extra, unpacked-room, unpacked-stored, coordinates-are}
+use borrow.Author.Needs.{needs}
+use Rattle.job.proofs.unpack.unpack.Statement.{statement}
+use Rattle.job.proofs.unpack.unpack.Tie as tie
+use Rattle.job.proofs.unpack.unpack.Reads as reads
+use Rattle.job.proofs.unpack.unpack.Lts as lts
+use Rattle.job.proofs.read.coordinates.Reads as coordinates-reads
+use Rattle.job.proofs.read.value.Reads as value-reads
+use Rattle.job.proofs.unpack.store.Reads as store-reads
+
+value-requires : tie.Need-value-requires
+value-requires c κs = search needs
+
+enum-known-r : tie.Need-enum-known-r
+enum-known-r c = search needs
+
+enum-known-v : tie.Need-enum-known-v
+enum-known-v c = search needs
+
+mul-coordinates : tie.Need-mul-coordinates
+mul-coordinates c = omega (arith, value-read _ 4 32 _ (sym (told-as readTold (c .before .v .given .1) (c .before .before .before .value .ensures))) .2)
+
+coordinates-requires : tie.Need-coordinates-requires
+coordinates-requires c κs = search needs
+
+enum-known-r-2 : tie.Need-enum-known-r-2
+enum-known-r-2 c = search needs
+
+enum-known-end : tie.Need-enum-known-end
+enum-known-end c = search needs
+
+returns : tie.Need-returns
+returns c = unpacked-extra _ _ (told-as readTold (c .before .before .before .before .before .before .v .given .1) (c .before .before .before .before .before .before .before .before .value .ensures)) (told-as pastTold (c .before .before .end .given .1) (c .before .before .before .before .coordinates .ensures)) (omega arith)
+
+cast-n : tie.Need-cast-n
+cast-n c = search needs
+
+mul-n : tie.Need-mul-n
+mul-n c = search needs
+
+returns-2 : tie.Need-returns-2
+returns-2 c = unpacked-room _ _ (told-as readTold (c .before .before .before .before .before .before .before .v .given .1) (c .before .before .before .before .before .before .before .before .before .value .ensures)) (told-as pastTold (c .before .before .before .end .given .1) (c .before .before .before .before .before .coordinates .ensures)) (omega arith) (omega arith)
+
+store-requires : tie.Need-store-requires
+store-requires c κs = (coordinates-are _ _ _ (told-as pastTold (c .before .before .before .before .end .given .1) (c .before .before .before .before .before .before .coordinates .ensures)), omega arith)
+
+returns-3 : tie.Need-returns-3
+returns-3 c = unpacked-V _ _ (told-as readTold (c .before .r .given .1) (c .before .before .before .value .ensures))
+
+returns-4 : tie.Need-returns-4
+returns-4 c = unpacked-coordinates _ _ (told-as readTold (c .before .before .before .before .before .v .given .1) (c .before .before .before .before .before .before .before .value .ensures)) (told-as pastTold (c .before .r2 .given .1) (c .before .before .before .coordinates .ensures))
+
+same-length : tie.Need-same-length
+same-length c = search needs
+
+returns-5 : tie.Need-returns-5
+returns-5 c = unpacked-stored _ _ (told-as readTold (c .before .before .before .before .before .before .before .before .before .before .before .v .given .1) (c .before .before .before .before .before .before .before .before .before .before .before .before .before .value .ensures)) (told-as pastTold (c .before .before .before .before .before .before .before .end .given .1) (c .before .before .before .before .before .before .before .before .before .coordinates .ensures)) (omega arith) _ (c .before .before .store .ensures) (omega arith)
+
+pub unpack-spec : {M : Type 1} → statement M
+unpack-spec =
+    tie.close
+    (tie.spec
+    value-requires
+    enum-known-r
+    enum-known-v
+    mul-coordinates
+    coordinates-requires
+    enum-known-r-2
+    enum-known-end
+    returns
+    cast-n
+    mul-n
+    returns-2
+    store-requires
+    returns-3
+    returns-4
+    same-length
+    returns-5)
