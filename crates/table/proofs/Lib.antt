@@ -2,3 +2,4 @@ pub mod Entry
 pub mod Run
 pub mod Strip
 pub mod Vertical
+pub mod Tally

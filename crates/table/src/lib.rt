@@ -2,4 +2,5 @@
 pub mod numbering;
 pub mod runs;
 pub mod settling;
+pub mod tallying;
 pub mod weighing;
