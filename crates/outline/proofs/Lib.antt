@@ -4,3 +4,4 @@ pub mod Inserting
 pub mod Gathering
 pub mod Turns
 pub mod Inside
+pub mod Turning

@@ -6,11 +6,12 @@
 --   Right l                          == the outline passes 2, 3 and 4
 --   Room ls n v, Inserted ..         == the first n of ls rise, and there is room to insert v; ls with v inserted, and their number
 --   flip t n                         == n, 0 or 1, turned over where the test t holds
---   span ys lo hi j                  == the row j of cells between the y lines ys lies between lo and hi
+--   covered lo hi bottom top         == what lies from bottom to top lies from lo to hi
+--   span ys lo hi j                  == the row j of cells between the y lines ys lies from lo to hi
 --   stands xs ys n w                 == the wall w stands on the low x of the cell n, and its span covers the cell
 --   marks cs k n                     == 1 where an odd number of the first k edges are walls that stand at the cell n, else 0
 --   swept l i j                      == 1 where an odd number of the marks of row j up to column i are 1, else 0
-use Prim.Native.Nat.{ℕ, zero, suc, _+_, _*_, _-_, _/_, _%_, _≤_}
+use Prim.Native.Nat.{ℕ, zero, suc, _+_, _*_, _-_, _/_, _%_, _≤_, _<_}
 use mathlib.Core.Path.{_≡_}
 use mathlib.Core.Bool.{Bool, true, false, _&&_}
 use mathlib.Core.List.{List, _++_}
@@ -55,12 +56,27 @@ pub record Inserted (ls : List ℕ) (n v r : ℕ) (after : List ℕ) : Type 0 wh
   pub number : r ≡ length (insert v (take n ls))
   pub list : after ≡ insert v (take n ls) ++ drop r ls
 
-abbrev pub flip : Bool → ℕ → ℕ
+unfoldable pub flip : Bool → ℕ → ℕ
 flip true n = 1 - n
 flip false n = n
 
+unfoldable pub covered : ℕ → ℕ → ℕ → ℕ → Bool
+covered lo hi bottom top = leb lo bottom && leb top hi
+
 unfoldable pub span : List ℕ → ℕ → ℕ → ℕ → Bool
-span ys lo hi j = ltb (suc j) (length ys) && (leb lo (getD ys j 0) && leb (getD ys (suc j) 0) hi)
+span ys lo hi j = ltb (j + 1) (length ys) && covered lo hi (getD ys j 0) (getD ys (j + 1) 0)
+
+-- 16 by 16 bits, the y lines of a grid, and the number of an x line
+pub record Bits (cells ys : List ℕ) (line : ℕ) : Type 0 where
+  pub length-cells : length cells ≡ 256
+  pub bit : (n : ℕ) → getD cells n 0 ≤ 1
+  pub some : 1 ≤ length ys
+  pub most : length ys ≤ 16
+  pub column : line < 16
+
+-- each cell right of the line whose y range the span covers is turned over
+pub record Turned (cells ys : List ℕ) (line lo hi : ℕ) (after : List ℕ) : Type 0 where
+  pub at : (n : ℕ) → getD after n 0 ≡ flip (eqb (n / 16) line && span ys lo hi (n % 16)) (getD cells n 0)
 
 unfoldable pub stands : List ℕ → List ℕ → ℕ → Wall → Bool
 stands xs ys n w =

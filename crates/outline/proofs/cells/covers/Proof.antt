@@ -1,0 +1,16 @@
+use Rattle.outline.proofs.Turning.{covered-both, covered-not}
+use Rattle.outline.proofs.cells.covers.Statement.{statement}
+use Rattle.outline.proofs.cells.covers.Tie as tie
+use Rattle.outline.proofs.cells.covers.Reads as reads
+use Rattle.outline.proofs.cells.covers.Lts as lts
+
+-- src/cells.rt:29:1
+returns : tie.Need-returns
+returns c = covered-both _ _ _ _ (c .before .before .if1 .taken)
+
+-- src/cells.rt:29:1
+returns-2 : tie.Need-returns-2
+returns-2 c = covered-not _ _ _ _ (c .if1 .left)
+
+pub covers-spec : {M : Type 1} → statement M
+covers-spec = tie.close (tie.spec returns returns-2)

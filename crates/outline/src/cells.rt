@@ -1,0 +1,55 @@
+// The cells inside an outline, by the odd count.
+ghost use mathlib.Core.Path.{_≡_};
+ghost use mathlib.Core.Bool.{_&&_};
+ghost use Prim.Native.Nat.{ℕ, _*_, _+_, _/_, _%_, _≤_, _<_, min, max};
+ghost use lib.Dec.{eqb, leb};
+ghost use lib.ListN.{length, getD};
+ghost use Rattle.outline.specs.Corners as corner;
+ghost use Rattle.outline.specs.Inside as figure;
+ghost use Rattle.outline.specs.Steps as step;
+ghost use Rattle.outline.specs.Promise as promise;
+
+use crate::edges;
+use crate::rising;
+use crate::{Axis, Line, Place};
+
+fn lower(a: Place, b: Place) -> Place
+    ensures { λ r. ⌜ r .0 ≡ min (a .0) (b .0) ⌝ }
+{
+    if a.0 <= b.0 { a } else { b }
+}
+
+fn higher(a: Place, b: Place) -> Place
+    ensures { λ r. ⌜ r .0 ≡ max (a .0) (b .0) ⌝ }
+{
+    if a.0 <= b.0 { b } else { a }
+}
+
+// Whether a span from low to high covers the y range of a cell.
+fn covers(low: Place, high: Place, bottom: Place, top: Place) -> bool
+    ensures { λ r. ⌜ r ≡ step.covered (low .0) (high .0) (bottom .0) (top .0) ⌝ }
+{
+    low.0 <= bottom.0 && top.0 <= high.0
+}
+
+// A cell, 0 or 1, turned over where a wall covers it: so it is 1 after an odd number of walls.
+fn turned(cell: u8, covered: bool) -> u8
+    requires { ⌜ cell ≤ 1 ⌝ }
+    ensures { λ r. ⌜ r ≡ step.flip covered cell ⌝ }
+{
+    if covered { 1 - cell } else { cell }
+}
+
+// Turns over each cell right of an x line whose y range a span covers, in 16 by 16 cells.
+fn turn_over(cells: &mut [u8], line: Line, ys: &[u16], low: Place, high: Place)
+    requires { ⌜ step.Bits (now cells) (now ys) (line .0) ⌝ }
+    ensures { λ _. ⌜ step.Turned (now (cells .entry)) (now (ys .entry)) (line .0) (low .0) (high .0) (now (cells .exit)) ⌝ }
+{
+    let first = 16 * line.0;
+    let rows = ys.len() - 1;
+    for j in 0..rows {
+        let covered = covers(low, high, Place(ys[j]), Place(ys[j + 1]));
+        let at = first + j;
+        cells[at] = turned(cells[at], covered);
+    }
+}
