@@ -5,3 +5,4 @@ pub mod Gathering
 pub mod Turns
 pub mod Inside
 pub mod Turning
+pub mod Marking

@@ -80,10 +80,21 @@ pub record Turned (cells ys : List ℕ) (line lo hi : ℕ) (after : List ℕ) : 
 
 unfoldable pub stands : List ℕ → List ℕ → ℕ → Wall → Bool
 stands xs ys n w =
-    (ltb (n / 16) (length xs) && eqb (w .x) (getD xs (n / 16) 0)) && span ys (w .lo) (w .hi) (n % 16)
+    (ltb (n / 16) (length xs) && eqb (w .x) (place xs (n / 16))) && span ys (w .lo) (w .hi) (n % 16)
 
 unfoldable pub marks : List Corner → ℕ → ℕ → ℕ
 marks cs k n = only (odd (count (stands (lines X cs) (lines Y cs) n) (walls (take k (edges cs))))) 1
+
+-- the outline passes 2, 3 and 4, and these are its lines
+pub record Ruled (l xs ys : List ℕ) : Type 0 where
+  pub right : Right l
+  pub across-x : xs ≡ lines X (corners l)
+  pub across-y : ys ≡ lines Y (corners l)
+
+-- the first k edges are marked
+pub record Marked (l : List ℕ) (k : ℕ) (cells : List ℕ) : Type 0 where
+  pub length-cells : length cells ≡ 256
+  pub at : (n : ℕ) → getD cells n 0 ≡ marks (corners l) k n
 
 unfoldable pub swept : List ℕ → ℕ → ℕ → ℕ
 swept l zero j = getD l j 0

@@ -53,3 +53,19 @@ fn turn_over(cells: &mut [u8], line: Line, ys: &[u16], low: Place, high: Place)
         cells[at] = turned(cells[at], covered);
     }
 }
+
+// Turns over the cells that the edge that ends at corner k covers on its right, if it is vertical.
+fn mark(corners: &[u16], k: usize, xs: &[u16], ys: &[u16], cells: &mut [u8])
+    requires { ⌜ k < length (now corners) / 2 ⌝ }
+    requires { ⌜ step.Ruled (now corners) (now xs) (now ys) ⌝ }
+    requires { ⌜ step.Marked (now corners) k (now cells) ⌝ }
+    ensures { λ _. ⌜ step.Marked (now (corners .entry)) (k + 1) (now (cells .exit)) ⌝ }
+{
+    if edges::changes(corners, k, Axis::X) {
+        return;
+    }
+    let start = edges::along(corners, edges::before(k, corners.len() / 2), Axis::Y);
+    let end = edges::along(corners, k, Axis::Y);
+    let line = rising::line_of(xs, edges::along(corners, k, Axis::X));
+    turn_over(cells, line, ys, lower(start, end), higher(start, end));
+}
