@@ -6,3 +6,4 @@ pub mod Turns
 pub mod Inside
 pub mod Turning
 pub mod Marking
+pub mod Sweeping

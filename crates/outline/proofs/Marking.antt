@@ -3,7 +3,8 @@
 --   right-length, right-lines        == an outline that passes 2 to 4 has 4 to 32 corners, and 2 to 16 lines each way
 --   line-found                       == the first line at or above a line's place is that line
 --   marked-start, -flat, -wall       == no edge yet; one more that is no wall; one more that is
---   marked-bits                      == marks are bits
+--   marked-end                       == all edges
+--   marked-bits, marked-marks        == marks are bits
 use Prim.Native.Nat.{ℕ, zero, suc, _+_, _*_, _-_, _/_, _%_, _≤_, _<_, min, max}
 use native.Mathlib.Numerals.{add-one}
 use mathlib.Core.Path.{_≡_, refl, sym, _∙_, ap, ap₂, subst}
@@ -23,7 +24,7 @@ use Rattle.outline.specs.declared.Axis.the-variants.{X, Y}
 use Rattle.outline.specs.Corners.{Corner, Link, corners, coordinate, edges, changes, odd, badLength, slanted, straight}
 use Rattle.outline.specs.Lines.{Up, lines, place}
 use Rattle.outline.specs.Inside.{Wall, wall, walls, count}
-use Rattle.outline.specs.Steps.{origin, still, corner, edge, before, Right, flip, span, stands, marks, Bits, Turned, Ruled, Marked}
+use Rattle.outline.specs.Steps.{origin, still, corner, edge, before, Right, flip, span, stands, marks, Bits, Turned, Ruled, Marked, Marks}
 use Rattle.outline.proofs.Corners.{length-corners, length-edges, edge-at}
 use Rattle.outline.proofs.Lines.{place-at}
 use Rattle.outline.proofs.Turns.{lines-some, lines-most, edges-half}
@@ -56,9 +57,10 @@ module _ (l : List ℕ) (right : Right l) where
       (omega (arith, length-corners l), omega (arith, length-corners l), omega (arith, edges-half (corners l) (right .slanted-none) (right .straight-none) X))
 
   pub right-lines : (a : Axis) → (2 ≤ length (lines a (corners l))) × (length (lines a (corners l)) ≤ 16)
-  right-lines a =
-      (lines-some (corners l) (right .slanted-none) (right .straight-none) a (omega (arith, right-length)),
-      omega (arith, right-length, lines-most (corners l) (right .slanted-none) (right .straight-none) a))
+  right-lines a = (
+    lines-some (corners l) (right .slanted-none) (right .straight-none) a (omega (arith, right-length)),
+    omega (arith, right-length, lines-most (corners l) (right .slanted-none) (right .straight-none) a),
+  )
 
 -- the first line at or above a line's place is that line
 pub line-found : (xs : List ℕ) (v r : ℕ) → Up xs → Member v xs → r ≤ length xs
@@ -231,3 +233,11 @@ marked-start l = record { length-cells = refl; at = λ n. zeros 256 n }
     zeros zero n = refl
     zeros (suc m) zero = refl
     zeros (suc m) (suc n) = zeros m n
+
+-- all edges
+pub marked-end : (l cells : List ℕ) (k m : ℕ) → k ≤ m → m ≤ k → Marked l k cells → Marked l m cells
+marked-end l cells k m p q h = let e : k ≡ m = omega arith in subst (λ n. Marked l n cells) e h
+
+pub marked-marks : (l cells : List ℕ) (k : ℕ) → Marked l k cells → Marks cells
+marked-marks l cells k h =
+    record { length-cells = h .length-cells; bit = λ n. omega (arith, h .at n, marks-bit (corners l) k n) }

@@ -105,13 +105,13 @@ turning-end cells ys line first lo hi now j bits e h k = record { at = at }
     at n = elim (le-or first n) [
       | inl p ↦
           elim (le-or (first + j) n) [
-          | inl q ↦ h .rest n (inr q) ∙ flip-false _ (getD cells n 0) (beyond n p q)
-          | inr q ↦
-              let m : j ≤ 15 = omega (arith, h .most, bits .most) in
-              let z : first + n % 16 ≡ n = omega arith in
-              ap (λ i. getD now i 0) (sym z)
-              ∙ h .done (n % 16) (omega arith)
-              ∙ ap₂ (λ t i. flip t (getD cells i 0)) (sym (here n p q)) z
+            | inl q ↦ h .rest n (inr q) ∙ flip-false _ (getD cells n 0) (beyond n p q)
+            | inr q ↦
+                let m : j ≤ 15 = omega (arith, h .most, bits .most) in
+                let z : first + n % 16 ≡ n = omega arith in
+                ap (λ i. getD now i 0) (sym z)
+                ∙ h .done (n % 16) (omega arith)
+                ∙ ap₂ (λ t i. flip t (getD cells i 0)) (sym (here n p q)) z
           ]
       | inr p ↦
           h .rest n (inl p)

@@ -13,7 +13,7 @@
 --   swept l i j                      == 1 where an odd number of the marks of row j up to column i are 1, else 0
 use Prim.Native.Nat.{ℕ, zero, suc, _+_, _*_, _-_, _/_, _%_, _≤_, _<_}
 use mathlib.Core.Path.{_≡_}
-use mathlib.Core.Bool.{Bool, true, false, _&&_}
+use mathlib.Core.Bool.{Bool, true, false, not, _&&_}
 use mathlib.Core.List.{List, _++_}
 use lib.Dec.{leb, ltb, eqb}
 use lib.ListN.{length, getD, take, drop}
@@ -96,6 +96,18 @@ pub record Marked (l : List ℕ) (k : ℕ) (cells : List ℕ) : Type 0 where
   pub length-cells : length cells ≡ 256
   pub at : (n : ℕ) → getD cells n 0 ≡ marks (corners l) k n
 
+-- 16 by 16 bits, and what they are when each has taken in those left of it
+pub record Marks (cells : List ℕ) : Type 0 where
+  pub length-cells : length cells ≡ 256
+  pub bit : (n : ℕ) → getD cells n 0 ≤ 1
+
 unfoldable pub swept : List ℕ → ℕ → ℕ → ℕ
 swept l zero j = getD l j 0
 swept l (suc i) j = (swept l i j + getD l (16 * suc i + j) 0) % 2
+
+pub record Swept (cells after : List ℕ) : Type 0 where
+  pub at : (i j : ℕ) → i < 16 → j < 16 → getD after (16 * i + j) 0 ≡ swept cells i j
+
+-- a cell that is not 0
+unfoldable pub lit : ℕ → Bool
+lit n = not (eqb n 0)

@@ -8,10 +8,11 @@ ghost use Rattle.outline.specs.Corners as corner;
 ghost use Rattle.outline.specs.Inside as figure;
 ghost use Rattle.outline.specs.Steps as step;
 ghost use Rattle.outline.specs.Promise as promise;
-
+use crate::Axis;
+use crate::Line;
+use crate::Place;
 use crate::edges;
 use crate::rising;
-use crate::{Axis, Line, Place};
 
 fn lower(a: Place, b: Place) -> Place
     ensures { λ r. ⌜ r .0 ≡ min (a .0) (b .0) ⌝ }
@@ -68,4 +69,38 @@ fn mark(corners: &[u16], k: usize, xs: &[u16], ys: &[u16], cells: &mut [u8])
     let end = edges::along(corners, k, Axis::Y);
     let line = rising::line_of(xs, edges::along(corners, k, Axis::X));
     turn_over(cells, line, ys, lower(start, end), higher(start, end));
+}
+
+// Turns over the cells on the right of each wall.
+pub fn mark_walls(corners: &[u16], xs: &[u16], ys: &[u16], cells: &mut [u8])
+    requires { ⌜ step.Ruled (now corners) (now xs) (now ys) ⌝ }
+    requires { ⌜ step.Marked (now corners) 0 (now cells) ⌝ }
+    ensures { λ _. ⌜ step.Marked (now (corners .entry)) (length (now (corners .entry)) / 2) (now (cells .exit)) ⌝ }
+{
+    let count = corners.len() / 2;
+    for edge in 0..count {
+        mark(corners, edge, xs, ys, cells);
+    }
+}
+
+// Lets each mark reach to the right: a cell is then 1 where the number of walls at or left of it is odd.
+pub fn sweep(cells: &mut [u8])
+    requires { ⌜ step.Marks (now cells) ⌝ }
+    ensures { λ _. ⌜ step.Swept (now (cells .entry)) (now (cells .exit)) ⌝ }
+{
+    for k in 16..256 {
+        cells[k] = (cells[k - 16] + cells[k]) % 2;
+    }
+}
+
+// Whether some cell is inside.
+pub fn any_inside(cells: &[u8]) -> bool
+    ensures { λ r. ⌜ r ≡ corner.any step.lit (now (cells .entry)) ⌝ }
+{
+    for k in 0..cells.len() {
+        if cells[k] != 0 {
+            return true;
+        }
+    }
+    false
 }
