@@ -25,7 +25,7 @@
 --   never-cheaper-grid, attained-grid   == the same of cuttings of the grid by its lines
 -- Bound and rows
 --   bound                == no table entry and no reported cost exceeds 2,097,345,000
---   ten-rows             == the ten proved rows of document 01
+--   ten-rows             == the ten proved rows of document 01 (proofs/Rows.antt)
 use Prim.Native.Nat.{ℕ, _+_, _*_, _≤_, _<_}
 use mathlib.Core.Path.{_≡_, refl, sym, _∙_, ap, ap₂, subst}
 use mathlib.Core.Bool.{Bool, true, false, not, _&&_, true≢false}
@@ -59,13 +59,11 @@ use Rattle.demands.specs.Refusals.{Condition, First}
 use Rattle.demands.specs.Square.{Shot, shotsIn, holds, sliverOf, chargeOf}
 use Rattle.demands.specs.Ways.{Way, shotsBy, total, On, frameOf}
 use Rattle.demands.specs.Demands.{Words, figure, reported, entry, Filled, partsCost, Recurrence}
-use Rattle.demands.specs.Rows.{Holds, rows}
-use Rattle.demands.proofs.Promise.{written-front, written-at, outcome-number, outcome-zero, outcome-seven, outcome-other}
+use Rattle.demands.proofs.Outcome.{written-front, written-at, outcome-number, outcome-zero, outcome-seven, outcome-other}
 use Rattle.demands.proofs.Refusals.{number-some, test-true, number-first, first-number, number-none, none-number, number-known}
 use Rattle.demands.proofs.Square.{Shows, rectangle, numbers-shots, sliver-squares, charge-squares, cover-squares}
 use Rattle.demands.proofs.Ways as ways
 use Rattle.demands.proofs.Figure.{outline-sound, outline-shows, outline-lined, outline-frame}
-use Rattle.demands.proofs.Rows.{rows-right}
 
 module _ (l : List ℕ) (t w : ℕ) (table list : List ℕ) where
   abbrev o : Outcome
@@ -387,8 +385,3 @@ module _ (l : List ℕ) (t w : ℕ) (table list : List ℕ) where
           → (o .number ≡ 0) ⊎ ((c : Reason) × (o .number ≡ number c))
       go (inl e) = inl (outcome-number l t w table list ∙ e)
       go (inr e) = inr (e .0, outcome-number l t w table list ∙ e .1)
-
--- Rows
-
-pub ten-rows : All Holds rows
-ten-rows = rows-right

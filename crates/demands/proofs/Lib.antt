@@ -1,7 +1,8 @@
-pub mod Promise
+pub mod Outcome
 pub mod Refusals
 pub mod Square
 pub mod Ways
 pub mod Figure
-pub mod Rows
 pub mod Demands
+pub mod Promise
+pub mod Rows

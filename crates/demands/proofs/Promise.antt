@@ -5,69 +5,23 @@
 --   outcome-table        == 6: the table has too few entries
 --   outcome-list         == 7: the list is too short
 --   outcome-accepted     == none of these
---   outcome-number       == the number is that of the first reason that holds
---   outcome-zero, outcome-seven, outcome-other   == the outcome by its number
---   outcome-unique       == two outcomes that are what was promised are equal
---   written-length, written-front, written-at   == a buffer after it was written: its length, its front, one of its numbers
-use Prim.Native.Nat.{ℕ, _+_, _*_, _≤_, _<_}
+use Prim.Native.Nat.{ℕ, _*_, _≤_, _<_}
 use mathlib.Core.Path.{_≡_, refl, sym, _∙_, ap}
 use mathlib.Core.Bool.{Bool, true, false, cond, not}
-use mathlib.Core.List.{List, _++_}
+use mathlib.Core.List.{List}
 use native.Mathlib.Omega.{arith}
 use lib.Dec.{ltb, eqb}
-use lib.ListN.{length, drop, take, getD, length-append, length-drop, List·getD-append}
-use lib.Seq.{take-at}
-use borrow.Author.Tests.{lt-ltb, le-ltb, ne-eqb, eqb-true}
+use lib.ListN.{length}
+use borrow.Author.Tests.{lt-ltb, le-ltb, ne-eqb}
 use Rattle.rule.specs.Rules.{inRange}
 use Rattle.outline.specs.Corners.{corners, badLength, slanted, straight}
 use Rattle.outline.specs.Inside.{grid, empty}
 use Rattle.outline.specs.Promise.{refusal}
 use Rattle.table.specs.Entry.{entryCount}
-use Rattle.demands.specs.Promise.{drawn, reportedShots, Reason, ruleHigh, lengthBad, slantedEdge, straightOn, nothingInside, tableShort, listShort, number, order, firstOf, Outcome, written, test, numberOf, accepted, short, refused, outcome}
-
-pub written-length : (front old : List ℕ) → length front ≤ length old → length (written front old) ≡ length old
-unfolding written
-written-length front old h = simp (length-append, length-drop) (omega arith)
-
-pub written-front : (front old : List ℕ) → take (length front) (written front old) ≡ front
-unfolding written
-written-front front old = take-at front (drop (length front) old) (length front) refl
-
-pub written-at : (front old : List ℕ) (i : ℕ) → i < length front → getD (written front old) i 0 ≡ getD front i 0
-unfolding written
-written-at front old i h = List·getD-append front (drop (length front) old) 0 i h
+use Rattle.demands.specs.Promise.{drawn, reportedShots, tableShort, listShort, number, order, firstOf, test, numberOf, accepted, short, refused, outcome}
+use Rattle.demands.proofs.Outcome.{outcome-number, outcome-zero, outcome-seven, outcome-other}
 
 module _ (l : List ℕ) (t w : ℕ) (table list : List ℕ) where
-  -- by the number
-  by-number : (n : ℕ) → numberOf l t w table list ≡ n
-      → outcome l t w table list ≡ cond (eqb n 0) (accepted l t w table list) (cond (eqb n 7) (short l t w table list) (refused l t w table list n))
-  unfolding outcome
-  by-number n e = ap (λ n. cond (eqb n 0) (accepted l t w table list) (cond (eqb n 7) (short l t w table list) (refused l t w table list n))) e
-
-  -- the outcome's number, and the outcome by its number
-  pub outcome-number : outcome l t w table list .number ≡ numberOf l t w table list
-  unfolding outcome accepted short refused
-  outcome-number = go (eqb (numberOf l t w table list) 0) refl (eqb (numberOf l t w table list) 7) refl
-    where
-      go : (a : Bool) → eqb (numberOf l t w table list) 0 ≡ a → (b : Bool) → eqb (numberOf l t w table list) 7 ≡ b
-          → cond a (accepted l t w table list) (cond b (short l t w table list) (refused l t w table list (numberOf l t w table list))) .number
-          ≡ numberOf l t w table list
-      go true e b f = sym (eqb-true _ _ e)
-      go false e true f = sym (eqb-true _ _ f)
-      go false e false f = refl
-
-  pub outcome-zero : outcome l t w table list .number ≡ 0 → outcome l t w table list ≡ accepted l t w table list
-  outcome-zero e = by-number 0 (sym outcome-number ∙ e)
-
-  pub outcome-seven : outcome l t w table list .number ≡ 7 → outcome l t w table list ≡ short l t w table list
-  outcome-seven e = by-number 7 (sym outcome-number ∙ e)
-
-  pub outcome-other : (n : ℕ) → 0 < n → n < 7 → outcome l t w table list .number ≡ n → outcome l t w table list ≡ refused l t w table list n
-  outcome-other n h k e =
-      by-number n (sym outcome-number ∙ e)
-      ∙ ap (λ b. cond b (accepted l t w table list) (cond (eqb n 7) (short l t w table list) (refused l t w table list n))) (ne-eqb n 0 (λ z. omega arith))
-      ∙ ap (λ b. cond b (short l t w table list) (refused l t w table list n)) (ne-eqb n 7 (λ z. omega arith))
-
   -- 6, 7 or success
   room : ℕ
   room = cond (test l t w table list tableShort) 6 (cond (test l t w table list listShort) 7 0)
@@ -108,12 +62,12 @@ module _ (l : List ℕ) (t w : ℕ) (table list : List ℕ) where
 
   pub outcome-rule : inRange t w ≡ false → outcome l t w table list ≡ refused l t w table list 1
   unfolding numberOf order firstOf number test drawn room outline-on
-  outcome-rule e = by-number 1 (ap (λ b. cond (not b) 1 outline-on) e)
+  outcome-rule e = outcome-other l t w table list 1 (omega arith) (omega arith) (outcome-number l t w table list ∙ ap (λ b. cond (not b) 1 outline-on) e)
 
   pub outcome-outline : inRange t w ≡ true → (n : ℕ) → refusal l ≡ n → 0 < n → outcome l t w table list ≡ refused l t w table list n
   outcome-outline e n h k =
-      outcome-other n k (omega (arith, refusal-most))
-      (outcome-number
+      outcome-other l t w table list n k (omega (arith, refusal-most))
+      (outcome-number l t w table list
       ∙ number-outline e
       ∙ ap (λ m. cond (eqb m 0) room m) h
       ∙ ap (λ b. cond b room n) (ne-eqb n 0 (λ z. omega arith)))
@@ -124,7 +78,7 @@ module _ (l : List ℕ) (t w : ℕ) (table list : List ℕ) where
 
     pub outcome-table : length table < entryCount (drawn l .columns) (drawn l .rows) → outcome l t w table list ≡ refused l t w table list 6
     unfolding room test
-    outcome-table k = by-number 6 (number-room ∙ ap (λ b. cond b 6 (cond (test l t w table list listShort) 7 0)) (lt-ltb _ _ k))
+    outcome-table k = outcome-other l t w table list 6 (omega arith) (omega arith) (outcome-number l t w table list ∙ number-room ∙ ap (λ b. cond b 6 (cond (test l t w table list listShort) 7 0)) (lt-ltb _ _ k))
 
     module _ (k : entryCount (drawn l .columns) (drawn l .rows) ≤ length table) where
       number-list : numberOf l t w table list ≡ cond (ltb (length list) (4 * length (reportedShots l t w))) 7 0
@@ -132,10 +86,7 @@ module _ (l : List ℕ) (t w : ℕ) (table list : List ℕ) where
       number-list = number-room ∙ ap (λ b. cond b 6 (cond (test l t w table list listShort) 7 0)) (le-ltb _ _ k)
 
       pub outcome-list : length list < 4 * length (reportedShots l t w) → outcome l t w table list ≡ short l t w table list
-      outcome-list m = by-number 7 (number-list ∙ ap (λ b. cond b 7 0) (lt-ltb _ _ m))
+      outcome-list m = outcome-seven l t w table list (outcome-number l t w table list ∙ number-list ∙ ap (λ b. cond b 7 0) (lt-ltb _ _ m))
 
       pub outcome-accepted : 4 * length (reportedShots l t w) ≤ length list → outcome l t w table list ≡ accepted l t w table list
-      outcome-accepted m = by-number 0 (number-list ∙ ap (λ b. cond b 7 0) (le-ltb _ _ m))
-
-  pub outcome-unique : (a b : Outcome) → a ≡ outcome l t w table list → b ≡ outcome l t w table list → a ≡ b
-  outcome-unique a b e f = e ∙ sym f
+      outcome-accepted m = outcome-zero l t w table list (outcome-number l t w table list ∙ number-list ∙ ap (λ b. cond b 7 0) (le-ltb _ _ m))

@@ -2,7 +2,7 @@
 --
 --   right row      == the test of a row, which computes
 --   right-says     == a row that passes it holds
---   rows-right     == all ten hold
+--   ten-rows     == all ten hold
 use Prim.Native.Nat.{ℕ, _*_, _≤_, _<_}
 use mathlib.Core.Path.{_≡_, refl, sym, _∙_, ap, ap₂, subst}
 use mathlib.Core.Bool.{Bool, true, false, _&&_, true≢false}
@@ -28,7 +28,8 @@ use Rattle.piece.proofs.Choice.{numbers-length}
 use Rattle.table.specs.Entry.{pairsBelow, pairCount, entryCount}
 use Rattle.demands.specs.Promise.{rule, drawn, reportedShots, reportedCost, reportedSliver, reportedList, written, accepted, refused, outcome}
 use Rattle.demands.specs.Rows.{By, only-by, any as any-rule, Meant, Rival, Row, Says, Holds, rows}
-use Rattle.demands.proofs.Promise.{outcome-accepted, outcome-outline, written-front}
+use Rattle.demands.proofs.Promise.{outcome-accepted, outcome-outline}
+use Rattle.demands.proofs.Outcome.{written-front}
 
 unfoldable same : List ℕ → List ℕ → Bool
 same [] [] = true
@@ -154,5 +155,5 @@ unfolding right-all
 all-say [] e = tt
 all-say (row ∷ l) e = let s = split _ _ e in (right-says (row .by) row refl (s .0), all-say l (s .1))
 
-pub rows-right : All Holds rows
-rows-right = all-say rows rows-pass
+pub ten-rows : All Holds rows
+ten-rows = all-say rows rows-pass
