@@ -11,7 +11,9 @@
 --   refusal-keeps        == beside 1 to 6: zeros, and both buffers as they came in
 --   short-keeps          == beside 7: the shots needed, zeros, the list as it came in, the table as on success
 --   accepted-fills       == on success: the costs at the front of the table, the shots at the front of the list, the rest as it came in
---   no-influence         == what the buffers held before has no influence: only their lengths count
+--   no-influence         == what the buffers held before has no influence: with others of the same lengths the answer is the same, and
+--                           so is what is written
+--   outcome-unique       == two outcomes that are what was promised are equal (proofs/Outcome.antt)
 -- Demand 2: the shots lie inside, share no area and cover; count, sliver length and cost are those of these very shots
 --   cover                == each unit square is in exactly one reported shot if it is inside, and in none if not
 --   shots-inside, shots-apart, shots-cover   == so shots lie inside, no two hold the same square, and each inside square is held
@@ -22,17 +24,18 @@
 --   never-cheaper        == no way to cut the frame at the nanometre, each cut at a corner's coordinate and right across, good shots cut
 --                           again or not, totals less than the reported cost
 --   attained             == one such way has the reported shots, and totals the reported cost
+--   entry-never-cheaper, entry-attained == so is each table entry for its piece: the least total of any way to cut it
 --   never-cheaper-grid, attained-grid   == the same of cuttings of the grid by its lines
 -- Bound and rows
---   bound                == no table entry and no reported cost exceeds 2,097,345,000
+--   bound, bound-cost    == no table entry, and no reported cost, exceeds 2,097,345,000
 --   ten-rows             == the ten proved rows of document 01 (proofs/Rows.antt)
 use Prim.Native.Nat.{ℕ, _+_, _*_, _≤_, _<_}
-use mathlib.Core.Path.{_≡_, refl, sym, _∙_, ap, ap₂, subst}
-use mathlib.Core.Bool.{Bool, true, false, not, _&&_, true≢false}
+use mathlib.Core.Path.{_≡_, refl, sym, _∙_, ap, ap₂, subst, fun-ext}
+use mathlib.Core.Bool.{Bool, true, false, cond, not, _&&_, true≢false}
 use mathlib.Core.Logic.{_⊎_, inl, inr}
 use mathlib.Core.List.{List, [], _∷_, map, List·Memᴰ as Member}
 use native.Mathlib.Omega.{arith}
-use lib.Dec.{leb}
+use lib.Dec.{leb, ltb, eqb}
 use borrow.Author.Tests.{leb-true}
 use lib.ListN.{length, take, getD, length-map}
 use Rattle.sum.specs.Sum.{only, sumOf, All, Some, join}
@@ -54,11 +57,11 @@ use Rattle.piece.proofs.Choice.{choice-cost, choice-least, shots-choice, number
 use Rattle.piece.proofs.Bound.{cost-most}
 use Rattle.table.specs.Entry.{entryCount, entryOf, Valid, costs}
 use Rattle.table.proofs.Entry.{entry-below, costs-length, costs-at}
-use Rattle.demands.specs.Promise.{rule, drawn, reportedShots, reportedCost, reportedSliver, reportedList, reportedTable, Reason, ruleHigh, lengthBad, slantedEdge, straightOn, nothingInside, tableShort, listShort, number, Outcome, written, test, numberOf, accepted, short, refused, outcome}
+use Rattle.demands.specs.Promise.{rule, drawn, reportedShots, reportedCost, reportedSliver, reportedList, reportedTable, Reason, ruleHigh, lengthBad, slantedEdge, straightOn, nothingInside, tableShort, listShort, number, order, firstOf, Outcome, written, test, numberOf, accepted, short, refused, outcome}
 use Rattle.demands.specs.Refusals.{Condition, First}
 use Rattle.demands.specs.Square.{Shot, shotsIn, holds, sliverOf, chargeOf}
 use Rattle.demands.specs.Ways.{Way, shotsBy, total, On, frameOf}
-use Rattle.demands.specs.Demands.{Words, figure, reported, entry, Filled, partsCost, Recurrence}
+use Rattle.demands.specs.Demands.{Words, figure, reported, entry, answer, Filled, partsCost, Recurrence}
 use Rattle.demands.proofs.Outcome.{written-front, written-at, outcome-number, outcome-zero, outcome-seven, outcome-other}
 use Rattle.demands.proofs.Refusals.{number-some, test-true, number-first, first-number, number-none, none-number, number-known}
 use Rattle.demands.proofs.Square.{Shows, rectangle, numbers-shots, sliver-squares, charge-squares, cover-squares}
@@ -185,35 +188,49 @@ module _ (l : List ℕ) (t w : ℕ) (table list : List ℕ) where
       go true k = refl
       go false k = absurd (omega arith)
 
-  -- a measure of the reported shots that agrees with one of pieces
-  measured : Words l → o .number ≡ 0 → (f : Shot → ℕ) (h : Piece → ℕ)
+  -- a measure of shots at unit squares that agrees with one of pieces, over the shots of a piece
+  measured : (f : Shot → ℕ) (h : Piece → ℕ)
+      → ((p : Piece) → Valid (drawn l .columns) (drawn l .rows) p → f (rectangle (drawn l) p) ≡ h p)
+      → (p : Piece) → p .c ≤ drawn l .columns → p .d ≤ drawn l .rows
+      → sumOf f (map (rectangle (drawn l)) (shots (drawn l) (rule t w) p)) ≡ sumOf h (shots (drawn l) (rule t w) p)
+  measured f h same p hc hd =
+      sumOf-map f (rectangle (drawn l)) (shots (drawn l) (rule t w) p)
+      ∙ sumOf-same _ h (shots (drawn l) (rule t w) p)
+      (All-imp
+      (λ s q. same s (record { ac = q .ac; cx = omega (arith, q .c); bd = q .bd; dy = omega (arith, q .d) }))
+      (shots (drawn l) (rule t w) p)
+      (shots-part (drawn l) (rule t w) p))
+
+  -- over the reported shots
+  measured-all : o .number ≡ 0 → (f : Shot → ℕ) (h : Piece → ℕ)
       → ((p : Piece) → Valid (drawn l .columns) (drawn l .rows) p → f (rectangle (drawn l) p) ≡ h p)
       → sumOf h (reportedShots l t w) ≡ sumOf f (reported o)
   unfolding reportedShots frame
-  measured words e f h same =
-      sym
-      (ap (sumOf f) (reported-is e)
-      ∙ sumOf-map f (rectangle (drawn l)) (reportedShots l t w)
-      ∙ sumOf-same _ h (reportedShots l t w)
-      (All-imp
-      (λ s p. same s (record { ac = p .ac; cx = p .c; bd = p .bd; dy = p .d }))
-      (reportedShots l t w)
-      (shots-part (drawn l) (rule t w) (frame (drawn l)))))
+  measured-all e f h same =
+      sym (ap (sumOf f) (reported-is e) ∙ measured f h same (frame (drawn l)) (omega arith) (omega arith))
+
+  sliver-at : Words l → Filled o → (p : Piece) → Valid (drawn l .columns) (drawn l .rows) p
+      → sliverOf F t (rectangle (drawn l) p) ≡ sliver (drawn l) (rule t w) p
+  sliver-at words f p v =
+      let ac = v .ac in
+      let bd = v .bd in
+      sliver-squares (drawn l) F (sound words f) (shown f) t w p (omega arith) (v .cx) (omega arith) (v .dy)
+
+  charge-at : Words l → Filled o → (p : Piece) → Valid (drawn l .columns) (drawn l .rows) p
+      → chargeOf F t w (rectangle (drawn l) p) ≡ charge (drawn l) (rule t w) p
+  charge-at words f p v =
+      let ac = v .ac in
+      let bd = v .bd in
+      charge-squares (drawn l) F (sound words f) (shown f) t w p (omega arith) (v .cx) (omega arith) (v .dy)
 
   pub these-shots : Words l → o .number ≡ 0
       → (o .shots ≡ length (reported o)) × (o .sliver ≡ sumOf (sliverOf F t) (reported o)) × (o .cost ≡ sumOf (chargeOf F t w) (reported o))
   unfolding accepted reportedSliver reportedCost
   these-shots words e =
-      let q = outcome-zero l t w table list e in
-      let s = sound words (inl e) in
-      let v = shown (inl e) in (
+      let q = outcome-zero l t w table list e in (
         ap (λ o. o .shots) q ∙ sym (ap length (reported-is e) ∙ length-map (reportedShots l t w) (rectangle (drawn l))),
-        ap (λ o. o .sliver) q
-            ∙ measured words e (sliverOf F t) (sliver (drawn l) (rule t w))
-            (λ p v. let ac = v .ac in let bd = v .bd in sliver-squares (drawn l) F s (shown (inl e)) t w p (omega arith) (v .cx) (omega arith) (v .dy)),
-        ap (λ o. o .cost) q
-            ∙ measured words e (chargeOf F t w) (charge (drawn l) (rule t w))
-            (λ p v. let ac = v .ac in let bd = v .bd in charge-squares (drawn l) F s (shown (inl e)) t w p (omega arith) (v .cx) (omega arith) (v .dy)),
+        ap (λ o. o .sliver) q ∙ measured-all e (sliverOf F t) (sliver (drawn l) (rule t w)) (sliver-at words (inl e)),
+        ap (λ o. o .cost) q ∙ measured-all e (chargeOf F t w) (charge (drawn l) (rule t w)) (charge-at words (inl e)),
       )
 
   filled-table : Filled o → o .table ≡ written (reportedTable l t w) table
@@ -284,45 +301,58 @@ module _ (l : List ℕ) (t w : ℕ) (table list : List ℕ) where
 
   -- Demand 3
 
-  pub never-cheaper : Words l → o .number ≡ 0 → (way : Way F (On X (corners l)) (On Y (corners l)) (frameOf (corners l)))
-      → o .cost ≤ total F (On X (corners l)) (On Y (corners l)) t w way
-  unfolding total drawn
-  never-cheaper words e way =
-      let s = sound words (inl e) in
+  -- a place that a cut may lie at: the coordinate of a corner
+  abbrev OnX : ℕ → Type 0
+  OnX = On X (corners l)
+
+  abbrev OnY : ℕ → Type 0
+  OnY = On Y (corners l)
+
+  lined : Words l → Filled o → ways.Lined (drawn l) OnX OnY
+  unfolding drawn
+  lined words f = let s = sound words f in outline-lined (corners l) (s .columns-some) (s .rows-some)
+
+  framed : Words l → Filled o → rectangle (drawn l) (frame (drawn l)) ≡ frameOf (corners l)
+  unfolding drawn
+  framed words f = let s = sound words f in outline-frame (corners l) (s .columns-some) (s .rows-some)
+
+  pub entry-never-cheaper : Words l → Filled o → (p : Piece) → Valid (drawn l .columns) (drawn l .rows) p
+      → (way : Way F OnX OnY (rectangle (drawn l) p))
+      → entry o (drawn l) p ≤ total F OnX OnY t w way
+  unfolding total
+  entry-never-cheaper words f p v way =
       omega (
         arith,
-        cost-frame e,
-        ways.never-cheaper (drawn l) F s (shown (inl e)) (On X (corners l)) (On Y (corners l))
-            (outline-lined (corners l) (s .columns-some) (s .rows-some))
-            t
-            w
-            way
-            (frame (drawn l))
-            (whole words (inl e))
-            (outline-frame (corners l) (s .columns-some) (s .rows-some)),
+        entry-cost f p v,
+        ways.never-cheaper (drawn l) F (sound words f) (shown f) OnX OnY (lined words f) t w way p v refl,
       )
 
+  pub entry-attained : Words l → Filled o → (p : Piece) → Valid (drawn l .columns) (drawn l .rows) p
+      → (way : Way F OnX OnY (rectangle (drawn l) p))
+      × (shotsBy F OnX OnY way ≡ map (rectangle (drawn l)) (shots (drawn l) (rule t w) p))
+      × (total F OnX OnY t w way ≡ entry o (drawn l) p)
+  unfolding total cost
+  entry-attained words f p v =
+      let m = ways.way-attained (drawn l) F (sound words f) (shown f) OnX OnY (lined words f) t w p v in (
+        m .0,
+        m .1,
+        ap (sumOf (chargeOf F t w)) (m .1)
+            ∙ measured (chargeOf F t w) (charge (drawn l) (rule t w)) (charge-at words f) p (v .cx) (v .dy)
+            ∙ sym (entry-cost f p v),
+      )
+
+  pub never-cheaper : Words l → o .number ≡ 0 → (way : Way F OnX OnY (frameOf (corners l))) → o .cost ≤ total F OnX OnY t w way
+  never-cheaper words e =
+      subst (λ s. (way : Way F OnX OnY s) → o .cost ≤ total F OnX OnY t w way) (framed words (inl e))
+      (λ way. omega (arith, frame-entry words e, entry-never-cheaper words (inl e) (frame (drawn l)) (whole words (inl e)) way))
+
   pub attained : Words l → o .number ≡ 0
-      → (way : Way F (On X (corners l)) (On Y (corners l)) (frameOf (corners l)))
-      × (shotsBy F (On X (corners l)) (On Y (corners l)) way ≡ reported o)
-      × (total F (On X (corners l)) (On Y (corners l)) t w way ≡ o .cost)
-  unfolding total drawn reportedShots
+      → (way : Way F OnX OnY (frameOf (corners l))) × (shotsBy F OnX OnY way ≡ reported o) × (total F OnX OnY t w way ≡ o .cost)
+  unfolding reportedShots
   attained words e =
-      let s = sound words (inl e) in
-      let m =
-      ways.way-attained (drawn l) F s (shown (inl e)) (On X (corners l)) (On Y (corners l))
-      (outline-lined (corners l) (s .columns-some) (s .rows-some))
-      t
-      w
-      (frame (drawn l))
-      (whole words (inl e))
-      in
-      let n =
-      subst (λ s. (way : Way F (On X (corners l)) (On Y (corners l)) s) × (shotsBy F (On X (corners l)) (On Y (corners l)) way ≡ reported o))
-      (outline-frame (corners l) (s .columns-some) (s .rows-some))
-      (m .0, m .1 ∙ sym (reported-is e))
-      in
-      (n .0, n .1, ap (sumOf (chargeOf F t w)) (n .1) ∙ sym (these-shots words e .2))
+      subst (λ s. (way : Way F OnX OnY s) × (shotsBy F OnX OnY way ≡ reported o) × (total F OnX OnY t w way ≡ o .cost)) (framed words (inl e))
+      (let m = entry-attained words (inl e) (frame (drawn l)) (whole words (inl e)) in
+      (m .0, m .1 ∙ sym (reported-is e), m .2 ∙ frame-entry words e))
 
   -- good shots may be cut again: every piece may be cut
   abbrev Any : Piece → Type 0
@@ -385,3 +415,57 @@ module _ (l : List ℕ) (t w : ℕ) (table list : List ℕ) where
           → (o .number ≡ 0) ⊎ ((c : Reason) × (o .number ≡ number c))
       go (inl e) = inl (outcome-number l t w table list ∙ e)
       go (inr e) = inr (e .0, outcome-number l t w table list ∙ e .1)
+
+-- Nothing in a lent buffer steers the outcome
+
+module _ (l : List ℕ) (t w : ℕ) (table list table′ list′ : List ℕ) (entries : length table ≡ length table′) (room : length list ≡ length list′) where
+  -- the tests go by the lengths
+  test-same : (c : Reason) → test l t w table list c ≡ test l t w table′ list′ c
+  unfolding test
+  test-same ruleHigh = refl
+  test-same lengthBad = refl
+  test-same slantedEdge = refl
+  test-same straightOn = refl
+  test-same nothingInside = refl
+  test-same tableShort = ap (λ n. ltb n (entryCount (drawn l .columns) (drawn l .rows))) entries
+  test-same listShort = ap (λ n. ltb n (4 * length (reportedShots l t w))) room
+
+  number-same : numberOf l t w table list ≡ numberOf l t w table′ list′
+  unfolding numberOf
+  number-same = ap (λ (holds : Reason → Bool). firstOf holds order) (fun-ext test-same)
+
+  -- the answer by the number
+  said : ℕ → Outcome
+  said n = answer (cond (eqb n 0) (accepted l t w [] []) (cond (eqb n 7) (short l t w [] []) (refused l t w [] [] n)))
+
+  answer-by : (table list : List ℕ) → answer (outcome l t w table list) ≡ said (numberOf l t w table list)
+  unfolding answer outcome said accepted short refused
+  answer-by table list = go (eqb (numberOf l t w table list) 0) (eqb (numberOf l t w table list) 7)
+    where
+      go : (a b : Bool)
+          → answer (cond a (accepted l t w table list) (cond b (short l t w table list) (refused l t w table list (numberOf l t w table list))))
+          ≡ answer (cond a (accepted l t w [] []) (cond b (short l t w [] []) (refused l t w [] [] (numberOf l t w table list))))
+      go true b = refl
+      go false true = refl
+      go false false = refl
+
+  other-number : (n : ℕ) → outcome l t w table list .number ≡ n → outcome l t w table′ list′ .number ≡ n
+  other-number n e = outcome-number l t w table′ list′ ∙ sym number-same ∙ sym (outcome-number l t w table list) ∙ e
+
+  pub no-influence : (answer (outcome l t w table list) ≡ answer (outcome l t w table′ list′))
+      × (Filled (outcome l t w table list)
+      → take (length (reportedTable l t w)) (outcome l t w table list .table) ≡ take (length (reportedTable l t w)) (outcome l t w table′ list′ .table))
+      × (outcome l t w table list .number ≡ 0 → reported (outcome l t w table list) ≡ reported (outcome l t w table′ list′))
+  no-influence = (
+    answer-by table list ∙ ap said number-same ∙ sym (answer-by table′ list′),
+    λ f.
+        ap (take (length (reportedTable l t w))) (filled-table l t w table list f)
+        ∙ written-front (reportedTable l t w) table
+        ∙ sym
+        (ap (take (length (reportedTable l t w))) (filled-table l t w table′ list′ (filled-too f)) ∙ written-front (reportedTable l t w) table′),
+    λ e. reported-is l t w table list e ∙ sym (reported-is l t w table′ list′ (other-number 0 e)),
+  )
+    where
+      filled-too : Filled (outcome l t w table list) → Filled (outcome l t w table′ list′)
+      filled-too (inl e) = inl (other-number 0 e)
+      filled-too (inr e) = inr (other-number 7 e)

@@ -4,6 +4,7 @@
 --   figure l x y       == the unit square at (x, y) is inside, by the odd count on the raw corners
 --   reported o         == the shots in the list of an outcome: its first 4 x shots numbers, four by four
 --   entry o g p        == what the table of an outcome has for the piece p
+--   answer o           == the answer of an outcome, without the buffers
 --   Filled o           == the table was filled: on success, and beside 7
 --   partsCost E p k    == what the two parts of the cut k of p have together in a table E
 --   Recurrence g r E p == the paper's equation (2) at the piece p of the grid g, for a table of costs E, with document 01's tie order: 0
@@ -13,7 +14,7 @@ use Prim.Native.Nat.{ℕ, _*_, _≤_}
 use mathlib.Core.Path.{_≡_}
 use mathlib.Core.Logic.{_⊎_}
 use mathlib.Core.Bool.{Bool}
-use mathlib.Core.List.{List, _∷_}
+use mathlib.Core.List.{List, [], _∷_}
 use lib.ListN.{take, getD}
 use Rattle.sum.specs.Sum.{All, sumOf, join}
 use Rattle.recurrence.specs.Choice.{least}
@@ -39,6 +40,9 @@ reported o = shotsIn (take (4 * o .shots) (o .list))
 
 unfoldable pub entry : Outcome → Grid → Piece → ℕ
 entry o g p = getD (o .table) (entryOf (g .columns) (g .rows) p) 0
+
+unfoldable pub answer : Outcome → Outcome
+answer o = record { number = o .number; shots = o .shots; cost = o .cost; sliver = o .sliver; table = []; list = [] }
 
 abbrev pub Filled : Outcome → Type 0
 Filled o = (o .number ≡ 0) ⊎ (o .number ≡ 7)
