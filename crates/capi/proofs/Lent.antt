@@ -1,10 +1,51 @@
--- An answer said of the numbers that a call is lent.
+-- Laws of the promises said of lent numbers. Assumes nothing.
 --
---   preset-lent   == two tellings of a rule that are equal agree in the number, the threshold and the weight
-use mathlib.Core.Path.{_≡_, ap}
-use Prim.Native.Nat.{ℕ}
-use Rattle.rule.specs.Rules.{Told}
+--   renumbered        == a refusal said by its number, where the number is known
+--   outline-fault     == a job that is refused as a whole refuses outline k
+--   outline-missing   == 13, for k not below the count of a sound job
+--   outline-part      == where outline k of a sound job stands
+use Prim.Native.Nat.{ℕ, _-_, _<_, _≤_}
+use mathlib.Core.Path.{_≡_, _∙_, sym, ap, ap₂}
+use mathlib.Core.List.{List}
+use native.Mathlib.Omega.{arith}
+use lib.ListN.{length, getD}
+use borrow.Author.Tests.{le-ltb, lt-ltb}
+use Rattle.number.specs.declared.Refusal.{Refusal}
+use Rattle.number.specs.Reading.{read, fault, refusalNo}
+use Rattle.job.specs.Job.{Header, Job, job}
+use Rattle.job.specs.Steps.{whole, located}
+use Rattle.job.specs.Calls.{noPart}
+use Rattle.job.proofs.Calls.{fault-whole, read-whole, job-said, located-nth}
+use Rattle.capi.specs.Lent.{OutlineSaid, outlineLent, jobPart, partSaid, outlineSaid}
 
-pub preset-lent :
-    {u t : Told} → u ≡ t → (u .number ≡ t .number) × ((u .threshold ≡ t .threshold) × (u .weight ≡ t .weight))
-preset-lent e = (ap (λ (x : Told). x .number) e, (ap (λ (x : Told). x .threshold) e, ap (λ (x : Told). x .weight) e))
+pub renumbered : {A : Type 0} (said : ℕ → A) {n m : ℕ} {b : A} → n ≡ m → said m ≡ b → said n ≡ b
+renumbered said e f = ap said e ∙ f
+
+module _ (s : List ℕ) (k : ℕ) where
+  pub outline-fault : {r : Refusal} {p n : ℕ} → fault r p ≡ whole s → n ≡ refusalNo r → outlineLent n 0 0 p ≡ outlineSaid s k
+  unfolding outlineSaid
+  outline-fault {r} {p} e f = ap (λ n. outlineLent n 0 0 p) f ∙ sym (ap (jobPart k) (fault-whole s e))
+
+  module _ {h : Header} {next : ℕ} (e : read h next ≡ whole s) where
+    pub outline-missing : h .count ≤ k → outlineLent 13 0 0 0 ≡ outlineSaid s k
+    unfolding outlineSaid
+    outline-missing c =
+        let w = read-whole s e in
+        let j = job-said s (w .2) (w .3) in
+        let p : outlineLent 13 0 0 0 ≡ jobPart k (read (w .0) (w .1)) = simp (le-ltb k (length (w .0 .parts)) (omega arith)) in
+        p ∙ sym (ap (jobPart k) (w .2))
+
+    pub outline-part : {start end : ℕ} → k < h .count → read start end ≡ located s k next
+        → outlineLent 0 start (end - start) 0 ≡ outlineSaid s k
+    unfolding outlineSaid
+    outline-part {start} {end} c f = go (located-nth s k e c)
+      where
+        go : (j : Job) × (last : ℕ) × (job s ≡ read j last) × (k < length (j .parts))
+            × (located s k next ≡ read (getD (j .parts) k noPart .start) (getD (j .parts) k noPart .end))
+            → outlineLent 0 start (end - start) 0 ≡ jobPart k (job s)
+        go (j, last, q, room, g) =
+            let z = f ∙ g in
+            let a : start ≡ getD (j .parts) k noPart .start = cc in
+            let b : end ≡ getD (j .parts) k noPart .end = cc in
+            let p : partSaid (getD (j .parts) k noPart) ≡ jobPart k (read j last) = simp lt-ltb in
+            ap₂ (λ x y. outlineLent 0 x (y - x) 0) a b ∙ p ∙ sym (ap (jobPart k) q)

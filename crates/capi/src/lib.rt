@@ -1,16 +1,29 @@
 // The C interface, as include/pinarewhemi.h declares it. Each function returns the refusal's number, 0 on success, and writes
 // every number that it is lent on every path; its promise is that of its call, said of these numbers.
+use job::read;
+use job::read::Checked;
+use job::read::Head;
+use job::read::Place;
+use job::unpack;
+use job::unpack::Unpacked;
+use job::write;
+use job::write::Unwritable;
+use job::write::Written;
+use number::Cursor;
+use number::Read;
+use number::refusal_no;
 use rule::Preset;
 use rule::Rule;
 ghost use mathlib.Core.Path.{_≡_};
 ghost use Rattle.rule.specs.Rules.{presetTold};
+ghost use Rattle.number.specs.Number.{number as readNumber};
+ghost use Rattle.job.specs.Calls.{checked, unpacked, headerWritten, outlineWritten, unwritableNo};
+ghost use Rattle.capi.specs.Lent.{presetLent, numberLent, numberSaid, checkLent, outlineLent, outlineSaid, unpackLent, writeLent};
 
 // The rule of a preset, or 15.
 #[no_mangle]
 pub extern "C" fn pw_preset(number: u32, threshold: &mut u32, weight: &mut u32) -> u32
-    ensures number { λ r. ⌜ r ≡ presetTold number .number ⌝ }
-    ensures threshold { λ r. ⌜ now (threshold .exit) ≡ presetTold number .threshold ⌝ }
-    ensures weight { λ r. ⌜ now (weight .exit) ≡ presetTold number .weight ⌝ }
+    ensures settled { λ r. ⌜ presetLent r (now (threshold .exit)) (now (weight .exit)) ≡ presetTold number ⌝ }
 {
     match Rule::preset(number) {
         Preset::Row(row) => {
@@ -23,5 +36,181 @@ pub extern "C" fn pw_preset(number: u32, threshold: &mut u32, weight: &mut u32) 
             *weight = 0;
             15
         }
+    }
+}
+
+// The number at a place of the bytes and the place past it; or 8, 9, 10 and the offset.
+#[no_mangle]
+pub extern "C" fn pw_number(
+    bytes: &[u8],
+    at: usize,
+    value: &mut u32,
+    next: &mut usize,
+    offset: &mut usize,
+) -> u32
+    ensures settled { λ r. ⌜ numberLent r (now (value .exit)) (now (next .exit)) (now (offset .exit)) ≡ numberSaid (readNumber (now (bytes .entry)) at) ⌝ }
+{
+    *value = 0;
+    *next = 0;
+    *offset = 0;
+    let cursor = Cursor { at };
+    match cursor.number(bytes) {
+        Read::Number(v, c) => {
+            *value = v;
+            *next = c.at;
+            0
+        }
+        Read::Fault(r, p) => {
+            *offset = p;
+            refusal_no(r)
+        }
+    }
+}
+
+// Threshold, weight and K of a whole job; or 12, 8 to 11 and the offset.
+#[no_mangle]
+pub extern "C" fn pw_job_check(
+    job: &[u8],
+    threshold: &mut u32,
+    weight: &mut u32,
+    outlines: &mut u32,
+    offset: &mut usize,
+) -> u32
+    ensures settled { λ r. ⌜ checkLent r (now (threshold .exit)) (now (weight .exit)) (now (outlines .exit)) (now (offset .exit)) ≡ checked (now (job .entry)) ⌝ }
+{
+    *threshold = 0;
+    *weight = 0;
+    *outlines = 0;
+    *offset = 0;
+    match read::check(job) {
+        Checked::Job {
+            threshold: t,
+            weight: w,
+            outlines: k,
+        } => {
+            *threshold = t;
+            *weight = w;
+            *outlines = k;
+            0
+        }
+        Checked::Refused(r, p) => {
+            *offset = p;
+            refusal_no(r)
+        }
+    }
+}
+
+// Where outline k of a job starts and how long it is; or what refuses the job, or 13.
+#[no_mangle]
+pub extern "C" fn pw_job_outline(
+    job: &[u8],
+    k: usize,
+    start: &mut usize,
+    length: &mut usize,
+    offset: &mut usize,
+) -> u32
+    ensures settled { λ r. ⌜ outlineLent r (now (start .exit)) (now (length .exit)) (now (offset .exit)) ≡ outlineSaid (now (job .entry)) k ⌝ }
+{
+    *start = 0;
+    *length = 0;
+    *offset = 0;
+    match read::whole(job) {
+        Head::Fault(r, p) => {
+            *offset = p;
+            refusal_no(r)
+        }
+        Head::Header {
+            threshold: _,
+            weight: _,
+            outlines: count,
+            next,
+        } => {
+            if count as usize <= k {
+                return 13;
+            }
+            match read::locate(job, next, k) {
+                Place::Fault(r, p) => {
+                    *offset = p;
+                    refusal_no(r)
+                }
+                Place::Part(from, to) => {
+                    *start = from;
+                    *length = to - from;
+                    0
+                }
+            }
+        }
+    }
+}
+
+// V, with the list filled from its front; or 8 to 11 and the offset in the part, or 14.
+#[no_mangle]
+pub extern "C" fn pw_unpack(
+    part: &[u8],
+    list: &mut [u16],
+    corners: &mut u32,
+    offset: &mut usize,
+) -> u32
+    ensures settled { λ r. ⌜ unpackLent r (now (corners .exit)) (now (offset .exit)) (now (list .exit)) ≡ unpacked (now (part .entry)) (now (list .entry)) ⌝ }
+{
+    *corners = 0;
+    *offset = 0;
+    match unpack::unpack(part, list) {
+        Unpacked::Corners(v) => {
+            *corners = v;
+            0
+        }
+        Unpacked::Refused(r, p) => {
+            *offset = p;
+            refusal_no(r)
+        }
+    }
+}
+
+// Document 01's number of what a writer refuses.
+fn unwritable_no(u: Unwritable) -> u32
+    ensures { λ n. ⌜ n ≡ unwritableNo u ⌝ }
+{
+    match u {
+        Unwritable::Rule => 1,
+        Unwritable::Length => 2,
+        Unwritable::Outlines => 10,
+        Unwritable::Room => 14,
+    }
+}
+
+// How many bytes of a header were written; or 1, 10, 14.
+#[no_mangle]
+pub extern "C" fn pw_write_header(
+    threshold: u32,
+    weight: u32,
+    outlines: u32,
+    out: &mut [u8],
+    written: &mut usize,
+) -> u32
+    ensures settled { λ r. ⌜ writeLent r (now (written .exit)) (now (out .exit)) ≡ headerWritten threshold weight outlines (now (out .entry)) ⌝ }
+{
+    *written = 0;
+    match write::write_header(threshold, weight, outlines, out) {
+        Written::Bytes(n) => {
+            *written = n;
+            0
+        }
+        Written::Refused(u) => unwritable_no(u),
+    }
+}
+
+// How many bytes of an outline were written; or 2, 14.
+#[no_mangle]
+pub extern "C" fn pw_write_outline(corners: &[u16], out: &mut [u8], written: &mut usize) -> u32
+    ensures settled { λ r. ⌜ writeLent r (now (written .exit)) (now (out .exit)) ≡ outlineWritten (now (corners .entry)) (now (out .entry)) ⌝ }
+{
+    *written = 0;
+    match write::write_outline(corners, out) {
+        Written::Bytes(n) => {
+            *written = n;
+            0
+        }
+        Written::Refused(u) => unwritable_no(u),
     }
 }

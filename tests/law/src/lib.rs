@@ -11,6 +11,7 @@
 //! | `cutting` | costs, verdicts and shots of a figure |
 //! | `call` | the fracture calls, with lent memory |
 //! | `bytes` | numbers, jobs, unpacking, the writers |
+//! | `program` | what the job program prints |
 //! | `nano` | the same costs once more, nanometre by nanometre, for small figures |
 //! | `every` | every cutting of a small figure, with its price |
 
@@ -20,6 +21,7 @@ pub mod cutting;
 pub mod every;
 pub mod figure;
 pub mod nano;
+pub mod program;
 
 /// What a call of the C interface gives back: the refusal's number (0 on success) and the single
 /// numbers that it was lent, in the order of the header, zeros behind them.

@@ -1,8 +1,7 @@
 -- `pw_preset` meets its contract: it lends on what the preset call tells. Assumes nothing.
-use mathlib.Core.Path.{ap, sym, _∙_}
-use borrow.Author.Needs.{needs}
+use Rattle.number.proofs.Reading.{told-as}
 use Rattle.rule.specs.Rules.{rowTold}
-use Rattle.capi.proofs.Lent.{preset-lent}
+use borrow.Author.Needs.{needs}
 use Rattle.capi.proofs.pw_preset.Statement.{statement}
 use Rattle.capi.proofs.pw_preset.Tie as tie
 
@@ -16,10 +15,10 @@ enum-told : tie.Need-enum-told
 enum-told c = search needs
 
 returns : tie.Need-returns
-returns c = preset-lent (sym (ap rowTold (c .before .row .given .1)) ∙ c .before .before .before .preset .ensures)
+returns c = told-as rowTold (c .before .row .given .1) (c .before .before .before .preset .ensures)
 
 returns-2 : tie.Need-returns-2
-returns-2 c = preset-lent (sym (ap rowTold (c .enum-told .given .1)) ∙ c .before .before .preset .ensures)
+returns-2 c = told-as rowTold (c .enum-told .given .1) (c .before .before .preset .ensures)
 
 pub pw-preset-spec : {M : Type 1} → statement M
 pw-preset-spec = tie.close (tie.spec preset-requires enum-known-row enum-told returns returns-2)

@@ -1,0 +1,67 @@
+-- The promises of the calls, said of the numbers that the C interface lends them. A slice is lent as it is; a part of a job is told
+-- by where it starts and how long it is.
+--
+--   presetLent n t w           == the number returned, and the threshold and weight lent
+--   NumberSaid, numberSaid     == what reading a number tells: document 01's number, the value, the place past it, the offset
+--   numberLent, checkLent, unpackLent, writeLent  == the number returned, the numbers lent, and what the slice lent holds then
+--   OutlineSaid, outlineSaid s k  == where outline k of the job s starts and how long it is, or the refusal and the offset
+--   outlineLent                == the number returned and the numbers lent
+use Prim.Native.Nat.{ℕ, _-_}
+use mathlib.Core.List.{List}
+use mathlib.Core.Bool.{cond}
+use lib.Dec.{ltb}
+use lib.ListN.{length, getD}
+use Rattle.rule.specs.Rules.{Told}
+use Rattle.number.specs.Reading.{Reading, read, fault, refusalNo}
+use Rattle.number.specs.declared.Refusal.the-variants.{Missing}
+use Rattle.job.specs.Job.{Job, Part, job}
+use Rattle.job.specs.Calls.{CheckSaid, UnpackSaid, WriteSaid, noPart}
+
+abbrev pub presetLent : ℕ → ℕ → ℕ → Told
+presetLent n t w = record { number = n; threshold = t; weight = w }
+
+pub record NumberSaid : Type 0 where
+  pub number : ℕ
+  pub value : ℕ
+  pub next : ℕ
+  pub offset : ℕ
+
+abbrev pub numberLent : ℕ → ℕ → ℕ → ℕ → NumberSaid
+numberLent n value next offset = record { number = n; value = value; next = next; offset = offset }
+
+-- a refusal has zeros beside its number and offset
+abbrev pub numberSaid : Reading ℕ → NumberSaid
+numberSaid (read v next) = numberLent 0 v next 0
+numberSaid (fault r at) = numberLent (refusalNo r) 0 0 at
+
+abbrev pub checkLent : ℕ → ℕ → ℕ → ℕ → ℕ → CheckSaid
+checkLent n t w k at = record { number = n; threshold = t; weight = w; outlines = k; offset = at }
+
+pub record OutlineSaid : Type 0 where
+  pub number : ℕ
+  pub start : ℕ
+  pub size : ℕ
+  pub offset : ℕ
+
+abbrev pub outlineLent : ℕ → ℕ → ℕ → ℕ → OutlineSaid
+outlineLent n start size at = record { number = n; start = start; size = size; offset = at }
+
+-- a part, from its V to past its last coordinate
+abbrev pub partSaid : Part → OutlineSaid
+partSaid p = outlineLent 0 (p .start) (p .end - p .start) 0
+
+-- the part k of a job that is read, or 13; else the job's first fault
+abbrev pub jobPart : ℕ → Reading Job → OutlineSaid
+jobPart k (read j last) =
+    cond (ltb k (length (j .parts))) (partSaid (getD (j .parts) k noPart)) (outlineLent (refusalNo Missing) 0 0 0)
+jobPart k (fault r at) = outlineLent (refusalNo r) 0 0 at
+
+-- where outline k of the bytes s stands
+unfoldable pub outlineSaid : List ℕ → ℕ → OutlineSaid
+outlineSaid s k = jobPart k (job s)
+
+abbrev pub unpackLent : ℕ → ℕ → ℕ → List ℕ → UnpackSaid
+unpackLent n corners at list = record { number = n; corners = corners; offset = at; list = list }
+
+abbrev pub writeLent : ℕ → ℕ → List ℕ → WriteSaid
+writeLent n bytes out = record { number = n; bytes = bytes; out = out }
