@@ -8,7 +8,7 @@
 --   Halves, halves                       : the parts of a cut are smaller pieces of the grid, and their shots are the piece's
 --   low-valid .. parts                   : the same of the parts as the code has made them
 --   shown-of, emit-low, emit-high        : what the parts of an emission ask
---   count-few, slivers-few               : how many shots, and how long their slivers, at most
+--   count-cells, count-few, slivers-few  : how many shots, and how long their slivers, at most
 use Prim.Native.Nat.{ℕ, zero, suc, _+_, _*_, _-_, _≤_, _<_}
 use mathlib.Core.Path.{_≡_, refl, ap, ap₂, sym, _∙_, subst}
 use mathlib.Core.List.{List, [], _∷_, _++_}
@@ -16,15 +16,16 @@ use native.Mathlib.Omega.{arith}
 use native.Mathlib.Nat.{add-zero}
 use lib.ListN.{length, getD, set, length-append}
 use lib.Seq.{sets}
-use Rattle.sum.specs.Sum.{sumOf}
-use Rattle.sum.proofs.Lists.{sumOf-append}
+use Rattle.sum.specs.Sum.{sumOf, only}
+use Rattle.sum.proofs.Sum.{only-most}
+use Rattle.sum.proofs.Lists.{sumOf-append, sumOf-ones, sumOf-le, All-imp}
 use Rattle.recurrence.specs.Scheme.{Kind, outside, full, mixed}
 use Rattle.outline.specs.Grid.{Grid}
 use Rattle.rule.specs.declared.Rule.{Rule}
-use Rattle.piece.specs.Piece.{Piece, kind, cells, sliver}
+use Rattle.piece.specs.Piece.{Piece, kind, cells, cellSum, sliver}
 use Rattle.piece.specs.Straight.{Cut, vertical, horizontal, choice, shots, numbers}
-use Rattle.piece.proofs.Cells.{sum-vertical, sum-horizontal, cells-some}
-use Rattle.piece.proofs.Straight.{shots-outside, shots-full}
+use Rattle.piece.proofs.Cells.{sum-vertical, sum-horizontal, cells-some, sum-le}
+use Rattle.piece.proofs.Straight.{shots-outside, shots-full, shots-part, cover}
 use Rattle.piece.proofs.Choice.{InPiece, choice-in, shots-vertical, shots-horizontal, numbers-one, numbers-none, numbers-append, numbers-length}
 use Rattle.piece.proofs.Bound.{count-most, slivers-most}
 use Rattle.table.specs.Entry.{Valid}
@@ -179,6 +180,18 @@ module _ (g : Grid) (r : Rule) (t cs : List ℕ) (plan : Plan) (f : Filled g r t
   pub slivers-few : sumOf (sliver g r) (shots g r p) ≤ 2097120
   slivers-few =
       slivers-most g r (f .sound) p (omega (arith, v .ac)) (omega (arith, v .cx, f .columns)) (omega (arith, v .bd)) (omega (arith, v .dy, f .rows))
+
+-- each shot has a cell of its own
+pub count-cells : (g : Grid) (r : Rule) (p : Piece) → length (shots g r p) ≤ cells p
+unfolding cells
+count-cells g r p =
+    omega (
+      arith,
+      sumOf-ones (shots g r p),
+      sumOf-le (λ s. 1) (cellSum (λ i j. 1)) (shots g r p) (All-imp (λ s w. cells-some s (w .ac) (w .bd)) (shots g r p) (shots-part g r p)),
+      cover g r (λ i j. 1) p,
+      sum-le (λ i j. only (g .inside i j) 1) (λ i j. 1) p (λ i j w. only-most (g .inside i j) 1),
+    )
 
 -- the parts, as the code has made them
 module _ (g : Grid) (r : Rule) (plan : Plan) (p : Piece) (k : Direction) (h : Halves g r plan p k) where

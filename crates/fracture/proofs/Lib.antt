@@ -1,4 +1,5 @@
 pub mod Across
+pub mod Delivered
 pub mod Emitted
 pub mod Judged
 pub mod Lengths

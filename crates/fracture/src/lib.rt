@@ -1,6 +1,7 @@
 // From an outline to its shots: the verdict of each piece, emission, and the two calls.
 use outline::Line;
 
+mod delivery;
 mod emission;
 mod judging;
 mod slivers;
@@ -31,4 +32,21 @@ pub struct Plan {
     pub columns: usize,
     pub rows: usize,
     pub threshold: u32,
+}
+
+// Why a fracture is refused, in document 01's order, 1 to 7. A list that is too short tells how many shots there are.
+pub enum Refusal {
+    Rule,
+    Length,
+    Slanted,
+    Straight,
+    Empty,
+    Table,
+    List(u32),
+}
+
+// What a fracture answers: how many shots, their cost in thousandths of a shot and their sliver length in nm; or why there are none.
+pub enum Fractured {
+    Done { shots: u32, cost: u32, sliver: u32 },
+    Refused(Refusal),
 }

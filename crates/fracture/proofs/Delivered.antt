@@ -1,0 +1,145 @@
+-- Laws of the delivery. Assumes nothing.
+--
+--   area-few                      : a grid has at most 225 cells
+--   room-all, room-fits, room-short : a number for each of four for each cell; room for the count; and not
+--   told-lacking, told-listed     : the answer of a list that is too short, and of one that is not
+use Prim.Native.Nat.{ℕ, suc, _+_, _*_, _-_, _≤_, _<_}
+use mathlib.Core.Path.{_≡_, refl, ap, ap₂, sym, _∙_, subst}
+use mathlib.Core.Bool.{Bool, true, false, cond}
+use mathlib.Core.List.{List, [], _∷_, _++_}
+use native.Mathlib.Omega.{arith}
+use native.Mathlib.Nat.{mul-le-mul, zero-add}
+use lib.Dec.{ltb}
+use lib.ListN.{length, getD, take, drop}
+use lib.Seq.{sets, sets-eq}
+use borrow.Author.Tests.{lt-ltb, le-ltb, ltb-true, ltb-false}
+use Rattle.sum.specs.Sum.{sumOf}
+use Rattle.outline.specs.Grid.{Grid}
+use Rattle.rule.specs.declared.Rule.{Rule}
+use Rattle.piece.specs.Piece.{Piece, box, frame, cells, sliver, charge}
+use Rattle.piece.specs.Straight.{shots, cost, numbers}
+use Rattle.piece.proofs.Cells.{cells-product}
+use Rattle.piece.proofs.Choice.{numbers-length}
+use Rattle.table.specs.Entry.{Valid, entryOf}
+use Rattle.demands.specs.Promise.{Outcome, written}
+use Rattle.fracture.specs.declared.Plan.{Plan}
+use Rattle.fracture.specs.declared.Refusal.the-variants as because
+use Rattle.fracture.specs.declared.Fractured.the-variants.{Done, Refused}
+use Rattle.fracture.specs.declared.delivery.Room.{Room}
+use Rattle.fracture.specs.declared.delivery.Room.the-variants.{Enough, Short}
+use Rattle.fracture.specs.declared.emission.Tally.{Tally}
+use Rattle.fracture.specs.Memory.{Filled}
+use Rattle.fracture.specs.Emission.{Written, Walk, Emittable}
+use Rattle.fracture.specs.Delivery.{roomOf, Walkable, all, listed, lacking, delivered}
+use Rattle.fracture.specs.Told.{told}
+use Rattle.fracture.proofs.Emitted.{count-cells}
+
+pub room-fits : (n : ℕ) {m l : ℕ} → m ≡ l → 4 * m ≤ n → Enough ≡ roomOf n l
+unfolding roomOf
+room-fits n {m} {l} e h = sym (ap (λ t. cond t (Short l) Enough) (le-ltb n (4 * l) (omega arith)))
+
+pub room-short : (n : ℕ) {m l : ℕ} → m ≡ l → n < 4 * m → Short m ≡ roomOf n l
+unfolding roomOf
+room-short n {m} {l} e h = ap Short e ∙ sym (ap (λ t. cond t (Short l) Enough) (lt-ltb n (4 * l) (omega arith)))
+
+module _ (g : Grid) (r : Rule) (t cs : List ℕ) (plan : Plan) (f : Filled g r t cs plan) where
+  pub area-few : plan .columns * plan .rows ≤ 225
+  area-few =
+      let s = f .sound in
+      mul-le-mul {n₁ = plan .columns} {m₁ = plan .rows} {n₂ = 15} {m₂ = 15} (omega (arith, f .columns, s .columns-most)) (omega (arith, f .rows, s .rows-most))
+
+  pub room-all : (p : Piece) → Valid (plan .columns) (plan .rows) p → (n : ℕ) → 4 * (plan .columns * plan .rows) ≤ n → Enough ≡ roomOf n (length (shots g r p))
+  room-all p v n h =
+      room-fits n refl
+      (omega (
+        arith,
+        count-cells g r p,
+        cells-product p (omega (arith, v .ac)) (omega (arith, v .bd)),
+        mul-le-mul {n₁ = p .c - p .a} {m₁ = p .d - p .b} {n₂ = plan .columns} {m₂ = plan .rows} (omega (arith, v .cx)) (omega (arith, v .dy)),
+      ))
+
+  -- the frame is a piece
+  pub frame-valid : Valid (plan .columns) (plan .rows) (box 0 (plan .columns) 0 (plan .rows))
+  frame-valid =
+      let s = f .sound in
+      record {
+        ac = omega (arith, f .columns, s .columns-some);
+        cx = omega arith;
+        bd = omega (arith, f .rows, s .rows-some);
+        dy = omega arith;
+      }
+
+  pub frame-is : box 0 (plan .columns) 0 (plan .rows) ≡ frame g
+  unfolding frame
+  frame-is = ap₂ (λ c d. box 0 c 0 d) (f .columns) (f .rows)
+
+-- a run of stores from the front on
+sets-front : (l vs : List ℕ) → length vs ≤ length l → sets l 0 vs ≡ written vs l
+unfolding written
+sets-front l vs h = sets-eq vs l 0 (omega arith) ∙ rw zero-add
+
+-- what the room says of the count
+pub short-says : (n m k : ℕ) → Short k ≡ roomOf n m → (k ≡ m) × (n < 4 * m)
+unfolding roomOf
+short-says n m k e = go (ltb n (4 * m)) refl e
+  where
+    go : (t : Bool) → ltb n (4 * m) ≡ t → Short k ≡ cond t (Short m) Enough → (k ≡ m) × (n < 4 * m)
+    go true h e = (cc, ltb-true n (4 * m) h)
+    go false h e = absurd (let z : _≡_ {A = ℕ} 0 1 = cc in omega arith)
+
+pub enough-says : (n m : ℕ) → Enough ≡ roomOf n m → 4 * m ≤ n
+unfolding roomOf
+enough-says n m e = go (ltb n (4 * m)) refl e
+  where
+    go : (t : Bool) → ltb n (4 * m) ≡ t → Enough ≡ cond t (Short m) Enough → 4 * m ≤ n
+    go true h e = absurd (let z : _≡_ {A = ℕ} 0 1 = cc in omega arith)
+    go false h e = ltb-false n (4 * m) h
+
+-- the frame, as the code has made it
+module _ (g : Grid) (r : Rule) (t cs xs ys : List ℕ) (plan : Plan) (w : Walk g r t cs xs ys plan) (q : Piece)
+    (e : q ≡ box 0 (plan .columns) 0 (plan .rows)) where
+  pub whole-valid : Valid (plan .columns) (plan .rows) q
+  whole-valid = subst (Valid (plan .columns) (plan .rows)) (sym e) (frame-valid g r t cs plan (w .filled))
+
+  same : shots g r q ≡ shots g r (frame g)
+  same = ap (shots g r) (e ∙ frame-is g r t cs plan (w .filled))
+
+  pub whole-emittable : {n : ℕ} → Enough ≡ roomOf n (length (shots g r q)) → Emittable t cs xs ys n plan 0 q
+  whole-emittable {n} h =
+      record {
+        grid = g;
+        rule = r;
+        walk = w;
+        valid = whole-valid;
+        fits = omega (arith, enough-says n (length (shots g r q)) h);
+      }
+
+  pub told-lacking : (list : List ℕ) {k : ℕ} → Short k ≡ roomOf (length list) (length (shots g r q))
+      → told (Refused (because.List k)) t list ≡ delivered g r t list
+  unfolding delivered
+  told-lacking list {k} h =
+      let s = short-says (length list) (length (shots g r q)) k h in
+      let b : length list < 4 * length (all g r t list) = omega (arith, s .1, ap length same) in
+      (λ i. record { number = 7; shots = (s .0 ∙ ap length same) i; cost = 0; sliver = 0; table = t; list = list })
+      ∙ sym (ap (λ x. cond x (lacking g r t list) (listed g r t list)) (lt-ltb (length list) (4 * length (all g r t list)) b))
+
+  pub told-listed : (list list′ : List ℕ) (a : Tally) {c at : ℕ} → Enough ≡ roomOf (length list) (length (shots g r q))
+      → Written g r list list′ 0 (shots g r q) a
+      → at ≡ entryOf (plan .columns) (plan .rows) q
+      → c ≡ getD t at 0
+      → told (Done (a .shots) c (a .sliver)) t list′ ≡ delivered g r t list
+  unfolding delivered cost
+  told-listed list list′ a h v at-e c-e =
+      let m = enough-says (length list) (length (shots g r q)) h in
+      let b : 4 * length (all g r t list) ≤ length list = omega (arith, m, ap length same) in
+      let n = v .list ∙ sets-front list (numbers g (shots g r q)) (omega (arith, m, numbers-length g (shots g r q))) in
+      (λ i.
+      record {
+        number = 0;
+        shots = (v .count ∙ ap length same) i;
+        cost = (c-e ∙ ap (λ j. getD t j 0) at-e ∙ w .filled .cost-at q whole-valid ∙ ap (sumOf (charge g r)) same) i;
+        sliver = (v .slivers ∙ ap (sumOf (sliver g r)) same) i;
+        table = t;
+        list = (n ∙ ap (λ s. written (numbers g s) list) same) i;
+      })
+      ∙ sym (ap (λ x. cond x (lacking g r t list) (listed g r t list)) (le-ltb (length list) (4 * length (all g r t list)) b))

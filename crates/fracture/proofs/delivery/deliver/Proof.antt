@@ -1,0 +1,110 @@
+-- `fracture::delivery::deliver` meets its contract. Assumes nothing.
+use Prim.Native.Nat.{_<_}
+use mathlib.Core.Path.{refl, sym, _∙_}
+use native.Mathlib.Omega.{arith}
+use borrow.Author.Needs.{needs}
+use lib.ListN.{length}
+use Rattle.table.proofs.Entry.{entry-below}
+use Rattle.fracture.proofs.Emitted.{count-few}
+use Rattle.fracture.proofs.Delivered.{whole-valid, whole-emittable, short-says, told-lacking, told-listed}
+use Rattle.fracture.proofs.delivery.deliver.Statement.{statement}
+use Rattle.fracture.proofs.delivery.deliver.Tie as tie
+use Rattle.fracture.proofs.delivery.deliver.Reads as reads
+use Rattle.fracture.proofs.delivery.deliver.Lts as lts
+use Rattle.fracture.proofs.delivery.room_for.Reads as room-for-reads
+use Rattle.fracture.proofs.delivery.whole.Reads as whole-reads
+use Rattle.fracture.proofs.emission.emit.Reads as emit-reads
+use Rattle.table.proofs.numbering.entry.Reads as entry-reads
+
+whole-requires : tie.Need-whole-requires
+whole-requires c κs = search needs
+
+room-for-requires : tie.Need-room-for-requires
+room-for-requires c κs =
+    let w = c .before .before .before .before .before .before .pre in
+    record {
+      grid = w .grid;
+      rule = w .rule;
+      filled = w .walk .filled;
+      valid = whole-valid _ _ _ _ _ _ _ (w .walk) _ (c .whole .ensures);
+    }
+
+enum-known-room : tie.Need-enum-known-room
+enum-known-room c = search needs
+
+cast-t17 : tie.Need-cast-t17
+cast-t17 c =
+    let w = c .before .before .before .before .before .before .before .before .before .before .pre in
+    let s = short-says _ _ _ (sym (c .before .room .given .1) ∙ c .before .before .before .room-for .ensures (w .grid) (w .rule) (w .walk .filled)) in
+    omega (arith, s .0, count-few _ _ _ _ _ (w .walk .filled) _ (whole-valid _ _ _ _ _ _ _ (w .walk) _ (c .before .before .before .before .whole .ensures)))
+
+enum-told : tie.Need-enum-told
+enum-told c = search needs
+
+emit-requires : tie.Need-emit-requires
+emit-requires c κs =
+    let w = c .before .before .before .before .before .before .before .before .before .before .pre in
+    whole-emittable _ _ _ _ _ _ _ (w .walk) _ (c .before .before .before .before .whole .ensures)
+    (sym (c .before .enum-told .given .1) ∙ c .before .before .before .room-for .ensures (w .grid) (w .rule) (w .walk .filled))
+
+entry-requires : tie.Need-entry-requires
+entry-requires c κs =
+    let w = c .before .before .before .before .before .before .before .before .before .before .before .before .before .pre in
+    let f = w .walk .filled in
+    let s = f .sound in (
+      omega (arith, f .columns, s .columns-most),
+      (omega (arith, f .rows, s .rows-most), whole-valid _ _ _ _ _ _ _ (w .walk) _ (c .before .before .before .before .before .before .before .whole .ensures)),
+    )
+
+-- the frame's entry is the table's
+within : (c : tie.After-entry) → c .entry .result < length (c .before .before .before .before .before .before .before .before .before .before .before .before .before .before .args .costs .now)
+within c = let f = c .before .before .before .before .before .before .before .before .before .before .before .before .before .before .pre .walk .filled in omega (arith, c .entry .ensures .1, f .entries)
+
+mul-cost : tie.Need-mul-cost
+mul-cost c = omega (arith, within c)
+
+shared-slice-read-cost : tie.Need-shared-slice-read-cost
+shared-slice-read-cost c = within (c .before)
+
+cast-t23 : tie.Need-cast-t23
+cast-t23 c =
+    let w = c .before .before .before .before .before .before .before .before .before .before .before .before .before .before .before .before .pre in
+    omega (
+      arith,
+      c .before .before .before .before .before .emit .ensures (w .grid) (w .rule) (w .walk) .count,
+      count-few _ _ _ _ _ (w .walk .filled) _ (whole-valid _ _ _ _ _ _ _ (w .walk) _ (c .before .before .before .before .before .before .before .before .before .before .whole .ensures)),
+    )
+
+returns : tie.Need-returns
+returns c g r w =
+    told-lacking _ _ _ _ _ _ _ w _ (c .before .before .before .before .whole .ensures) _
+    (sym (c .before .room .given .1) ∙ c .before .before .before .room-for .ensures g r (w .filled))
+
+same-length : tie.Need-same-length
+same-length c = search needs
+
+returns-2 : tie.Need-returns-2
+returns-2 c g r w =
+    told-listed _ _ _ _ _ _ _ w _ (c .before .before .before .before .before .before .before .before .before .before .whole .ensures) _ _ _
+    (sym (c .before .before .before .before .before .before .before .enum-told .given .1) ∙ c .before .before .before .before .before .before .before .before .before .room-for .ensures g r (w .filled))
+    (c .before .before .before .before .before .emit .ensures g r w)
+    (c .before .before .entry .ensures .0)
+    refl
+
+pub deliver-spec : {M : Type 1} → statement M
+deliver-spec =
+    tie.close
+    (tie.spec
+    whole-requires
+    room-for-requires
+    enum-known-room
+    cast-t17
+    enum-told
+    emit-requires
+    entry-requires
+    mul-cost
+    shared-slice-read-cost
+    cast-t23
+    returns
+    same-length
+    returns-2)

@@ -1,0 +1,64 @@
+-- What the call delivers once it has a grid.
+--
+--   roomOf n m               == whether n numbers have room for m shots
+--   Walkable ..              == what is lent speaks of some grid and rule
+--   delivered g r table list == the outcome of listing the shots of the grid g under the rule r, table being filled: 7, or a success
+--   settled g r table list   == the outcome with a table that is yet to be filled: 6, 7, or a success
+use Prim.Native.Nat.{ℕ, _*_}
+use mathlib.Core.Bool.{cond}
+use mathlib.Core.List.{List}
+use lib.Dec.{ltb}
+use lib.ListN.{length}
+use Rattle.sum.specs.Sum.{sumOf}
+use Rattle.outline.specs.Grid.{Grid}
+use Rattle.rule.specs.declared.Rule.{Rule}
+use Rattle.piece.specs.Piece.{Piece, frame, sliver, charge}
+use Rattle.piece.specs.Straight.{shots, numbers}
+use Rattle.table.specs.Entry.{entryCount, costs}
+use Rattle.demands.specs.Promise.{Outcome, written}
+use Rattle.fracture.specs.declared.Plan.{Plan}
+use Rattle.fracture.specs.declared.delivery.Room.{Room}
+use Rattle.fracture.specs.declared.delivery.Room.the-variants.{Enough, Short}
+use Rattle.fracture.specs.Emission.{Walk}
+
+-- four numbers for each shot
+unfoldable pub roomOf : ℕ → ℕ → Room
+roomOf n m = cond (ltb n (4 * m)) (Short m) Enough
+
+pub record Walkable (table cells xs ys : List ℕ) (plan : Plan) : Type 0 where
+  pub grid : Grid
+  pub rule : Rule
+  pub walk : Walk grid rule table cells xs ys plan
+
+module _ (g : Grid) (r : Rule) (table list : List ℕ) where
+  -- the shots of the whole grid
+  abbrev pub all : List Piece
+  all = shots g r (frame g)
+
+  -- the count, the sums and the numbers of these very shots
+  abbrev pub listed : Outcome
+  listed =
+      record {
+        number = 0;
+        shots = length all;
+        cost = sumOf (charge g r) all;
+        sliver = sumOf (sliver g r) all;
+        table = table;
+        list = written (numbers g all) list;
+      }
+
+  -- only the count, and the list as it was
+  abbrev pub lacking : Outcome
+  lacking = record { number = 7; shots = length all; cost = 0; sliver = 0; table = table; list = list }
+
+  -- by the room that the list has
+  unfoldable pub delivered : Outcome
+  delivered = cond (ltb (length list) (4 * length all)) lacking listed
+
+module _ (g : Grid) (r : Rule) (table list : List ℕ) where
+  -- a table with too few entries is left as it was, and so is the list; else it begins with every cost
+  unfoldable pub settled : Outcome
+  settled =
+      cond (ltb (length table) (entryCount (g .columns) (g .rows)))
+      (record { number = 6; shots = 0; cost = 0; sliver = 0; table = table; list = list })
+      (delivered g r (written (costs g r) table) list)

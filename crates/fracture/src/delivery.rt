@@ -1,0 +1,90 @@
+// From a filled table to the list: is there room for the shots, and then the shots.
+use super::Fractured;
+use super::Piece;
+use super::Plan;
+use super::Refusal;
+use super::emission::count;
+use super::emission::emit;
+use outline::Line;
+use table::numbering::entry;
+ghost use mathlib.Core.Path.{_≡_};
+ghost use Prim.Native.Nat.{ℕ, _+_, _*_, _<_, _≤_};
+ghost use lib.ListN.{length};
+ghost use Rattle.outline.specs.Grid.{Grid};
+ghost use Rattle.rule.specs.declared.Rule.{Rule};
+ghost use Rattle.piece.specs.Piece.{box, frame};
+ghost use Rattle.piece.specs.Straight.{shots};
+ghost use Rattle.fracture.specs.Verdict.{meant};
+ghost use Rattle.fracture.specs.Memory.{Filled, Ready};
+ghost use Rattle.fracture.specs.Emission.{Walk};
+ghost use Rattle.fracture.specs.Delivery.{roomOf, Walkable, delivered};
+ghost use Rattle.fracture.specs.Told.{told};
+
+// Whether a list has room for the shots, and how many there are where it has not.
+pub enum Room {
+    Enough,
+    Short(usize),
+}
+
+// The piece from the lowest lines to the highest.
+fn whole(plan: Plan) -> Piece
+    ensures { λ p. ⌜ meant p ≡ box 0 (plan .columns) 0 (plan .rows) ⌝ }
+{
+    let columns = plan.columns;
+    let rows = plan.rows;
+    Piece {
+        a: Line(0),
+        c: Line(columns),
+        b: Line(0),
+        d: Line(rows),
+    }
+}
+
+// Whether so many numbers have room for the shots of the frame. There are no more shots than cells, so most lists need no count.
+fn room_for(costs: &[u32], cells: &[u8], plan: Plan, frame: Piece, numbers: usize) -> Room
+    requires { ⌜ Ready (now costs) (now cells) plan (meant frame) ⌝ }
+    ensures { λ a. ⌜ ((g : Grid) (r : Rule) → Filled g r (now (costs .entry)) (now (cells .entry)) plan → a ≡ roomOf numbers (length (shots g r (meant frame)))) ⌝ }
+{
+    let columns = plan.columns;
+    let rows = plan.rows;
+    if 4 * (columns * rows) <= numbers {
+        return Room::Enough;
+    }
+    let needed = count(costs, cells, plan, frame);
+    if numbers < 4 * needed {
+        Room::Short(needed)
+    } else {
+        Room::Enough
+    }
+}
+
+// Writes the shots of the frame, or tells how many there are where the list is too short for them; then it is left as it is.
+pub fn deliver(
+    costs: &[u32],
+    cells: &[u8],
+    xs: &[u16],
+    ys: &[u16],
+    list: &mut [u16],
+    plan: Plan,
+) -> Fractured
+    requires { ⌜ Walkable (now costs) (now cells) (now xs) (now ys) plan ⌝ }
+    ensures { λ a. ⌜ ((g : Grid) (r : Rule) → Walk g r (now (costs .entry)) (now (cells .entry)) (now (xs .entry)) (now (ys .entry)) plan → told a (now (costs .entry)) (now (list .exit)) ≡ delivered g r (now (costs .entry)) (now (list .entry))) ⌝ }
+{
+    let frame = whole(plan);
+    let room = room_for(costs, cells, plan, frame, list.len());
+    match room {
+        Room::Short(needed) => Fractured::Refused(Refusal::List(needed as u32)),
+        Room::Enough => {
+            let tally = emit(costs, cells, xs, ys, list, plan, 0, frame);
+            let columns = plan.columns;
+            let rows = plan.rows;
+            let at = entry(columns, rows, frame.a, frame.c, frame.b, frame.d);
+            let cost = costs[at];
+            Fractured::Done {
+                shots: tally.shots as u32,
+                cost,
+                sliver: tally.sliver,
+            }
+        }
+    }
+}
