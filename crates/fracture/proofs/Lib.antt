@@ -4,4 +4,5 @@ pub mod Emitted
 pub mod Judged
 pub mod Lengths
 pub mod Search
+pub mod Settled
 pub mod Sides
