@@ -170,13 +170,16 @@ module _ (s : List ℕ) where
           let p : ended j last ≡ fault Extra last = simp lt-ltb in
           job-short (then-same (together h) (sym (u .1)) ∙ then-same bodied e) ∙ p
 
-      pub job-read : {last : ℕ} → read tt last ≡ past (outlines s (h .count) next) → length s ≤ last → (j : Job) × (job s ≡ read j last)
+      pub job-made : {ps : List Part} {last : ℕ} → outlines s (h .count) next ≡ read ps last → length s ≤ last
+          → job s ≡ read (record { threshold = h .threshold; weight = h .weight; parts = ps }) last
       unfolding body bodied together ended
-      job-read {last} f k =
-          let u = past-read (outlines s (h .count) next) f in
-          let j : Job = record { threshold = h .threshold; weight = h .weight; parts = u .0 } in
+      job-made {ps} {last} f k =
+          let j : Job = record { threshold = h .threshold; weight = h .weight; parts = ps } in
           let p : ended j last ≡ read j last = simp le-ltb in
-          (j, job-short (then-same (together h) (sym (u .1)) ∙ then-same bodied e) ∙ p)
+          job-short (then-same (together h) (sym f) ∙ then-same bodied e) ∙ p
+
+      pub job-read : {last : ℕ} → read tt last ≡ past (outlines s (h .count) next) → length s ≤ last → (j : Job) × (job s ≡ read j last)
+      job-read f k = let u = past-read (outlines s (h .count) next) f in (_, job-made (u .1) k)
 
 -- what a job that is read is made of
 pub record Whole (s : List ℕ) (j : Job) (last : ℕ) : Type 0 where

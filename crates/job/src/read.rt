@@ -204,9 +204,9 @@ pub fn take<'a>(job: &'a [u8], k: usize, refusal: &mut u32, offset: &mut usize) 
     ensures settled { λ r. ⌜ told (now (refusal .exit)) (now (offset .exit)) (now r) ≡ taken (now (job .entry)) k ⌝ }
 {
     match whole(job) {
-        Head::Fault(r, p) => {
-            *refusal = refusal_no(r);
-            *offset = p;
+        Head::Fault(fault, at) => {
+            *refusal = refusal_no(fault);
+            *offset = at;
             &job[0..0]
         }
         Head::Header {

@@ -126,11 +126,11 @@ pub fn write_outline(corners: &[u16], out: &mut [u8]) -> Written
         return Written::Refused(Unwritable::Length);
     }
     let v = (count / 2) as u32;
-    let n = size(v) + sizes(corners);
-    if out.len() < n {
+    let need = size(v) + sizes(corners);
+    if out.len() < need {
         return Written::Refused(Unwritable::Room);
     }
     let at = put(out, 0, v);
     put_all(corners, out, at);
-    Written::Bytes(n)
+    Written::Bytes(need)
 }

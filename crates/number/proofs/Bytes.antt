@@ -3,7 +3,8 @@
 --   Stands s at l    == the bytes l stand in s at a place
 --   AllBytes s       == each number of s is a byte
 --   stands-at        == what stands at a place, one byte of it
---   stands-front, stands-back == the two parts of what stands at a place
+--   stands-join, stands-front, stands-back == the two parts of what stands at a place
+--   stands-whole     == the whole of some bytes stands at their front
 --   bytes-one, bytes-two, bytes-three == the cases of `numberBytes`
 --   bytes-length     == a number has 1 to 3 bytes
 --   number-back      == a number's bytes are read as that number, up to the place past them
@@ -18,7 +19,7 @@ use native.Mathlib.Numerals.{add-one}
 use native.Mathlib.Omega.{arith}
 use lib.Dec.{ltb, leb, eqb}
 use lib.ListN.{length, getD, take, drop, length-take, length-drop, length-append}
-use lib.Seq.{drop-cons, getD-take, getD-drop, take-append-seam, take-take, drop-drop, take-at, drop-at}
+use lib.Seq.{drop-cons, getD-take, getD-drop, take-add, take-append-seam, drop-append-seam, take-take, take-length, drop-drop, drop-at}
 use borrow.Author.Tests.{ltb-true, ltb-false, leb-true, leb-false, eqb-false, eqb-true, lt-ltb, le-ltb}
 use Rattle.number.specs.declared.Refusal.{Refusal}
 use Rattle.number.specs.declared.Refusal.the-variants.{Ends, Padded, Range}
@@ -43,6 +44,34 @@ module _ (s : List ℕ) (at : ℕ) (l : List ℕ) (e : Stands s at l) where
 
   pub stands-room : length l ≤ length s - at
   stands-room = omega (arith, simp (length-take, length-drop) at (ap length e))
+
+module _ (s : List ℕ) (at : ℕ) (a b : List ℕ) where
+  -- the bytes at a place, in two parts
+  two-parts : take (length (a ++ b)) (drop at s) ≡ take (length a) (drop at s) ++ take (length b) (drop (at + length a) s)
+  two-parts =
+      ap (λ n. take n (drop at s)) (length-append a b)
+      ∙ take-add (length a) (length b) (drop at s)
+      ∙ ap (λ (l : List ℕ). take (length a) (drop at s) ++ take (length b) l) (drop-drop (length a) at s)
+
+  pub stands-join : Stands s at a → Stands s (at + length a) b → Stands s at (a ++ b)
+  stands-join e f = two-parts ∙ ap₂ (λ (l m : List ℕ). l ++ m) e f
+
+  module _ (e : Stands s at (a ++ b)) where
+    pub stands-front : Stands s at a
+    stands-front =
+        sym (take-take (length a) (length (a ++ b)) (drop at s) (omega (arith, length-append a b)))
+        ∙ ap (take (length a)) e
+        ∙ take-append-seam a b
+
+    pub stands-back : Stands s (at + length a) b
+    stands-back =
+        sym (drop-at (take (length a) (drop at s)) (take (length b) (drop (at + length a) s)) (length a) (ap length stands-front))
+        ∙ ap (drop (length a)) (sym two-parts ∙ e)
+        ∙ drop-append-seam a b
+
+-- the whole of some bytes stands at their front
+pub stands-whole : (s : List ℕ) → Stands s 0 s
+stands-whole s = take-length s
 
 -- the cases of a number's bytes
 

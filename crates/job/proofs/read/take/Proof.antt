@@ -15,8 +15,8 @@ use Rattle.number.proofs.refusal_no.Reads as refusal-no-reads
 whole-requires : tie.Need-whole-requires
 whole-requires c κs = search needs
 
-enum-known-r : tie.Need-enum-known-r
-enum-known-r c = search needs
+enum-known-fault : tie.Need-enum-known-fault
+enum-known-fault c = search needs
 
 refusal-no-requires : tie.Need-refusal-no-requires
 refusal-no-requires c κs = search needs
@@ -54,8 +54,8 @@ returns c = taken-missing _ _ (told-as headTold (c .before .before .before .befo
 locate-requires : tie.Need-locate-requires
 locate-requires c κs = search needs
 
-enum-known-r-2 : tie.Need-enum-known-r-2
-enum-known-r-2 c = search needs
+enum-known-r : tie.Need-enum-known-r
+enum-known-r c = search needs
 
 refusal-no-requires-3 : tie.Need-refusal-no-requires-3
 refusal-no-requires-3 c κs = search needs
@@ -82,10 +82,10 @@ part-result-end-4 : tie.Need-part-result-end-4
 part-result-end-4 c = omega (arith, located-within _ _ _ (told-as placeTold (c .before .start .given .1) (c .before .before .before .locate .ensures)))
 
 returns-2 : tie.Need-returns-2
-returns-2 c = taken-fault _ _ (told-as headTold (c .before .before .before .r .given .1) (c .before .before .before .before .before .whole .ensures)) (c .before .refusal-no .ensures)
+returns-2 c = taken-fault _ _ (told-as headTold (c .before .before .before .fault .given .1) (c .before .before .before .before .before .whole .ensures)) (c .before .refusal-no .ensures)
 
 returns-3 : tie.Need-returns-3
-returns-3 c = absurd (taken-never _ _ (told-as headTold (c .before .before .before .before .before .before .before .before .count .given .1) (c .before .before .before .before .before .before .before .before .before .before .whole .ensures)) (omega arith) (told-as placeTold (c .before .before .before .r2 .given .1) (c .before .before .before .before .before .locate .ensures)))
+returns-3 c = absurd (taken-never _ _ (told-as headTold (c .before .before .before .before .before .before .before .before .count .given .1) (c .before .before .before .before .before .before .before .before .before .before .whole .ensures)) (omega arith) (told-as placeTold (c .before .before .before .r .given .1) (c .before .before .before .before .before .locate .ensures)))
 
 returns-4 : tie.Need-returns-4
 returns-4 c = taken-part _ _ (told-as headTold (c .before .before .before .before .before .before .before .count .given .1) (c .before .before .before .before .before .before .before .before .before .whole .ensures)) (omega arith) (told-as placeTold (c .before .before .start .given .1) (c .before .before .before .before .locate .ensures))
@@ -95,7 +95,7 @@ take-spec =
     tie.close
     (tie.spec
     whole-requires
-    enum-known-r
+    enum-known-fault
     refusal-no-requires
     sub-result
     part-result-start
@@ -108,7 +108,7 @@ take-spec =
     part-result-end-2
     returns
     locate-requires
-    enum-known-r-2
+    enum-known-r
     refusal-no-requires-3
     sub-result-3
     part-result-start-3

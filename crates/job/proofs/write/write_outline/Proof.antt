@@ -30,8 +30,8 @@ size-requires c κs = search needs
 sizes-requires : tie.Need-sizes-requires
 sizes-requires c κs = search needs
 
-add-n : tie.Need-add-n
-add-n c = search needs
+add-need : tie.Need-add-need
+add-need c = search needs
 
 returns-4 : tie.Need-returns-4
 returns-4 c = outline-room _ _ _ refl (c .before .before .size .ensures .0) (c .before .sizes .ensures .0) (λ e. omega arith) (omega arith) (omega arith) (omega arith)
@@ -58,7 +58,7 @@ write-outline-spec =
     cast-v
     size-requires
     sizes-requires
-    add-n
+    add-need
     returns-4
     put-requires
     put-all-requires
