@@ -45,14 +45,13 @@ use Rattle.recurrence.specs.Choice.{least}
 use Rattle.recurrence.specs.Scheme.{outside, full, mixed}
 use Rattle.recurrence.proofs.Choice.{least-one, least-same}
 use Rattle.recurrence.specs.Cutting.{Cutting, shotsIn as shotsOfCutting, price}
-use Rattle.rule.specs.declared.Rule.{Rule}
 use Rattle.rule.specs.Rules.{inRange}
 use Rattle.outline.specs.declared.Axis.the-variants.{X, Y}
-use Rattle.outline.specs.Grid.{Grid, Sound}
-use Rattle.outline.specs.Corners.{corners, badLength, slanted, straight as straightTest}
+use Rattle.outline.specs.Grid.{Sound}
+use Rattle.outline.specs.Corners.{corners}
 use Rattle.piece.specs.Piece.{Piece, leftPart, rightPart, lowerPart, upperPart, frame, kind, sliver, charge}
-use Rattle.piece.specs.Straight.{Cut, cuts, parts, straight, shots, cost, choice, numbers}
-use Rattle.piece.proofs.Straight.{Part, ends, cuts-all, cost-outside, cost-full, shots-part, no-cheaper, attained as attained-by}
+use Rattle.piece.specs.Straight.{Cut, cuts, parts, straight, shots, cost, choice}
+use Rattle.piece.proofs.Straight.{ends, cuts-all, cost-outside, cost-full, shots-part, no-cheaper, attained as attained-by}
 use Rattle.piece.proofs.Choice.{choice-cost, choice-least, shots-choice, numbers-length}
 use Rattle.piece.proofs.Bound.{cost-most}
 use Rattle.table.specs.Entry.{entryCount, entryOf, Valid, costs}

@@ -6,8 +6,8 @@
 --   outline-lined        == its lines are the coordinates of the corners
 --   outline-frame        == its frame is the corners' frame
 --   passed               == an accepted outline passes 2, 3 and 4
-use Prim.Native.Nat.{ℕ, zero, suc, _-_, _/_, _≤_, _<_, min, max}
-use mathlib.Core.Path.{_≡_, refl, sym, _∙_, ap, subst}
+use Prim.Native.Nat.{ℕ, zero, suc, _-_, _≤_, _<_, min, max}
+use mathlib.Core.Path.{_≡_, refl, sym, subst}
 use mathlib.Core.Bool.{Bool, true, false, cond, _||_, true≢false}
 use mathlib.Core.List.{List, [], _∷_, map, List·Memᴰ as Member, List·Memᴰ·head, List·Memᴰ·tail, List·Memᴰ·not-nil}
 use mathlib.Core.Logic.{inl, inr}
@@ -17,7 +17,7 @@ use lib.ListN.{length}
 use borrow.Author.Tests.{ltb-false}
 use Rattle.sum.specs.Sum.{All}
 use Rattle.sum.proofs.Sum.{le-or}
-use Rattle.sum.proofs.Lists.{All-imp, All-at, All-unmap}
+use Rattle.sum.proofs.Lists.{All-imp, All-at}
 use Rattle.outline.specs.declared.Axis.{Axis}
 use Rattle.outline.specs.declared.Axis.the-variants.{X, Y}
 use Rattle.outline.specs.Corners.{Corner, corners, coordinate, odd, badLength, slanted, straight}
@@ -30,7 +30,6 @@ use Rattle.outline.proofs.Lines.{lowest, highest, rising-back, rising-lines, ri
 use Rattle.outline.proofs.Turns.{All-both}
 use Rattle.outline.proofs.Inside.{lines-up, inside-cell, inside-left, inside-right, inside-below, inside-above, grid-sound}
 use Rattle.piece.specs.Piece.{frame}
-use Rattle.demands.specs.Square.{Shot}
 use Rattle.demands.specs.Ways.{On, leastOf, mostOf, frameOf}
 use Rattle.demands.proofs.Square.{Shows, rectangle}
 use Rattle.demands.proofs.Ways.{Lined}

@@ -4,25 +4,24 @@
 --   number-first, first-number   == the number n is given exactly when n is the first condition that holds
 --   number-none, none-number     == 0 is given exactly when none holds
 --   number-known             == no other number is given
-use Prim.Native.Nat.{ℕ, _*_, _-_, _%_, _≤_, _<_}
+use Prim.Native.Nat.{ℕ, _-_, _≤_, _<_}
 use mathlib.Core.Path.{_≡_, refl, sym, _∙_, ap, subst}
 use mathlib.Core.Logic.{_⊎_, inl, inr}
 use mathlib.Core.Bool.{Bool, true, false, cond, not, _&&_, _||_, true≢false}
 use mathlib.Core.List.{List, [], _∷_, List·Memᴰ as Member, List·Memᴰ·head, List·Memᴰ·tail, List·Memᴰ·not-nil}
 use native.Mathlib.Omega.{arith}
-use lib.Dec.{leb, ltb, eqb}
+use lib.Dec.{leb, ltb}
 use lib.ListN.{length, getD}
-use borrow.Author.Tests.{leb-true, leb-false, ltb-true, ltb-false, eqb-true, eqb-false, lt-leb, lt-ltb, eq-eqb, ne-eqb}
+use borrow.Author.Tests.{leb-false, ltb-true, eqb-true, lt-leb, lt-ltb, eq-eqb, ne-eqb}
 use Rattle.sum.specs.Sum.{over, only, All}
 use Rattle.sum.proofs.Sum.{le-or, over-term, over-zero}
-use Rattle.sum.proofs.Lists.{All-at, All-imp}
+use Rattle.sum.proofs.Lists.{All-imp}
 use Rattle.rule.specs.Rules.{inRange}
 use Rattle.outline.specs.declared.Axis.{Axis}
 use Rattle.outline.specs.declared.Axis.the-variants.{X, Y}
-use Rattle.outline.specs.Corners.{Corner, Link, corners, coordinate, edges, turns, any, changes, odd, both, neither, same, alike, badLength, slanted, straight}
-use Rattle.outline.specs.Grid.{Grid}
+use Rattle.outline.specs.Corners.{Corner, Link, corners, edges, turns, any, changes, odd, both, neither, same, alike, badLength, slanted, straight}
 use Rattle.outline.specs.Inside.{insideCells, empty}
-use Rattle.demands.specs.Promise.{drawn, reportedShots, Reason, ruleHigh, lengthBad, slantedEdge, straightOn, nothingInside, tableShort, listShort, number, order, firstOf, test, numberOf}
+use Rattle.demands.specs.Promise.{drawn, Reason, ruleHigh, lengthBad, slantedEdge, straightOn, nothingInside, tableShort, listShort, number, order, firstOf, test, numberOf}
 use Rattle.demands.specs.Refusals.{Changes, Keeps, Condition, First}
 
 -- Tests

@@ -3,7 +3,7 @@
 --   right row      == the test of a row, which computes
 --   right-says     == a row that passes it holds
 --   ten-rows     == all ten hold
-use Prim.Native.Nat.{ℕ, _*_, _≤_, _<_}
+use Prim.Native.Nat.{ℕ, _*_, _≤_}
 use mathlib.Core.Path.{_≡_, refl, sym, _∙_, ap, ap₂, subst}
 use mathlib.Core.Bool.{Bool, true, false, _&&_, true≢false}
 use mathlib.Core.List.{List, [], _∷_}
@@ -22,8 +22,8 @@ use Rattle.outline.specs.Inside.{wall, walls, covers, count, within, gridOf, gr
 use Rattle.outline.specs.Inside as inside
 use Rattle.outline.specs.Promise.{refusal}
 use Rattle.piece.specs.Piece as piece
-use Rattle.piece.specs.Piece.{Piece, frame, cells, cellSum, kindOf, kind, lowSide, highSide, width, height, left, right, bottom, top}
-use Rattle.piece.specs.Straight.{Cut, run, between, cuts, parts, shots, cost, numbers}
+use Rattle.piece.specs.Piece.{frame, cells, cellSum, kindOf, kind, lowSide, highSide, width, height, left, right, bottom, top}
+use Rattle.piece.specs.Straight.{run, between, cuts, parts, shots, cost, numbers}
 use Rattle.piece.proofs.Choice.{numbers-length}
 use Rattle.table.specs.Entry.{pairsBelow, pairCount, entryCount}
 use Rattle.demands.specs.Promise.{rule, drawn, reportedShots, reportedCost, reportedSliver, reportedList, written, accepted, refused, outcome}

@@ -8,25 +8,23 @@
 --   square-cell          == a unit square that a piece holds lies in one of its cells
 --   cover-squares        == each unit square is in one shot if it is inside, else in none
 use Prim.Native.Nat.{ℕ, zero, suc, _+_, _*_, _-_, _≤_, _<_}
-use mathlib.Core.Path.{_≡_, refl, sym, _∙_, ap, ap₂, subst}
-use mathlib.Core.Bool.{Bool, true, false, not, _&&_, true≢false}
-use mathlib.Core.List.{List, [], _∷_, _++_, map}
-use mathlib.Core.Logic.{_⊎_, inl, inr}
+use mathlib.Core.Path.{_≡_, refl, sym, _∙_, ap, ap₂}
+use mathlib.Core.Bool.{Bool, true, false, not, _&&_}
+use mathlib.Core.List.{List, [], _∷_, map}
+use mathlib.Core.Logic.{inl, inr}
 use native.Mathlib.Omega.{arith}
 use lib.Dec.{leb, ltb}
-use borrow.Author.Tests.{leb-true, leb-false, ltb-true, ltb-false, le-leb, lt-ltb}
-use Rattle.sum.specs.Sum.{over, only, sumOf, All, join}
+use borrow.Author.Tests.{leb-true, leb-false, ltb-true, ltb-false}
+use Rattle.sum.specs.Sum.{over, only, sumOf, join}
 use Rattle.sum.proofs.Sum as sum
 use Rattle.sum.proofs.Lists.{sumOf-same, sumOf-map, All-imp}
 use Rattle.rule.specs.declared.Rule.{Rule}
 use Rattle.outline.specs.Grid.{Grid, Sound}
-use Rattle.piece.specs.Piece as piece
 use Rattle.piece.specs.Piece.{Piece, before, lowSide, highSide, width, height, left, right, bottom, top, cellSum, frame, sliver, charge}
 use Rattle.piece.specs.Straight.{numbers, shots}
 use Rattle.piece.proofs.Cells.{Within, sum-same}
 use Rattle.piece.proofs.Turn.{turned, turn, sound-turn}
-use Rattle.piece.proofs.Straight.{Part, cover, shots-part}
-use Rattle.table.specs.Entry.{Valid}
+use Rattle.piece.proofs.Straight.{cover, shots-part}
 use Rattle.demands.specs.Promise.{rule}
 use Rattle.demands.specs.Square.{Shot, shotsIn, holds, prior, exposed, leftOf, rightOf, bottomOf, topOf, sliverOf, chargeOf}
 

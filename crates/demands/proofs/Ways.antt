@@ -7,22 +7,21 @@
 --   nothing-squares, squares-nothing   == no cell is inside exactly when no unit square is
 --   never-cheaper        == a way to cut a piece's rectangle totals no less than the piece's cost
 --   way-attained         == one way has the piece's shots
-use Prim.Native.Nat.{ℕ, zero, suc, _+_, _≤_, _<_}
-use mathlib.Core.Path.{_≡_, refl, sym, _∙_, ap, ap₂, subst}
+use Prim.Native.Nat.{ℕ, zero, suc, _≤_, _<_}
+use mathlib.Core.Path.{_≡_, refl, sym, _∙_, ap, ap₂}
 use mathlib.Core.Bool.{Bool, true, false, _&&_, true≢false}
-use mathlib.Core.List.{List, [], _∷_, _++_, map, map-append, append-nil, List·Memᴰ as Member}
-use mathlib.Core.Logic.{_⊎_, inl, inr}
+use mathlib.Core.List.{List, [], _++_, map, map-append, append-nil}
+use mathlib.Core.Logic.{inl, inr}
 use native.Mathlib.Omega.{arith}
 use lib.Dec.{leb, ltb}
 use borrow.Author.Tests.{leb-true, ltb-true, le-leb, lt-ltb}
 use Rattle.sum.specs.Sum.{sumOf, All, join}
 use Rattle.sum.proofs.Sum.{le-or, rise}
-use Rattle.sum.proofs.Lists.{sumOf-append, sumOf-one, All-at}
-use Rattle.recurrence.specs.Scheme.{Kind, outside, full, mixed}
+use Rattle.sum.proofs.Lists.{sumOf-append, All-at}
 use Rattle.recurrence.proofs.Scheme as scheme
 use Rattle.outline.specs.Grid.{Grid, Sound}
-use Rattle.piece.specs.Piece.{Piece, leftPart, rightPart, lowerPart, upperPart, cells, kind}
-use Rattle.piece.specs.Straight.{Cut, vertical, horizontal, cuts, parts, straight, shots, cost}
+use Rattle.piece.specs.Piece.{Piece, leftPart, rightPart, lowerPart, upperPart, cells}
+use Rattle.piece.specs.Straight.{Cut, vertical, horizontal, parts, straight, shots, cost}
 use Rattle.piece.proofs.Cells.{Within}
 use Rattle.piece.proofs.Kind.{outside-cell, full-cell, kind-none, kind-all}
 use Rattle.piece.proofs.Straight.{ends, cuts-all, cuts-at, fair, cost-outside, cost-full, across-vertical, across-horizontal}

@@ -29,27 +29,35 @@ use Rattle.table.specs.Entry.{entryOf}
 use Rattle.demands.specs.Promise.{Outcome}
 use Rattle.demands.specs.Square.{Shot, shotsIn}
 
+-- 16-bit numbers
 abbrev pub Words : List ℕ → Type 0
 Words l = All (λ v. v ≤ 65535) l
 
+-- inside at the nanometre, from the raw corners
 abbrev pub figure : List ℕ → ℕ → ℕ → Bool
 figure l = insideAt (corners l)
 
+-- the list's first 4 x shots numbers, four by four
 unfoldable pub reported : Outcome → List Shot
 reported o = shotsIn (take (4 * o .shots) (o .list))
 
+-- the table's entry of the piece p
 unfoldable pub entry : Outcome → Grid → Piece → ℕ
 entry o g p = getD (o .table) (entryOf (g .columns) (g .rows) p) 0
 
+-- number and values, no buffers
 unfoldable pub answer : Outcome → Outcome
 answer o = record { number = o .number; shots = o .shots; cost = o .cost; sliver = o .sliver; table = []; list = [] }
 
+-- a success, or 7
 abbrev pub Filled : Outcome → Type 0
 Filled o = (o .number ≡ 0) ⊎ (o .number ≡ 7)
 
+-- both parts of a cut, by a table
 unfoldable pub partsCost : (Piece → ℕ) → Piece → Cut → ℕ
 partsCost E p k = sumOf E (parts p k)
 
+-- equation (2) with the tie order
 pub record Recurrence (g : Grid) (r : Rule) (E : Piece → ℕ) (p : Piece) : Type 0 where
   pub outside : kind g p ≡ outside → E p ≡ 0
   pub full : kind g p ≡ full → E p ≡ charge g r p

@@ -30,31 +30,40 @@ use Rattle.piece.specs.Piece.{Piece, frame, sliver, charge}
 use Rattle.piece.specs.Straight.{shots, numbers}
 use Rattle.table.specs.Entry.{entryCount, costs}
 
+-- threshold and weight
 abbrev pub rule : ℕ → ℕ → Rule
 rule t w = record { threshold = t; weight = w }
 
+-- the grid of the outline
 unfoldable pub drawn : List ℕ → Grid
 drawn l = grid (corners l)
 
 module _ (l : List ℕ) (t w : ℕ) where
+  -- the shots of the frame
   unfoldable pub reportedShots : List Piece
   reportedShots = shots (drawn l) (rule t w) (frame (drawn l))
 
+  -- the sum of their charges
   unfoldable pub reportedCost : ℕ
   reportedCost = sumOf (charge (drawn l) (rule t w)) reportedShots
 
+  -- the sum of their sliver lengths
   unfoldable pub reportedSliver : ℕ
   reportedSliver = sumOf (sliver (drawn l) (rule t w)) reportedShots
 
+  -- what is written at the front of the list
   unfoldable pub reportedList : List ℕ
   reportedList = numbers (drawn l) reportedShots
 
+  -- what is written at the front of the table
   unfoldable pub reportedTable : List ℕ
   reportedTable = costs (drawn l) (rule t w)
 
+-- why a fracture is refused
 pub data Reason : Type 0 where
   ruleHigh lengthBad slantedEdge straightOn nothingInside tableShort listShort : Reason
 
+-- document 01, "When the answer is no"
 unfoldable pub number : Reason → ℕ
 number ruleHigh = 1
 number lengthBad = 2
@@ -64,13 +73,16 @@ number nothingInside = 5
 number tableShort = 6
 number listShort = 7
 
+-- "A fracture checks 1 to 7 in that order"
 unfoldable pub order : List Reason
 order = ruleHigh ∷ lengthBad ∷ slantedEdge ∷ straightOn ∷ nothingInside ∷ tableShort ∷ listShort ∷ []
 
+-- the number of the first reason of a list that holds, 0 if none does
 unfoldable pub firstOf : (Reason → Bool) → List Reason → ℕ
 firstOf holds [] = 0
 firstOf holds (c ∷ cs) = cond (holds c) (number c) (firstOf holds cs)
 
+-- what a caller has afterwards
 pub record Outcome : Type 0 where
   pub number : ℕ
   pub shots : ℕ
@@ -79,10 +91,12 @@ pub record Outcome : Type 0 where
   pub table : List ℕ
   pub list : List ℕ
 
+-- written at the front, and everything beyond as it came in
 unfoldable pub written : List ℕ → List ℕ → List ℕ
 written front old = front ++ drop (length front) old
 
 module _ (l : List ℕ) (t w : ℕ) (table list : List ℕ) where
+  -- whether a reason holds
   unfoldable pub test : Reason → Bool
   test ruleHigh = not (inRange t w)
   test lengthBad = badLength l
@@ -92,6 +106,7 @@ module _ (l : List ℕ) (t w : ℕ) (table list : List ℕ) where
   test tableShort = ltb (length table) (entryCount (drawn l .columns) (drawn l .rows))
   test listShort = ltb (length list) (4 * length (reportedShots l t w))
 
+  -- the first in document 01's order
   unfoldable pub numberOf : ℕ
   numberOf = firstOf test order
 
@@ -123,5 +138,6 @@ module _ (l : List ℕ) (t w : ℕ) (table list : List ℕ) where
   unfoldable pub refused : ℕ → Outcome
   refused n = record { number = n; shots = 0; cost = 0; sliver = 0; table = table; list = list }
 
+  -- by the number
   unfoldable pub outcome : Outcome
   outcome = cond (eqb numberOf 0) accepted (cond (eqb numberOf 7) short (refused numberOf))

@@ -16,13 +16,16 @@ use Rattle.outline.specs.Corners.{Corner, Link, corners, coordinate, edges, tur
 use Rattle.table.specs.Entry.{entryCount}
 use Rattle.demands.specs.Promise.{drawn, reportedShots, Reason, ruleHigh, lengthBad, slantedEdge, straightOn, nothingInside, tableShort, listShort, number}
 
+-- the edge has the same coordinate at both ends
 abbrev pub Keeps : Axis → Link Corner → Type 0
 Keeps a e = coordinate a (e .from) ≡ coordinate a (e .to)
 
+-- the edge does not
 abbrev pub Changes : Axis → Link Corner → Type 0
 Changes a e = Keeps a e → ⊥
 
 module _ (l : List ℕ) (t w : ℕ) (table list : List ℕ) where
+  -- document 01, "When the answer is no"
   unfoldable pub Condition : Reason → Type 0
   -- threshold or weight above 1,000
   Condition ruleHigh = (1000 < t) ⊎ (1000 < w)
@@ -42,6 +45,7 @@ module _ (l : List ℕ) (t w : ℕ) (table list : List ℕ) where
   -- shot list holds fewer than 4 x shots numbers
   Condition listShort = length list < 4 * length (reportedShots l t w)
 
+  -- it holds, and none of a lower number does
   pub record First (c : Reason) : Type 0 where
     pub holds : Condition c
     pub before : (s : Reason) → number s < number c → Condition s → ⊥

@@ -19,18 +19,22 @@ use Rattle.piece.specs.Piece.{frame}
 use Rattle.piece.specs.Straight.{Cut, vertical, horizontal, parts, cost as costOf}
 use Rattle.demands.specs.Promise.{rule, drawn, Outcome, outcome}
 
+-- the rule that a row is for
 pub data By : Type 0 where
   only-by : ℕ → ℕ → By
   any : By
 
+-- the row is for this rule
 abbrev pub Meant : By → ℕ → ℕ → Type 0
 Meant (only-by t₀ w₀) t w = (t ≡ t₀) × (w ≡ w₀)
 Meant any t w = Unit {0}
 
+-- a cut of the frame, and what it would give
 pub record Rival : Type 0 where
   pub cut : Cut
   pub cost : ℕ
 
+-- a row of the table
 pub record Row : Type 0 where
   pub outline : List ℕ
   pub by : By
@@ -49,6 +53,7 @@ pub record Says (row : Row) (t w : ℕ) (o : Outcome) : Type 0 where
   pub list : take (4 * o .shots) (o .list) ≡ row .list
   pub rivals : All (λ k. sumOf (costOf (drawn (row .outline)) (rule t w)) (parts (frame (drawn (row .outline))) (k .cut)) ≡ k .cost) (row .rivals)
 
+-- room is ample: 14,400 entries and 225 shots
 abbrev pub Holds : Row → Type 0
 Holds row =
     (t w : ℕ) → Meant (row .by) t w → inRange t w ≡ true
@@ -59,9 +64,11 @@ Holds row =
 abbrev good : List ℕ → ℕ → ℕ → ℕ → ℕ → List ℕ → List Rival → Row
 good o t w c s l k = record { outline = o; by = only-by t w; number = 0; cost = c; sliver = s; list = l; rivals = k }
 
+-- the outline of "The job program"
 abbrev pub L : List ℕ
 L = 0 ∷ 0 ∷ 100 ∷ 0 ∷ 100 ∷ 20 ∷ 60 ∷ 20 ∷ 60 ∷ 80 ∷ 0 ∷ 80 ∷ []
 
+-- the block with a nose of 10 nm
 abbrev pub B : List ℕ
 B = 0 ∷ 0 ∷ 200 ∷ 0 ∷ 200 ∷ 50 ∷ 210 ∷ 50 ∷ 210 ∷ 150 ∷ 200 ∷ 150 ∷ 200 ∷ 200 ∷ 0 ∷ 200 ∷ []
 

@@ -20,46 +20,57 @@ use Rattle.outline.specs.declared.Axis.the-variants.{X, Y}
 use Rattle.outline.specs.Corners.{Corner, coordinate}
 use Rattle.demands.specs.Square.{Shot, holds, chargeOf}
 
+-- left of the place v
 abbrev pub westOf : Shot → ℕ → Shot
 westOf s v = record { xlow = s .xlow; ylow = s .ylow; xhigh = v; yhigh = s .yhigh }
 
+-- right of it
 abbrev pub eastOf : Shot → ℕ → Shot
 eastOf s v = record { xlow = v; ylow = s .ylow; xhigh = s .xhigh; yhigh = s .yhigh }
 
+-- below the place v
 abbrev pub southOf : Shot → ℕ → Shot
 southOf s v = record { xlow = s .xlow; ylow = s .ylow; xhigh = s .xhigh; yhigh = v }
 
+-- above it
 abbrev pub northOf : Shot → ℕ → Shot
 northOf s v = record { xlow = s .xlow; ylow = v; xhigh = s .xhigh; yhigh = s .yhigh }
 
 module _ (F : ℕ → ℕ → Bool) (onX onY : ℕ → Type 0) where
+  -- leave it, shoot it, or cut right across it and go on with both parts
   pub data Way : Shot → Type 0 where
     leave : {s : Shot} → ((x y : ℕ) → holds x y s ≡ true → F x y ≡ false) → Way s
     shoot : {s : Shot} → ((x y : ℕ) → holds x y s ≡ true → F x y ≡ true) → Way s
     upright : {s : Shot} (v : ℕ) → onX v → s .xlow < v → v < s .xhigh → Way (westOf s v) → Way (eastOf s v) → Way s
     level : {s : Shot} (v : ℕ) → onY v → s .ylow < v → v < s .yhigh → Way (southOf s v) → Way (northOf s v) → Way s
 
+  -- the shots of a way, low part first
   unfoldable pub shotsBy : {s : Shot} → Way s → List Shot
   shotsBy (leave e) = []
   shotsBy (shoot {s = s} e) = s ∷ []
   shotsBy (upright v o h k low high) = shotsBy low ++ shotsBy high
   shotsBy (level v o h k low high) = shotsBy low ++ shotsBy high
 
+  -- the sum of their charges
   unfoldable pub total : {s : Shot} → ℕ → ℕ → Way s → ℕ
   total t w way = sumOf (chargeOf F t w) (shotsBy way)
 
+-- the coordinate of a corner along the axis
 abbrev pub On : Axis → List Corner → ℕ → Type 0
 On a cs v = Member v (map (coordinate a) cs)
 
+-- the least number of a list
 unfoldable pub leastOf : List ℕ → ℕ
 leastOf [] = 0
 leastOf (v ∷ []) = v
 leastOf (v ∷ u ∷ l) = min v (leastOf (u ∷ l))
 
+-- the greatest number of a list
 unfoldable pub mostOf : List ℕ → ℕ
 mostOf [] = 0
 mostOf (v ∷ l) = max v (mostOf l)
 
+-- from the lowest coordinates to the highest
 unfoldable pub frameOf : List Corner → Shot
 frameOf cs =
     record {

@@ -6,7 +6,7 @@
 --   slivers-most       == its shots have at most 2,097,120 nm of sliver together
 --   count-most         == and they are at most 225
 use Prim.Native.Nat.{ℕ, zero, suc, _+_, _*_, _-_, _≤_, _<_}
-use mathlib.Core.Path.{_≡_, refl, sym, _∙_, ap, ap₂}
+use mathlib.Core.Path.{_≡_, _∙_, ap, ap₂}
 use mathlib.Core.Bool.{Bool, true, false, _&&_, not}
 use native.Mathlib.Omega.{arith}
 use native.Mathlib.Nat.{mul-le-mul-left, mul-le-mul}
@@ -16,14 +16,13 @@ use Rattle.sum.specs.Sum.{over, only, sumOf}
 use Rattle.sum.proofs.Sum as sum
 use Rattle.sum.proofs.Sum.{only-most}
 use Rattle.sum.proofs.Lists.{sumOf-le, sumOf-ones, All-imp}
-use Rattle.recurrence.specs.Scheme.{full}
 use Rattle.outline.specs.Grid.{Grid, Sound}
 use Rattle.rule.specs.declared.Rule.{Rule}
-use Rattle.piece.specs.Piece.{Piece, before, cellSum, cells, insideCells, kind, charge, sliver, left, right, bottom, top, width, height, lowSide, highSide, frame}
+use Rattle.piece.specs.Piece.{Piece, before, cellSum, cells, charge, sliver, left, right, bottom, top, width, height, lowSide, highSide, frame}
 use Rattle.piece.specs.Straight.{shots, cost}
 use Rattle.piece.proofs.Cells.{sum-add, sum-mul, sum-le, sum-part, cells-some, cells-product}
 use Rattle.piece.proofs.Turn.{turned, turn, sum-turn}
-use Rattle.piece.proofs.Straight.{Part, cover, shots-part}
+use Rattle.piece.proofs.Straight.{cover, shots-part}
 
 unfoldable sideways : Grid → ℕ → ℕ → ℕ
 sideways g i j =

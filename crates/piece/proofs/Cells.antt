@@ -6,8 +6,8 @@
 --   sum-term, sum-part                == one cell's share; a piece within another
 --   sum-add, sum-mul, sum-pick        == a sum of sums, a factor, one cell picked out
 --   cells-some, cells-short, cells-product, cells-a, cells-b   == how many cells a piece has, and that it has some
-use Prim.Native.Nat.{ℕ, zero, suc, _+_, _*_, _-_, _≤_, _<_}
-use mathlib.Core.Path.{_≡_, refl, _∙_, ap}
+use Prim.Native.Nat.{ℕ, suc, _+_, _*_, _-_, _≤_, _<_}
+use mathlib.Core.Path.{_≡_, _∙_, ap}
 use mathlib.Core.Bool.{Bool, _&&_}
 use mathlib.Core.Logic.{inl, inr}
 use native.Mathlib.Omega.{arith}

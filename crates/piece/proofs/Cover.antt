@@ -4,7 +4,7 @@
 --   cover        == whatever weight each cell has, the shots of a piece have together what its inside cells have
 --   cell-once    == each cell of a piece is in one of its shots if inside, and in none if not
 use Prim.Native.Nat.{ℕ}
-use mathlib.Core.Path.{_≡_, refl, sym, _∙_, ap}
+use mathlib.Core.Path.{_≡_, refl, sym, _∙_}
 use mathlib.Core.Bool.{Bool, true, false}
 use mathlib.Core.List.{List}
 use lib.Dec.{eqb}

@@ -7,7 +7,7 @@
 --   kind-none, kind-all                          == and back, from each cell
 --   outside-sum, full-sum                        == whatever weight each cell has: none of an outside piece is inside, all of a full one
 --   full-vertical, full-horizontal               == the parts of a full piece are full
-use Prim.Native.Nat.{ℕ, _+_, _*_, _≤_, _<_}
+use Prim.Native.Nat.{ℕ, _*_, _≤_, _<_}
 use mathlib.Core.Path.{_≡_, refl, sym, _∙_, ap, subst}
 use mathlib.Core.Bool.{Bool, true, false}
 use mathlib.Core.Logic.{_≢_}
@@ -19,8 +19,8 @@ use Rattle.sum.proofs.Sum.{only-most}
 use Rattle.recurrence.specs.Scheme.{Kind, outside, full, mixed}
 use Rattle.outline.specs.Grid.{Grid}
 use Rattle.piece.specs.Piece.{Piece, leftPart, rightPart, lowerPart, upperPart, cellSum, cells, kindOf, insideCells, kind}
-use Rattle.piece.proofs.Cells.{Within, sum-vertical, sum-le, sum-same, sum-term, sum-tight, sum-mul, cells-some, cells-a, cells-b}
-use Rattle.piece.proofs.Turn.{turned, turn, kind-turn, cells-turn}
+use Rattle.piece.proofs.Cells.{Within, sum-le, sum-same, sum-term, sum-tight, sum-mul, cells-some, cells-b}
+use Rattle.piece.proofs.Turn.{turned, turn, kind-turn}
 
 -- n inside cells of m are of the kind k
 abbrev Says : ℕ → ℕ → Kind → Type 0

@@ -2,14 +2,14 @@
 --
 --   narrow                                 == where a wider extent is below the threshold, so is a narrower one
 --   charge-vertical, charge-horizontal     == a piece is charged at most what its two parts are charged together
-use Prim.Native.Nat.{ℕ, suc, _+_, _*_, _-_, _≤_, _<_}
-use mathlib.Core.Path.{_≡_, refl, ap}
+use Prim.Native.Nat.{ℕ, suc, _+_, _≤_}
+use mathlib.Core.Path.{_≡_, refl}
 use mathlib.Core.Bool.{Bool, true, false}
 use native.Mathlib.Omega.{arith}
 use native.Mathlib.Nat.{mul-le-mul-left}
 use lib.Dec.{ltb}
 use borrow.Author.Tests.{ltb-true, lt-ltb}
-use Rattle.sum.specs.Sum.{over, only}
+use Rattle.sum.specs.Sum.{only}
 use Rattle.sum.proofs.Sum.{over-cut, only-add, rise}
 use Rattle.outline.specs.Grid.{Grid, Sound}
 use Rattle.rule.specs.declared.Rule.{Rule}

@@ -16,20 +16,20 @@
 --   fair                                 == no cut leads to parts that cost less together, of whatever kind the piece is
 --   no-cheaper, attained                 == no cutting has a lower price than the cost; one has these very shots
 use Prim.Native.Nat.{ℕ, zero, suc, _+_, _-_, _≤_, _<_}
-use mathlib.Core.Path.{_≡_, refl, sym, _∙_, ap, subst}
-use mathlib.Core.List.{List, [], _∷_, _++_, map, List·Memᴰ as Member}
+use mathlib.Core.Path.{_≡_, refl, sym, _∙_, subst}
+use mathlib.Core.List.{List, [], _∷_, map, List·Memᴰ as Member}
 use mathlib.Core.Logic.{_⊎_, inl, inr}
 use native.Mathlib.Omega.{arith}
-use Rattle.sum.specs.Sum.{only, sumOf, All, Some, join}
+use Rattle.sum.specs.Sum.{only, sumOf, All, Some}
 use Rattle.sum.proofs.Sum.{le-or}
-use Rattle.sum.proofs.Lists.{sumOf-le, sumOf-same, All-imp, All-append, All-parts, All-map, All-unmap, All-of, All-at, All-join, Some-map, Some-left, Some-right}
-use Rattle.recurrence.specs.Scheme.{Kind, outside, full, mixed, Scheme, Ends, shotsBy}
+use Rattle.sum.proofs.Lists.{All-imp, All-append, All-parts, All-map, All-unmap, All-of, All-at, All-join, Some-map, Some-left, Some-right}
+use Rattle.recurrence.specs.Scheme.{Kind, outside, full, mixed, Ends}
 use Rattle.recurrence.specs.Cutting.{Cutting, shotsIn, price}
 use Rattle.recurrence.proofs.Scheme as scheme
 use Rattle.recurrence.proofs.Cutting as cutting
 use Rattle.outline.specs.Grid.{Grid, Sound}
 use Rattle.rule.specs.declared.Rule.{Rule}
-use Rattle.piece.specs.Piece.{Piece, box, leftPart, rightPart, lowerPart, upperPart, holds, cellSum, cells, insideCells, kind, charge}
+use Rattle.piece.specs.Piece.{Piece, leftPart, rightPart, lowerPart, upperPart, holds, cellSum, cells, insideCells, kind, charge}
 use Rattle.piece.specs.Straight.{Cut, vertical, horizontal, run, between, cuts, parts, straight, shots, cost}
 use Rattle.piece.proofs.Cells.{sum-vertical, sum-horizontal, cells-some, cells-short, cells-a, cells-b}
 use Rattle.piece.proofs.Kind.{mixed-count, full-count, inside-most, full-vertical, full-horizontal, kind-outside}

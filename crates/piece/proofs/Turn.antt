@@ -6,8 +6,7 @@
 use Prim.Native.Nat.{ℕ, _+_, _*_}
 use mathlib.Core.Path.{_≡_, ap, ap₂}
 use native.Mathlib.Omega.{arith}
-use lib.Dec.{ltb}
-use Rattle.sum.specs.Sum.{over, only}
+use Rattle.sum.specs.Sum.{only}
 use Rattle.sum.proofs.Sum.{over-swap}
 use Rattle.outline.specs.Grid.{Grid, Sound}
 use Rattle.rule.specs.declared.Rule.{Rule}

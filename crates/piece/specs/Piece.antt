@@ -27,33 +27,42 @@ use Rattle.recurrence.specs.Scheme.{Kind, outside, full, mixed}
 use Rattle.outline.specs.Grid.{Grid}
 use Rattle.rule.specs.declared.Rule.{Rule}
 
+-- between the x lines a < c and the y lines b < d
 pub record Piece : Type 0 where
   pub a : ℕ
   pub c : ℕ
   pub b : ℕ
   pub d : ℕ
 
+-- the piece of these lines
 abbrev pub box : ℕ → ℕ → ℕ → ℕ → Piece
 box a c b d = record { a = a; c = c; b = b; d = d }
 
+-- the part left of the x line j
 abbrev pub leftPart : Piece → ℕ → Piece
 leftPart p j = box (p .a) j (p .b) (p .d)
 
+-- the part right of it
 abbrev pub rightPart : Piece → ℕ → Piece
 rightPart p j = box j (p .c) (p .b) (p .d)
 
+-- the part below the y line j
 abbrev pub lowerPart : Piece → ℕ → Piece
 lowerPart p j = box (p .a) (p .c) (p .b) j
 
+-- the part above it
 abbrev pub upperPart : Piece → ℕ → Piece
 upperPart p j = box (p .a) (p .c) j (p .d)
 
+-- whether the cell (i, j) is one of the piece's
 unfoldable pub holds : ℕ → ℕ → Piece → Bool
 holds i j p = (leb (p .a) i && ltb i (p .c)) && (leb (p .b) j && ltb j (p .d))
 
+-- the sum of f over the piece's cells
 unfoldable pub cellSum : (ℕ → ℕ → ℕ) → Piece → ℕ
 cellSum f p = over (p .a) (p .c) (λ i. over (p .b) (p .d) (f i))
 
+-- how many cells it has
 unfoldable pub cells : Piece → ℕ
 cells p = cellSum (λ i j. 1) p
 
@@ -66,45 +75,58 @@ abbrev pub before : (ℕ → Bool) → ℕ → Bool
 before f zero = false
 before f (suc k) = f k
 
+-- the low side of the cell k is exposed
 unfoldable pub lowSide : (ℕ → Bool) → ℕ → Bool
 lowSide f k = f k && not (before f k)
 
+-- the high side of the cell before the line k is exposed
 unfoldable pub highSide : (ℕ → Bool) → ℕ → Bool
 highSide f k = before f k && not (f k)
 
 module _ (g : Grid) where
+  -- from the lowest lines to the highest
   unfoldable pub frame : Piece
   frame = box 0 (g .columns) 0 (g .rows)
 
+  -- how many of its cells are inside
   unfoldable pub insideCells : Piece → ℕ
   insideCells p = cellSum (λ i j. only (g .inside i j) 1) p
 
+  -- outside: none; full: all; mixed: some
   unfoldable pub kind : Piece → Kind
   kind p = kindOf (insideCells p) (cells p)
 
+  -- from the x line a to the x line c, in nm
   unfoldable pub width : ℕ → ℕ → ℕ
   width a c = g .x c - g .x a
 
+  -- from the y line b to the y line d, in nm
   unfoldable pub height : ℕ → ℕ → ℕ
   height b d = g .y d - g .y b
 
+  -- the exposed length of the left side
   unfoldable pub left : Piece → ℕ
   left p = over (p .b) (p .d) (λ j. only (lowSide (λ i. g .inside i j) (p .a)) (height j (suc j)))
 
+  -- of the right side
   unfoldable pub right : Piece → ℕ
   right p = over (p .b) (p .d) (λ j. only (highSide (λ i. g .inside i j) (p .c)) (height j (suc j)))
 
+  -- of the bottom side
   unfoldable pub bottom : Piece → ℕ
   bottom p = over (p .a) (p .c) (λ i. only (lowSide (g .inside i) (p .b)) (width i (suc i)))
 
+  -- of the top side
   unfoldable pub top : Piece → ℕ
   top p = over (p .a) (p .c) (λ i. only (highSide (g .inside i) (p .d)) (width i (suc i)))
 
   module _ (r : Rule) where
+    -- left and right where it is narrower than the threshold, bottom and top where it is lower
     unfoldable pub sliver : Piece → ℕ
     sliver p =
         only (ltb (width (p .a) (p .c)) (r .threshold)) (left p + right p)
         + only (ltb (height (p .b) (p .d)) (r .threshold)) (bottom p + top p)
 
+    -- equation (1) of the paper, times 1,000
     unfoldable pub charge : Piece → ℕ
     charge p = 1000 + r .weight * sliver p

@@ -18,6 +18,7 @@ use Rattle.outline.specs.Grid.{Grid}
 use Rattle.rule.specs.declared.Rule.{Rule}
 use Rattle.piece.specs.Piece.{Piece, cells, kind, charge, leftPart, rightPart, lowerPart, upperPart}
 
+-- its direction, and its line
 pub data Cut : Type 0 where
   vertical horizontal : ℕ → Cut
 
@@ -26,23 +27,29 @@ unfoldable pub run : ℕ → ℕ → List ℕ
 run k zero = []
 run k (suc n) = k ∷ run (suc k) n
 
+-- the lines strictly between two lines
 unfoldable pub between : ℕ → ℕ → List ℕ
 between a c = run (suc a) (c - suc a)
 
+-- vertical before horizontal, the lower line before the higher
 unfoldable pub cuts : Piece → List Cut
 cuts p = map vertical (between (p .a) (p .c)) ++ map horizontal (between (p .b) (p .d))
 
+-- the low part, then the high part
 unfoldable pub parts : Piece → Cut → List Piece
 parts p (vertical j) = leftPart p j ∷ rightPart p j ∷ []
 parts p (horizontal j) = lowerPart p j ∷ upperPart p j ∷ []
 
 module _ (g : Grid) (r : Rule) where
+  -- straight cuts as a scheme
   abbrev pub straight : Scheme Piece Cut
   straight = record { kind = kind g; charge = charge g r; cuts = cuts; parts = parts }
 
+  -- from the piece down; the fuel exceeds the depth of cuts
   unfoldable pub shots : Piece → List Piece
   shots p = shotsBy straight (suc (cells p)) p
 
+  -- in thousandths of a shot
   unfoldable pub cost : Piece → ℕ
   cost p = sumOf (charge g r) (shots p)
 
@@ -50,5 +57,6 @@ module _ (g : Grid) (r : Rule) where
   unfoldable pub choice : Piece → Cut
   choice p = first (λ k. sumOf cost (parts p k)) (cost p) (vertical 0) (cuts p)
 
+-- x low, y low, x high, y high of each shot, in nm
 unfoldable pub numbers : Grid → List Piece → List ℕ
 numbers g = join (λ s. g .x (s .a) ∷ g .y (s .b) ∷ g .x (s .c) ∷ g .y (s .d) ∷ [])

@@ -3,14 +3,14 @@
 --   no-cheaper   == no cutting of a piece is cheaper than its cost, if no cut that may be made leads to parts that cost less
 --   attained     == one cutting has the shots of the recurrence, so that its price is the cost, if each mixed piece may be cut
 --   no-cheaper-mixed   == where mixed pieces alone may be cut, no cutting is cheaper, whatever the charges
-use Prim.Native.Nat.{ℕ, _+_, _≤_}
-use mathlib.Core.Path.{_≡_, refl, _∙_, ap, ap₂}
+use Prim.Native.Nat.{ℕ, _≤_}
+use mathlib.Core.Path.{_≡_, refl, ap₂}
 use mathlib.Core.List.{List, [], _∷_, _++_}
 use native.Mathlib.Omega.{arith}
 use native.Mathlib.Nat.{le-trans}
 use Rattle.sum.specs.Sum.{sumOf, All, join}
-use Rattle.sum.proofs.Lists.{sumOf-append, sumOf-one, All-at}
-use Rattle.recurrence.specs.Scheme.{Kind, outside, full, mixed, Scheme, Ends, shotsBy}
+use Rattle.sum.proofs.Lists.{sumOf-append, All-at}
+use Rattle.recurrence.specs.Scheme.{mixed, Scheme, Ends}
 use Rattle.recurrence.specs.Cutting.{Cutting, Cuttings, leave, shoot, cut, none, more, shotsIn, shotsAmong, price}
 use Rattle.recurrence.proofs.Scheme.{shotsOf, costOf, cost-outside, cost-full, cost-mixed, along}
 

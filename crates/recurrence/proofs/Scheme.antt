@@ -11,7 +11,7 @@
 --   shots-all-full           == every shot is full
 --   shared                   == what every cut shares out, and is nothing outside, is shared out by the shots
 --   cost-no-higher           == two schemes: with the same kinds, lower charges and at least the same cuts no piece costs more
-use Prim.Native.Nat.{ℕ, zero, suc, _+_, _≤_, _<_}
+use Prim.Native.Nat.{ℕ, zero, suc, _≤_, _<_}
 use mathlib.Core.Path.{_≡_, refl, sym, _∙_, ap, subst, fun-ext}
 use mathlib.Core.List.{List, [], _∷_, map, List·Memᴰ as Member}
 use native.Mathlib.Omega.{arith}

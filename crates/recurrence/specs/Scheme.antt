@@ -11,9 +11,11 @@ use mathlib.Core.List.{List, [], _∷_, map}
 use Rattle.sum.specs.Sum.{All, Some, join}
 use Rattle.recurrence.specs.Choice.{cheapest}
 
+-- no inside cell, only inside cells, or cells of both sorts
 pub data Kind : Type 0 where
   outside full mixed : Kind
 
+-- what a fracture goes by
 pub record Scheme (P K : Type 0) : Type 0 where
   pub kind : P → Kind
   pub charge : P → ℕ
@@ -21,6 +23,7 @@ pub record Scheme (P K : Type 0) : Type 0 where
   pub parts : P → K → List P
 
 module _ {P K : Type 0} (S : Scheme P K) where
+  -- the recurrence: the paper's equation (2), with fuel for the depth of cuts
   unfoldable pub shotsBy : ℕ → P → List P
   shotsBy zero p = []
   shotsBy (suc n) p =
@@ -30,6 +33,7 @@ module _ {P K : Type 0} (S : Scheme P K) where
         | mixed ↦ cheapest (S .charge) (map (λ k. join (shotsBy n) (S .parts p k)) (S .cuts p))
       ]
 
+-- what makes the recurrence end
 pub record Ends {P K : Type 0} (S : Scheme P K) (size : P → ℕ) : Type 0 where
   pub smaller : (p : P) → S .kind p ≡ mixed → All (λ k. All (λ q. size q < size p) (S .parts p k)) (S .cuts p)
   pub some : (p : P) → S .kind p ≡ mixed → Some (S .cuts p)

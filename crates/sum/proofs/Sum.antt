@@ -9,7 +9,7 @@
 --   only-over, only-only, only-le, only-add, only-most   == a test before a sum, two tests, the order, a sum, the most
 --   le-or, rise                          == a ≤ b or b < a; what rises from each line to the next rises all along
 use Prim.Native.Nat.{ℕ, zero, suc, _+_, _*_, _-_, _≤_, _<_}
-use mathlib.Core.Path.{_≡_, refl, sym, _∙_, ap, subst}
+use mathlib.Core.Path.{_≡_, refl, sym, _∙_, ap}
 use mathlib.Core.Bool.{Bool, true, false, _&&_}
 use mathlib.Core.Logic.{_⊎_, inl, inr}
 use native.Mathlib.Omega.{arith}
