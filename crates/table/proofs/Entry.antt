@@ -207,7 +207,7 @@ map-at f (x ∷ l) zero z h = refl
 map-at f (x ∷ l) (suc i) z h = map-at f l i z (omega arith)
 
 -- definitions read off
-counted : (m i : ℕ) → i < pairCount m → i < pairsBelow m m
+pub counted : (m i : ℕ) → i < pairCount m → i < pairsBelow m m
 unfolding pairCount
 counted m i h = h
 

@@ -3,3 +3,5 @@ pub mod Run
 pub mod Strip
 pub mod Vertical
 pub mod Tally
+pub mod Measure
+pub mod Fill

@@ -356,3 +356,9 @@ pub recurs-end : (s : ℕ → ℕ → ℕ) (sums ys : List ℕ) (r : Rule) (rows
     → Recurs s sums ys r rows wide row b
     → Recurs s sums ys r rows wide row 0
 recurs-end s sums ys r rows wide row b h k = subst (Recurs s sums ys r rows wide row) (omega arith) k
+
+-- the same row
+pub recurs-row : (s : ℕ → ℕ → ℕ) (sums ys : List ℕ) (r : Rule) (rows wide : ℕ) (row row₂ : List ℕ) (low : ℕ) → row ≡ row₂
+    → Recurs s sums ys r rows wide row₂ low
+    → Recurs s sums ys r rows wide row low
+recurs-row s sums ys r rows wide row row₂ low e k = subst (λ l. Recurs s sums ys r rows wide l low) (sym e) k

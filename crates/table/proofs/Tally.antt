@@ -18,7 +18,7 @@ use lib.ListN.{length, getD, set}
 use Rattle.sum.specs.Sum.{only}
 use Rattle.sum.proofs.Sum.{only-most}
 use Rattle.table.specs.Run.{Wrote, bare}
-use Rattle.table.specs.Tally.{counted, addedAt, flankAt, beforeAt, ColumnAdded, FlanksMeasured}
+use Rattle.table.specs.Tally.{counted, addedAt, flankAt, beforeAt, Spare, ColumnAdded, FlanksMeasured}
 use Rattle.table.proofs.Run
 
 add-left : {m n : ℕ} (k : ℕ) → m ≡ n → m + k ≡ n + k
@@ -65,6 +65,9 @@ module _ (t u cells ys : List ℕ) (near far n i : ℕ) (h : i < n) (w : Wrote (
       Run.wrote-more (flankAt t cells near far ys) 48 i t u v (omega (arith, w .long))
       (q ∙ ap₂ _+_ side-ahead (c ∙ ap (bare (getD cells (near + i) 0) (getD cells (far + i) 0)) z))
       w
+
+pub spare-next : (t : List ℕ) (i : ℕ) → Spare t (i + 1) → getD t (17 + i) 0 ≤ 1000000
+spare-next t i s = (let e : 17 + i ≡ 16 + (i + 1) = omega arith in subst (λ n. getD t n 0 ≤ 1000000) (sym e) (s .bottom))
 
 -- a column in four steps: counts, the lowest bottom, the other bottoms, tops
 module _ (cells t t₁ : List ℕ) (near rows width : ℕ) (most : rows ≤ 15) (w₁ : Wrote (counted t cells near) 0 rows t t₁) where

@@ -3,6 +3,7 @@
 --   row-before, row-room  == rows of the table, by the numbers of their x pairs: one before the other, and all within it
 --   rows-*                == three rows, by the numbers of their x pairs
 --   Pairs, pairs-of       == the numbers of the x pairs that a cut makes
+--   row-lent, row-back, .. == a row lent as a part of the table
 --   start-*               == the table with the row uncut, and as it came in
 --   To, to-*              == the vertical cuts of a row below the line j are weighed
 use Prim.Native.Nat.{ℕ, zero, suc, _+_, _*_, _-_, _≤_, _<_, _^_, min}
@@ -11,11 +12,13 @@ use mathlib.Core.Logic.{_⊎_, inl, inr}
 use mathlib.Core.List.{List}
 use native.Mathlib.Omega.{arith}
 use native.Mathlib.Nat.{mul-le-mul-right, mul-le-mul, suc-mul}
-use lib.ListN.{length, getD}
+use lib.ListN.{length, getD, take, drop, length-drop}
+use lib.Seq.{length-take-le, take-at, drop-at, getD-take, getD-drop}
+use borrow.Rule.Slice.PartMut.{putMid, same-len-mid, take-put, drop-put}
 use Rattle.table.specs.Entry.{pairsBelow, pairCount, pairNo}
 use Rattle.table.specs.Run.{Wrote, weighed, Lowest}
 use Rattle.table.specs.Strip.{uncut}
-use Rattle.table.specs.Vertical.{parted, Lowered}
+use Rattle.table.specs.Vertical.{parted, Lowered, rowOf, Beside}
 use Rattle.table.proofs.Entry
 use Rattle.table.proofs.Run
 
@@ -160,3 +163,50 @@ module _ (columns pairs a c at : ℕ) (t u : List ℕ) (low : a < c) (high : c �
             (subst (λ n. Lowest (parted u columns pairs a c i) a n uncut (getD v (pairNo columns a c * pairs + i) 0)) (omega arith) (o .least i l));
         kept = λ m q. o .kept m q ∙ start-kept m q;
       }
+
+-- a row lent as a part of the table, and come back with other numbers
+module _ (t : List ℕ) (pairs pair at : ℕ) (e : at ≡ pair * pairs) (room : pair * pairs + pairs ≤ length t) where
+  pub row-lent : take (at + pairs - at) (drop at t) ≡ rowOf t pairs pair
+  unfolding rowOf
+  row-lent = (let z : at + pairs - at ≡ pairs = omega arith in ap₂ (λ m n. take m (drop n t)) z e)
+
+  pub row-length : length (rowOf t pairs pair) ≡ pairs
+  unfolding rowOf
+  row-length = length-take-le pairs (drop (pair * pairs) t) (omega (arith, length-drop (pair * pairs) t))
+
+  module _ (ys : List ℕ) (long : length ys ≡ pairs) where
+    short : length ys ≡ at + pairs - at
+    short = omega arith
+
+    pub row-back : rowOf (putMid at (at + pairs - at) t ys) pairs pair ≡ ys
+    unfolding rowOf
+    row-back =
+        ap (λ n. take pairs (drop n (putMid at (at + pairs - at) t ys))) (sym e)
+        ∙ ap (take pairs) (drop-at (take at t) _ at (length-take-le at t (omega arith)))
+        ∙ take-at ys _ pairs long
+
+    pub row-beside : Beside pairs pair t (putMid at (at + pairs - at) t ys)
+    row-beside =
+        record {
+          long =
+              same-len-mid at (at + pairs - at) t ys (long ∙ sym (ap length row-lent ∙ row-length));
+          kept = λ k h. away k (subst (λ n. (k < n) ⊎ (n + pairs ≤ k)) (sym e) h);
+        }
+      where
+        away : (k : ℕ) → (k < at) ⊎ (at + pairs ≤ k) → getD (putMid at (at + pairs - at) t ys) k 0 ≡ getD t k 0
+        away k (inl h) =
+            sym (getD-take at (putMid at (at + pairs - at) t ys) k 0 h)
+            ∙ ap (λ l. getD l k 0) (take-put at (at + pairs - at) t ys (omega arith))
+            ∙ getD-take at t k 0 h
+        away k (inr h) =
+            let z : k ≡ at + pairs + (k - (at + pairs)) = omega arith in
+            ap (λ n. getD (putMid at (at + pairs - at) t ys) n 0) z
+            ∙ sym (getD-drop (at + pairs) (putMid at (at + pairs - at) t ys) (k - (at + pairs)) 0)
+            ∙ ap (λ l. getD l (k - (at + pairs)) 0) (drop-put at (at + pairs) t ys (omega arith) (omega arith) short)
+            ∙ getD-drop (at + pairs) t (k - (at + pairs)) 0
+            ∙ ap (λ n. getD t n 0) (sym z)
+
+-- a number of a row
+pub row-at : (t : List ℕ) (pairs pair i : ℕ) → i < pairs → getD (rowOf t pairs pair) i 0 ≡ getD t (pair * pairs + i) 0
+unfolding rowOf
+row-at t pairs pair i h = getD-take pairs (drop (pair * pairs) t) i 0 h ∙ getD-drop (pair * pairs) t i 0

@@ -3,3 +3,4 @@ pub mod Run
 pub mod Strip
 pub mod Vertical
 pub mod Tally
+pub mod Fill

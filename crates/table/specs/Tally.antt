@@ -6,6 +6,7 @@
 --   flankAt t cells near far ys i    == the same, the stretch being as long as the row i is high
 --   beforeAt a                       == where the column before the line a begins; column 15, which lies beyond every frame, stands in
 --                                       for the one that the first line lacks
+--   Spare t j                        == the sums of the row j have room for one more column
 --   ColumnAdded cells near width rows t u
 --                                    == u is the sums t with one more column of cells, width nm wide; beside the lowest cell stands
 --                                       the cell of row 15, which lies beyond every frame
@@ -32,6 +33,11 @@ flankAt t cells near far ys i = addedAt t 48 cells near far (getD ys (i + 1) 0 -
 unfoldable pub beforeAt : ℕ → ℕ
 beforeAt zero = 240
 beforeAt (suc a) = 16 * a
+
+pub record Spare (t : List ℕ) (j : ℕ) : Type 0 where
+  pub count : getD t j 0 ≤ 1000000
+  pub bottom : getD t (16 + j) 0 ≤ 1000000
+  pub top : getD t (32 + j) 0 ≤ 1000000
 
 pub record ColumnAdded (cells : List ℕ) (near width rows : ℕ) (t u : List ℕ) : Type 0 where
   pub long : length u ≡ length t

@@ -1,4 +1,5 @@
 // The cost table: the entry of each piece, and the fill.
+pub mod filling;
 pub mod numbering;
 pub mod runs;
 pub mod settling;

@@ -7,7 +7,7 @@ ghost use Prim.Native.Nat.{ℕ, suc, _+_, _*_, _-_, _<_, _≤_};
 ghost use lib.Dec.{ltb};
 ghost use lib.ListN.{length, getD};
 ghost use Rattle.table.specs.Run.{Wrote};
-ghost use Rattle.table.specs.Tally.{counted, addedAt, flankAt, beforeAt, ColumnAdded, FlanksMeasured};
+ghost use Rattle.table.specs.Tally.{counted, addedAt, flankAt, beforeAt, Spare, ColumnAdded, FlanksMeasured};
 
 fn cell(byte: u8) -> u32
     ensures { λ r. ⌜ (r ≡ byte) × (r ≤ 255) ⌝ }
@@ -79,7 +79,7 @@ fn add_flank(sums: &mut [u32], cells: &[u8], near: usize, far: usize, ys: &[u16]
 pub fn add_column(sums: &mut [u32], xs: &[u16], cells: &[u8], rows: usize, column: usize)
     requires { ⌜ (length (now sums) ≡ 64) × ((length (now xs) ≡ 16) × (length (now cells) ≡ 256)) ⌝ }
     requires { ⌜ (1 ≤ rows) × ((rows ≤ 15) × ((column ≤ 14) × (getD (now xs) column 0 ≤ getD (now xs) (column + 1) 0))) ⌝ }
-    requires { ⌜ ((k : ℕ) → k < 48 → getD (now sums) k 0 ≤ 900000) ⌝ }
+    requires { ⌜ ((j : ℕ) → j < rows → Spare (now sums) j) ⌝ }
     ensures { λ _. ⌜ ColumnAdded (now (cells .entry)) (16 * column) (getD (now (xs .entry)) (column + 1) 0 - getD (now (xs .entry)) column 0) rows (now (sums .entry)) (now (sums .exit)) ⌝ }
 {
     let near = 16 * column;

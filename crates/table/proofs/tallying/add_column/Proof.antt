@@ -1,7 +1,7 @@
 -- `table::tallying::add_column` meets its contract: each of its four steps leaves the sums of the others alone. Assumes nothing.
 use Prim.Native.Nat.{_+_}
 use native.Mathlib.Omega.{arith}
-use Rattle.table.proofs.Tally.{column-1, column-2, column-3, column-4}
+use Rattle.table.proofs.Tally.{spare-next, column-1, column-2, column-3, column-4}
 use borrow.Author.Needs.{needs}
 use Rattle.table.proofs.tallying.add_column.Statement.{statement}
 use Rattle.table.proofs.tallying.add_column.Tie as tie
@@ -27,7 +27,7 @@ span-requires c κs = search needs
 count-inside-requires : tie.Need-count-inside-requires
 count-inside-requires c κs =
     let s = c .before .before .before .before .before in
-    (omega arith, λ i h. omega (arith, s .pre .1 .1 i (omega arith)))
+    (omega arith, λ i h. s .pre .1 .1 i h .count)
 
 -- src/tallying.rt:80:40
 add-add-exposed : tie.Need-add-add-exposed
@@ -39,7 +39,7 @@ add-exposed-requires c κs =
     let s = c .before .before .before .before .before .before .before .before .before in
     let w₁ = c .before .before .before .count-inside .ensures in (
       omega (arith, w₁ .long),
-      (c .before .before .before .before .before .span .ensures .1, λ i h. omega (arith, column-1 _ _ _ _ _ 0 (s .pre .1 .0 .1 .0) w₁ (16 + i) (omega arith), s .pre .1 .1 (16 + i) (omega arith))),
+      (c .before .before .before .before .before .span .ensures .1, λ i h. omega (arith, column-1 _ _ _ _ _ 0 (s .pre .1 .0 .1 .0) w₁ (16 + i) (omega arith), s .pre .1 .1 i (omega arith) .bottom)),
     )
 
 -- src/tallying.rt:81:34
@@ -59,7 +59,7 @@ add-exposed-requires-2 c κs =
       omega (arith, w₁ .long, w₂ .long),
       (
         c .before .before .before .before .before .before .before .before .before .span .ensures .1,
-        λ i h. omega (arith, column-2 _ _ _ _ _ _ (s .pre .1 .0 .1 .0) w₁ _ w₂ (17 + i) (omega arith), s .pre .1 .1 (17 + i) (omega arith)),
+        λ i h. omega (arith, column-2 _ _ _ _ _ _ (s .pre .1 .0 .1 .0) w₁ _ w₂ (17 + i) (omega arith), spare-next _ i (s .pre .1 .1 (i + 1) (omega arith))),
       ),
     )
 
@@ -80,7 +80,7 @@ add-exposed-requires-3 c κs =
         λ i h. omega (
           arith,
           column-3 _ _ _ _ _ _ (s .pre .1 .0 .1 .0) w₁ _ w₂ (s .pre .1 .0 .0) _ w₃ (32 + i) (omega arith),
-          s .pre .1 .1 (32 + i) (omega arith),
+          s .pre .1 .1 i h .top,
         ),
       ),
     )
