@@ -6,7 +6,7 @@
 --   any-at, any-none                             == a test that one member passes; one that none does
 use Prim.Native.Nat.{ℕ, zero, suc, _+_, _*_, _-_, _/_, _%_, _≤_, _<_}
 use mathlib.Core.Path.{_≡_, refl, sym, _∙_, ap, ap₂, subst}
-use mathlib.Core.Bool.{Bool, true, false, not, _&&_, _||_, or-true}
+use mathlib.Core.Bool.{Bool, true, false, not, _&&_, _||_, or-true, true≢false}
 use mathlib.Core.List.{List, [], _∷_}
 use native.Mathlib.Omega.{arith}
 use lib.Dec.{ltb, eqb}
@@ -86,6 +86,16 @@ module _ {A : Type 0} where
   unfolding any
   any-none t d [] h = refl
   any-none t d (s ∷ l) h = rw (h 0 (omega arith)) (any-none t d l (λ k q. h (suc k) (omega arith)))
+
+  -- some member passes
+  pub any-some : (t : A → Bool) (d : A) (l : List A) (R : Type 0) → any t l ≡ true → ((k : ℕ) → k < length l → t (getD l k d) ≡ true → R) → R
+  unfolding any
+  any-some t d [] R e f = absurd (true≢false (sym e))
+  any-some t d (s ∷ l) R e f = go (t s) refl e (λ i. any-some t d l R i (λ k q. f (suc k) (omega arith)))
+    where
+      go : (b : Bool) → t s ≡ b → (b || any t l) ≡ true → (any t l ≡ true → R) → R
+      go true z i g = f 0 (omega arith) z
+      go false z i g = g i
 
   -- what a test that none passes says of each
   pub none-at : (t : A → Bool) (d : A) (l : List A) (k : ℕ) → any t l ≡ false → k < length l → t (getD l k d) ≡ false

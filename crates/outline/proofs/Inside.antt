@@ -3,6 +3,7 @@
 --   Set, walls-set                    == the coordinates of the walls are those of the corners
 --   count-append, count-none, even    == how many walls of two lists, of none; an even number is not odd
 --   parity                            == an outline whose edges lie along the axes passes each height an even number of times
+--   grid-cell, grid-right, grid-above == the cells of a grid: within the frame, right of it and above it
 --   inside-cell                       == a unit square is inside just if the cell that holds it is
 --   inside-left, inside-right, inside-below, inside-above   == beyond the frame nothing is inside
 --   lines-up, lines-corners, corners-lines     == the lines rise strictly; each is a corner's coordinate; each corner's coordinate is one
@@ -97,15 +98,30 @@ unfolding within count
 same-within x₀ x₁ y₀ y₁ x y ws h a b c d =
     ap odd (sumOf-same _ _ ws (All-imp (λ w s. ap (λ t. only t 1) (same-covers x₀ x₁ y₀ y₁ x y w s a b c d)) ws h))
 
+-- the cells of a grid: within the frame, right of it and above it
+module _ (cs : List Corner) (i j : ℕ) where
+  pub grid-cell : i < length (lines X cs) - 1 → j < length (lines Y cs) - 1
+      → grid cs .inside i j ≡ odd (count (covers (place (lines X cs) i) (place (lines Y cs) j) (place (lines Y cs) (suc j))) (walls (edges cs)))
+  unfolding grid gridOf within
+  grid-cell h k = rw (lt-ltb i (length (lines X cs) - 1) h, lt-ltb j (length (lines Y cs) - 1) k)
+
+  pub grid-right : length (lines X cs) - 1 ≤ i → grid cs .inside i j ≡ false
+  unfolding grid gridOf
+  grid-right h = rw (le-ltb i (length (lines X cs) - 1) h)
+
+  pub grid-above : length (lines Y cs) - 1 ≤ j → grid cs .inside i j ≡ false
+  unfolding grid gridOf
+  grid-above h = rw (le-ltb j (length (lines Y cs) - 1) h) (and-false (ltb i (length (lines X cs) - 1)))
+
 module _ (cs : List Corner) (x y : ℕ) where
   -- Inside at the nanometre: as the cell that holds the square
   pub inside-cell : (i j : ℕ) → i < grid cs .columns → j < grid cs .rows
       → grid cs .x i ≤ x → x < grid cs .x (suc i) → grid cs .y j ≤ y → y < grid cs .y (suc j)
       → insideAt cs x y ≡ grid cs .inside i j
-  unfolding grid gridOf insideAt
+  unfolding grid gridOf insideAt within
   inside-cell i j hi hj a b c d =
       sym
-      (ap₂ _&&_ (lt-ltb i _ hi) (ap₂ _&&_ (lt-ltb j _ hj) refl)
+      (grid-cell cs i j hi hj
       ∙ same-within (place xs i) (place xs (suc i)) (place ys j) (place ys (suc j)) x y (walls (edges cs))
       (walls-set (Beside (place xs i) (place xs (suc i))) (Beside (place ys j) (place ys (suc j))) cs
       (beside xs (lines-up X cs) i (next i (length xs) hi))
@@ -291,6 +307,6 @@ module _
           y-rises = λ j h. place-rises (lines Y cs) (lines-up Y cs) j (omega arith);
           x-most = reach X;
           y-most = reach Y;
-          right-none = λ i j h. rw (le-ltb i (length (lines X cs) - 1) h);
-          above-none = λ i j h. rw (le-ltb j (length (lines Y cs) - 1) h) (and-false (ltb i (length (lines X cs) - 1)));
+          right-none = grid-right cs;
+          above-none = grid-above cs;
         }

@@ -7,3 +7,5 @@ pub mod Inside
 pub mod Turning
 pub mod Marking
 pub mod Sweeping
+pub mod Shading
+pub mod Promise

@@ -5,6 +5,7 @@
 --   before k n                       == the number before k of n, once round
 --   Right l                          == the outline passes 2, 3 and 4
 --   Room ls n v, Inserted ..         == the first n of ls rise, and there is room to insert v; ls with v inserted, and their number
+--   Gathered a l ls r after          == the r lines of the outline across the axis a, at the front of what was ls
 --   flip t n                         == n, 0 or 1, turned over where the test t holds
 --   covered lo hi bottom top         == what lies from bottom to top lies from lo to hi
 --   span ys lo hi j                  == the row j of cells between the y lines ys lies from lo to hi
@@ -18,6 +19,7 @@ use mathlib.Core.List.{List, _++_}
 use lib.Dec.{leb, ltb, eqb}
 use lib.ListN.{length, getD, take, drop}
 use Rattle.sum.specs.Sum.{only}
+use Rattle.outline.specs.declared.Axis.{Axis}
 use Rattle.outline.specs.declared.Axis.the-variants.{X, Y}
 use Rattle.outline.specs.Corners.{Corner, Link, corners, edges, turns, odd, badLength, slanted, straight}
 use Rattle.outline.specs.Lines.{Up, insert, lines, place}
@@ -55,6 +57,10 @@ pub record Room (ls : List ℕ) (n v : ℕ) : Type 0 where
 pub record Inserted (ls : List ℕ) (n v r : ℕ) (after : List ℕ) : Type 0 where
   pub number : r ≡ length (insert v (take n ls))
   pub list : after ≡ insert v (take n ls) ++ drop r ls
+
+pub record Gathered (a : Axis) (l ls : List ℕ) (r : ℕ) (after : List ℕ) : Type 0 where
+  pub number : r ≡ length (lines a (corners l))
+  pub list : after ≡ lines a (corners l) ++ drop r ls
 
 unfoldable pub flip : Bool → ℕ → ℕ
 flip true n = 1 - n

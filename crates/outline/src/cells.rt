@@ -1,9 +1,7 @@
 // The cells inside an outline, by the odd count.
 ghost use mathlib.Core.Path.{_≡_};
-ghost use mathlib.Core.Bool.{_&&_};
-ghost use Prim.Native.Nat.{ℕ, _*_, _+_, _/_, _%_, _≤_, _<_, min, max};
-ghost use lib.Dec.{eqb, leb};
-ghost use lib.ListN.{length, getD};
+ghost use Prim.Native.Nat.{_+_, _/_, _≤_, _<_, min, max};
+ghost use lib.ListN.{length, replicate};
 ghost use Rattle.outline.specs.Corners as corner;
 ghost use Rattle.outline.specs.Inside as figure;
 ghost use Rattle.outline.specs.Steps as step;
@@ -72,7 +70,7 @@ fn mark(corners: &[u16], k: usize, xs: &[u16], ys: &[u16], cells: &mut [u8])
 }
 
 // Turns over the cells on the right of each wall.
-pub fn mark_walls(corners: &[u16], xs: &[u16], ys: &[u16], cells: &mut [u8])
+fn mark_walls(corners: &[u16], xs: &[u16], ys: &[u16], cells: &mut [u8])
     requires { ⌜ step.Ruled (now corners) (now xs) (now ys) ⌝ }
     requires { ⌜ step.Marked (now corners) 0 (now cells) ⌝ }
     ensures { λ _. ⌜ step.Marked (now (corners .entry)) (length (now (corners .entry)) / 2) (now (cells .exit)) ⌝ }
@@ -84,13 +82,23 @@ pub fn mark_walls(corners: &[u16], xs: &[u16], ys: &[u16], cells: &mut [u8])
 }
 
 // Lets each mark reach to the right: a cell is then 1 where the number of walls at or left of it is odd.
-pub fn sweep(cells: &mut [u8])
+fn sweep(cells: &mut [u8])
     requires { ⌜ step.Marks (now cells) ⌝ }
     ensures { λ _. ⌜ step.Swept (now (cells .entry)) (now (cells .exit)) ⌝ }
 {
     for k in 16..256 {
         cells[k] = (cells[k - 16] + cells[k]) % 2;
     }
+}
+
+// Sets the cells inside an outline that passes 2, 3 and 4, by its x lines and its y lines.
+pub fn shade(corners: &[u16], xs: &[u16], ys: &[u16], cells: &mut [u8])
+    requires { ⌜ step.Ruled (now corners) (now xs) (now ys) ⌝ }
+    requires { ⌜ now cells ≡ replicate 256 0 ⌝ }
+    ensures { λ _. ⌜ now (cells .exit) ≡ promise.laid (figure.grid (corner.corners (now (corners .entry)))) .cells ⌝ }
+{
+    mark_walls(corners, xs, ys, cells);
+    sweep(cells);
 }
 
 // Whether some cell is inside.

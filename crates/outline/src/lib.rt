@@ -2,6 +2,8 @@
 ghost use mathlib.Core.Path.{_≡_};
 ghost use Prim.Native.Nat.{_<_};
 ghost use lib.ListN.{length, getD};
+ghost use Rattle.outline.specs.Steps as step;
+ghost use Rattle.outline.specs.Promise as promise;
 
 mod cells;
 mod edges;
@@ -51,4 +53,61 @@ pub fn place_of(lines: &[u16], line: Line) -> Place
 {
     let at = line.0;
     Place(lines[at])
+}
+
+// A refusal: the grid beside it is all zeros.
+fn refused(answer: Answer) -> Drawing
+    ensures { λ r. ⌜ (r .answer ≡ answer) × (r .grid ≡ promise.blank) ⌝ }
+{
+    let grid = Grid {
+        columns: 0,
+        rows: 0,
+        xs: [0u16; 16],
+        ys: [0u16; 16],
+        cells: [0u8; 256],
+    };
+    Drawing { answer, grid }
+}
+
+// The drawing of an outline that passes 2, 3 and 4.
+fn plot(corners: &[u16]) -> Drawing
+    requires { ⌜ step.Right (now corners) ⌝ }
+    ensures { λ r. ⌜ promise.Promise (now (corners .entry)) r ⌝ }
+{
+    let mut xs = [0u16; 16];
+    let mut ys = [0u16; 16];
+    let mut cells = [0u8; 256];
+    let across_x = rising::gather(corners, Axis::X, &mut xs);
+    let across_y = rising::gather(corners, Axis::Y, &mut ys);
+    cells::shade(corners, &xs[..across_x], &ys[..across_y], &mut cells);
+    if !cells::any_inside(&cells) {
+        return refused(Answer::Empty);
+    }
+    let grid = Grid {
+        columns: across_x - 1,
+        rows: across_y - 1,
+        xs,
+        ys,
+        cells,
+    };
+    Drawing {
+        answer: Answer::Accepted,
+        grid,
+    }
+}
+
+// The grid of an outline, from the list x, y, x, y, .. of its corners; or the first of 2, 3, 4, 5 whose condition holds.
+pub fn draw(corners: &[u16]) -> Drawing
+    ensures { λ r. ⌜ promise.Promise (now (corners .entry)) r ⌝ }
+{
+    if edges::bad_length(corners) {
+        return refused(Answer::Length);
+    }
+    if edges::slanted(corners) {
+        return refused(Answer::Slanted);
+    }
+    if edges::straight(corners) {
+        return refused(Answer::Straight);
+    }
+    plot(corners)
 }

@@ -1,0 +1,269 @@
+-- The promise of a drawing: which refusal is given when, how a grid lies in memory, and that nothing is left open. Assumes nothing.
+--
+--   length-table, table-at       == a table has so many numbers, and each is the function's
+--   front-within, front-lines, front-length   == the lines at the front of a list
+--   lines-laid, cells-laid       == lines and cells as the code has them are those of the grid in memory
+--   cells-shaded                 == the marks of all edges, swept, are the cells
+--   cells-empty, cells-some      == where no cell in memory is 1 no cell is inside, and the other way round
+--   refusal-2, -3, -4, -5, -0    == the refusal, by the tests in their order
+use Prim.Native.Nat.{ℕ, zero, suc, _+_, _*_, _-_, _/_, _%_, _≤_, _<_}
+use mathlib.Core.Path.{_≡_, refl, sym, _∙_, ap, ap₂, subst}
+use mathlib.Core.Bool.{Bool, true, false, not, cond, _&&_, _||_, true≢false}
+use mathlib.Core.List.{List, [], _∷_, _++_}
+use mathlib.Core.Logic.{_⊎_, inl, inr}
+use native.Mathlib.Omega.{arith}
+use lib.Dec.{leb, ltb, eqb}
+use lib.ListN.{length, getD, take, drop, replicate, length-append, length-drop, List·getD-append, List·getD-eq-default}
+use lib.Seq.{ext-getD, take-all, take-at, getD-append-add, getD-drop, getD-at}
+use borrow.Author.Tests.{le-leb, lt-leb, eqb-true, eq-eqb, ne-eqb, not-false}
+use Rattle.sum.specs.Sum.{only, over, All}
+use Rattle.sum.proofs.Sum.{le-or, over-zero, over-term}
+use Rattle.outline.specs.declared.Axis.{Axis}
+use Rattle.outline.specs.declared.Axis.the-variants.{X, Y}
+use Rattle.outline.specs.declared.Answer.{Answer}
+use Rattle.outline.specs.declared.Answer.the-variants.{Accepted, Length, Slanted, Straight, Empty}
+use Rattle.outline.specs.declared.Drawing.{Drawing}
+use Rattle.outline.specs.declared.Grid as stored
+use Rattle.outline.specs.Corners.{Corner, corners, coordinate, edges, odd, any, badLength, slanted, straight}
+use Rattle.outline.specs.Lines.{lines, place}
+use Rattle.outline.specs.Grid.{Grid, Sound}
+use Rattle.outline.specs.Inside.{walls, count, gridOf, grid, insideCells, empty}
+use Rattle.outline.specs.Promise.{number, refusal, table, laid, blank, Promise}
+use Rattle.outline.specs.Steps.{lit, stands, marks, Right, Gathered, Ruled, Marked, Swept}
+use Rattle.outline.proofs.Corners.{length-edges, none-at, any-some}
+use Rattle.outline.proofs.Lines.{place-at}
+use Rattle.outline.proofs.Inside.{grid-sound}
+use Rattle.outline.proofs.Marking.{right-length, right-lines}
+use Rattle.outline.proofs.Shading.{swept-count, reaches-inside}
+
+pub length-table : (n : ℕ) (f : ℕ → ℕ) → length (table n f) ≡ n
+unfolding table
+length-table zero f = refl
+length-table (suc n) f = length-append (table n f) (f n ∷ []) ∙ omega (arith, length-table n f)
+
+pub table-at : (n : ℕ) (f : ℕ → ℕ) (i : ℕ) → i < n → getD (table n f) i 0 ≡ f i
+unfolding table
+table-at zero f i h = absurd (omega arith)
+table-at (suc n) f i h = elim (le-or n i) [
+  | inl q ↦ (let e : i ≡ n = omega arith in rw e (getD-at (table n f) (f n) [] 0 n (length-table n f)))
+  | inr q ↦ List·getD-append (table n f) (f n ∷ []) 0 i (omega (arith, length-table n f)) ∙ table-at n f i q
+]
+
+-- a list of numbers that are the function's is its table
+table-is : (n : ℕ) (f : ℕ → ℕ) (l : List ℕ) → length l ≡ n → ((i : ℕ) → i < n → getD l i 0 ≡ f i) → l ≡ table n f
+table-is n f l h k =
+    ext-getD 0 l (table n f) (h ∙ sym (length-table n f)) (λ i q. k i (omega arith) ∙ sym (table-at n f i (omega arith)))
+
+zeros : (m n : ℕ) → _≡_ {A = ℕ} (getD (replicate m 0) n 0) 0
+zeros zero n = refl
+zeros (suc m) zero = refl
+zeros (suc m) (suc n) = zeros m n
+
+-- what was gathered is at the front
+module _ (a : Axis) (l ls : List ℕ) (n : ℕ) (after : List ℕ) (h : Gathered a l ls n after) where
+  pub front-within : n ≤ length after
+  front-within = omega (arith, h .number, ap length (h .list), length-append (lines a (corners l)) (drop n ls))
+
+  pub front-lines : take n after ≡ lines a (corners l)
+  front-lines = ap (take n) (h .list) ∙ take-at (lines a (corners l)) (drop n ls) n (sym (h .number))
+
+  pub front-length : n ≡ length (take n after)
+  front-length = h .number ∙ ap length (sym front-lines)
+
+-- lines, and zeros beyond them
+pub lines-laid : (ls : List ℕ) → 1 ≤ length ls → length ls ≤ 16
+    → ls ++ drop (length ls) (replicate 16 0) ≡ table 16 (λ i. only (leb i (length ls - 1)) (place ls i))
+lines-laid ls h k =
+    table-is 16 _ (ls ++ drop (length ls) (replicate 16 0))
+    (length-append ls (drop (length ls) (replicate 16 0)) ∙ omega (arith, length-drop {A = ℕ} (length ls) (replicate 16 0)))
+    (λ i q. elim (le-or (length ls) i) [ inl r ↦ past i r | inr r ↦ at i r ])
+  where
+    at : (i : ℕ) → i < length ls → getD (ls ++ drop (length ls) (replicate 16 0)) i 0 ≡ only (leb i (length ls - 1)) (place ls i)
+    at i r =
+        List·getD-append ls (drop (length ls) (replicate 16 0)) 0 i r
+        ∙ sym (place-at ls i r)
+        ∙ ap (λ b. only b (place ls i)) (sym (le-leb i (length ls - 1) (omega arith)))
+
+    past : (i : ℕ) → length ls ≤ i → getD (ls ++ drop (length ls) (replicate 16 0)) i 0 ≡ only (leb i (length ls - 1)) (place ls i)
+    past i r =
+        let z : i ≡ length ls + (i - length ls) = omega arith in
+        ap (λ n. getD (ls ++ drop (length ls) (replicate 16 0)) n 0) z
+        ∙ getD-append-add ls (drop (length ls) (replicate 16 0)) (i - length ls) 0
+        ∙ getD-drop (length ls) (replicate 16 0) (i - length ls) 0
+        ∙ zeros 16 (length ls + (i - length ls))
+        ∙ ap (λ b. only b (place ls i)) (sym (lt-leb i (length ls - 1) (omega arith)))
+
+-- cells, column after column
+pub cells-laid : (g : Grid) (cells : List ℕ) → length cells ≡ 256
+    → ((i j : ℕ) → i < 16 → j < 16 → getD cells (16 * i + j) 0 ≡ only (g .inside i j) 1)
+    → cells ≡ laid g .cells
+unfolding laid
+cells-laid g cells h k =
+    table-is 256 _ cells h
+    (λ n q.
+    let z : n ≡ 16 * (n / 16) + n % 16 = omega arith in
+    ap (λ m. getD cells m 0) z ∙ k (n / 16) (n % 16) (omega arith) (omega arith))
+
+-- the marks of all edges, swept, are the cells
+pub cells-shaded : (l xs ys cells after : List ℕ) → Ruled l xs ys → Marked l (length l / 2) cells → Swept cells after
+    → length after ≡ length cells
+    → after ≡ laid (grid (corners l)) .cells
+unfolding marks
+cells-shaded l xs ys cells after ruled m swept e =
+    cells-laid (grid (corners l)) after (e ∙ m .length-cells)
+    (λ i j p q.
+    swept .at i j p q
+    ∙ swept-count (corners l) some cells all i j q
+    ∙ ap (λ b. only b 1) (reaches-inside (corners l) some (ruled .right .slanted-none) i j))
+  where
+    some : 0 < length (lines X (corners l))
+    some = omega (arith, right-lines l (ruled .right) X)
+
+    all : (n : ℕ) → getD cells n 0 ≡ only (odd (count (stands (lines X (corners l)) (lines Y (corners l)) n) (walls (edges (corners l))))) 1
+    all n =
+        m .at n
+        ∙ ap (λ es. only (odd (count (stands (lines X (corners l)) (lines Y (corners l)) n) (walls es))) 1)
+        (take-all (length l / 2) (edges (corners l)) (omega (arith, length-edges l)))
+
+-- where no cell in memory is 1 no cell is inside, and the other way round
+module _ (g : Grid) (sound : Sound g) where
+  -- a cell of the frame in memory
+  cell-at : (i j : ℕ) → i < 16 → j < 16 → getD (laid g .cells) (16 * i + j) 0 ≡ only (g .inside i j) 1
+  unfolding laid
+  cell-at i j p q =
+      let u : (16 * i + j) / 16 ≡ i = omega arith in
+      let v : (16 * i + j) % 16 ≡ j = omega arith in
+      table-at 256 _ (16 * i + j) (omega arith) ∙ ap₂ (λ m n. only (g .inside m n) 1) u v
+
+  length-cells : length (laid g .cells) ≡ 256
+  unfolding laid
+  length-cells = length-table 256 _
+
+  pub cells-empty : any lit (laid g .cells) ≡ false → empty g ≡ true
+  unfolding empty insideCells lit
+  cells-empty h =
+      eq-eqb _ 0
+      (over-zero 0 (g .columns) _
+      (λ i p q.
+      over-zero 0 (g .rows) _
+      (λ j r s.
+      sym (cell-at i j (omega (arith, sound .columns-most)) (omega (arith, sound .rows-most)))
+      ∙ eqb-true _ 0
+      (not-false _ (none-at lit 0 (laid g .cells) (16 * i + j) h (omega (arith, length-cells, sound .columns-most, sound .rows-most)))))))
+
+  -- an inside cell lies in the frame, and is counted
+  counted : (i j : ℕ) → g .inside i j ≡ true → 1 ≤ insideCells g
+  unfolding insideCells
+  counted i j h = elim (le-or (g .columns) i) [
+    | inl p ↦ absurd (true≢false (sym h ∙ sound .right-none i j p))
+    | inr p ↦
+        elim (le-or (g .rows) j) [
+          | inl q ↦ absurd (true≢false (sym h ∙ sound .above-none i j q))
+          | inr q ↦
+              omega (
+                arith,
+                over-term 0 (g .columns) i (λ i. over 0 (g .rows) (λ j. only (g .inside i j) 1)) (omega arith) p,
+                over-term 0 (g .rows) j (λ j. only (g .inside i j) 1) (omega arith) q,
+                ap (λ b. only b 1) h,
+              )
+        ]
+  ]
+
+  pub cells-some : any lit (laid g .cells) ≡ true → empty g ≡ false
+  unfolding empty lit laid
+  cells-some h =
+      any-some lit 0 (laid g .cells) (eqb (insideCells g) 0 ≡ false) h
+      (λ k q e. ne-eqb (insideCells g) 0 (λ z. absurd (omega (arith, counted (k / 16) (k % 16) (on k (omega (arith, length-cells)) e)))))
+    where
+      is-one : (b : Bool) → not (eqb (only b 1) 0) ≡ true → b ≡ true
+      is-one true e = refl
+      is-one false e = absurd (true≢false (sym e))
+
+      on : (k : ℕ) → k < 256 → not (eqb (getD (table 256 (λ k. only (g .inside (k / 16) (k % 16)) 1)) k 0) 0) ≡ true → g .inside (k / 16) (k % 16) ≡ true
+      on k q e = is-one (g .inside (k / 16) (k % 16)) (ap (λ n. not (eqb n 0)) (sym (table-at 256 _ k q)) ∙ e)
+
+-- the refusal, by the tests in their order
+module _ (l : List ℕ) where
+  pub refusal-2 : badLength l ≡ true → refusal l ≡ 2
+  unfolding refusal
+  refusal-2 a = rw a
+
+  pub refusal-3 : badLength l ≡ false → slanted (corners l) ≡ true → refusal l ≡ 3
+  unfolding refusal
+  refusal-3 a b = rw (a, b)
+
+  pub refusal-4 : badLength l ≡ false → slanted (corners l) ≡ false → straight (corners l) ≡ true → refusal l ≡ 4
+  unfolding refusal
+  refusal-4 a b c = rw (a, b, c)
+
+  pub refusal-5 : Right l → empty (grid (corners l)) ≡ true → refusal l ≡ 5
+  unfolding refusal
+  refusal-5 r d = rw (r .length-good, r .slanted-none, r .straight-none, d)
+
+  pub refusal-0 : Right l → empty (grid (corners l)) ≡ false → refusal l ≡ 0
+  unfolding refusal
+  refusal-0 r d = rw (r .length-good, r .slanted-none, r .straight-none, d)
+
+  -- a refusal keeps the promise
+  pub promise-refused : (n : ℕ) (r : Drawing) (a : Answer) → refusal l ≡ suc n → r .answer ≡ a → number a ≡ suc n → r .grid ≡ blank → Promise l r
+  promise-refused n r a e f h g =
+      record {
+        told = ap number f ∙ h ∙ sym e;
+        drawn = g ∙ sym (ap (λ b. cond b (laid (grid (corners l))) blank) (ne-eqb (refusal l) 0 (λ z. omega arith)));
+        sound = λ z. absurd (omega arith);
+      }
+
+-- the corners' places are 16-bit numbers, as those of the list are
+corners-range : (l : List ℕ) → ((i : ℕ) → getD l i 0 ≤ 65535) → (a : Axis) → All (λ c. coordinate a c ≤ 65535) (corners l)
+unfolding corners coordinate
+corners-range [] h a = tt
+corners-range (u ∷ []) h a = tt
+corners-range (u ∷ v ∷ l) h X = (h 0, corners-range l (λ i. h (suc (suc i))) X)
+corners-range (u ∷ v ∷ l) h Y = (h 1, corners-range l (λ i. h (suc (suc i))) Y)
+
+module _ (l : List ℕ) (right : Right l) (range : (i : ℕ) → getD l i 0 ≤ 65535) where
+  -- The grid of an outline that passes 2 to 4 is sound
+  pub right-sound : Sound (grid (corners l))
+  right-sound =
+      let n = right-length l right in
+      grid-sound (corners l) (right .slanted-none) (right .straight-none) (omega arith) (omega arith) (corners-range l range)
+
+  module _ (cells : List ℕ) (shaded : cells ≡ laid (grid (corners l)) .cells) where
+    pub promise-empty : (t : Bool) (r : Drawing) → t ≡ any lit cells → t ≡ false → r .answer ≡ Empty → r .grid ≡ blank → Promise l r
+    unfolding number
+    promise-empty t r e f a b =
+        promise-refused l 4 r Empty
+        (refusal-5 l right (cells-empty (grid (corners l)) right-sound (ap (any lit) (sym shaded) ∙ sym e ∙ f)))
+        a
+        refl
+        b
+
+    pub promise-accepted : (t : Bool) (m n : ℕ) (xs ys : List ℕ) → t ≡ any lit cells → t ≡ true
+        → Gathered X l (replicate 16 0) m xs → Gathered Y l (replicate 16 0) n ys
+        → Promise l (record { answer = Accepted; grid = record { columns = m - 1; rows = n - 1; xs = xs; ys = ys; cells = cells } })
+    unfolding number laid grid gridOf
+    promise-accepted t m n xs ys e f hx hy =
+        record {
+          told = sym none;
+          drawn = same ∙ sym (ap (λ z. cond (eqb z 0) (laid (grid (corners l))) blank) none);
+          sound = λ z. right-sound;
+        }
+      where
+        laid-x : xs ≡ table 16 (λ i. only (leb i (length (lines X (corners l)) - 1)) (place (lines X (corners l)) i))
+        laid-x = hx .list ∙ ap (λ k. lines X (corners l) ++ drop k (replicate 16 0)) (hx .number) ∙ lines-laid (lines X (corners l)) (omega (arith, right-lines l right X)) (right-lines l right X .1)
+
+        laid-y : ys ≡ table 16 (λ i. only (leb i (length (lines Y (corners l)) - 1)) (place (lines Y (corners l)) i))
+        laid-y = hy .list ∙ ap (λ k. lines Y (corners l) ++ drop k (replicate 16 0)) (hy .number) ∙ lines-laid (lines Y (corners l)) (omega (arith, right-lines l right Y)) (right-lines l right Y .1)
+
+        same : _≡_ {A = stored.Grid} (record { columns = m - 1; rows = n - 1; xs = xs; ys = ys; cells = cells }) (laid (grid (corners l)))
+        same i =
+            record {
+              columns = ap (λ k. k - 1) (hx .number) i;
+              rows = ap (λ k. k - 1) (hy .number) i;
+              xs = laid-x i;
+              ys = laid-y i;
+              cells = shaded i;
+            }
+
+        none : refusal l ≡ 0
+        none = refusal-0 l right (cells-some (grid (corners l)) right-sound (ap (any lit) (sym shaded) ∙ sym e ∙ f))
