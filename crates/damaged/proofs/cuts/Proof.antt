@@ -1,0 +1,37 @@
+-- The loop passes each turn once. Assumes nothing.
+use borrow.Author.Needs.{needs}
+use Prim.Native.Nat.{_≤_, _-_}
+use Rattle.damaged.proofs.cuts.Statement.{statement}
+use Rattle.damaged.proofs.cuts.Tie as tie
+use Rattle.damaged.proofs.cuts.Reads as reads
+use Rattle.damaged.proofs.cuts.Lts as lts
+use Rattle.damaged.proofs.cut_short.Reads as cut-short-reads
+
+abbrev Inv-loop : tie.InvT-loop
+Inv-loop n₀ n = n ≤ 17
+
+abbrev μ-loop : tie.MeasureT-loop
+μ-loop n₀ n = 17 - n
+
+loop-holds : tie.Need-loop-holds Inv-loop μ-loop
+loop-holds c = search needs
+
+cut-short-requires : tie.Need-cut-short-requires Inv-loop μ-loop
+cut-short-requires c κs = search needs
+
+add-n : tie.Need-add-n Inv-loop μ-loop
+add-n c = search needs
+
+loop-less : tie.Need-loop-less Inv-loop μ-loop
+loop-less c = search needs
+
+loop-again : tie.Need-loop-again Inv-loop μ-loop
+loop-again c = search needs
+
+returns : tie.Need-returns Inv-loop μ-loop
+returns c = search needs
+
+pub cuts-spec : {M : Type 1} → statement M
+cuts-spec =
+    tie.close
+    (tie.spec Inv-loop μ-loop loop-holds cut-short-requires add-n loop-less loop-again returns)
