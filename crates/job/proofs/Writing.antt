@@ -24,7 +24,8 @@ use Rattle.number.proofs.Bytes.{bytes-one, bytes-two, bytes-three, bytes-length
 use Rattle.rule.specs.Rules.{inRange, ruleTold, given, refused, Told}
 use Rattle.rule.specs.declared.Rule.{Rule}
 use Rattle.job.specs.Bytes.{coordinateBytes, headerBytes, outlineBytes}
-use Rattle.job.specs.Calls.{WriteSaid, unwritten, writtenTo, headerWritten, badLength, outlineWritten}
+use Rattle.job.specs.Calls.{WriteSaid, unwritten, writtenTo, headerWritten, outlineWritten}
+use Rattle.outline.specs.Corners.{badLength, odd}
 
 -- a number
 
@@ -161,19 +162,19 @@ module _ (t w k : ℕ) (out : List ℕ) (range : inRange t w ≡ true) {a b d : 
 
 module _ (l out : List ℕ) where
   pub outline-odd : length l % 2 ≡ 1 → unwritten 2 out ≡ outlineWritten l out
-  unfolding outlineWritten badLength
+  unfolding outlineWritten badLength odd
   outline-odd e = simp (eq-eqb (length l % 2) 1 e)
 
   pub outline-short : length l < 8 → unwritten 2 out ≡ outlineWritten l out
-  unfolding outlineWritten badLength
+  unfolding outlineWritten badLength odd
   outline-short h = simp (lt-ltb, or-true)
 
   pub outline-long : 64 < length l → unwritten 2 out ≡ outlineWritten l out
-  unfolding outlineWritten badLength
+  unfolding outlineWritten badLength odd
   outline-long h = simp (lt-ltb, or-true)
 
   pub outline-right : (length l % 2 ≡ 1 → ⊥) → 8 ≤ length l → length l ≤ 64 → writtenTo out (outlineBytes l) ≡ outlineWritten l out
-  unfolding outlineWritten badLength
+  unfolding outlineWritten badLength odd
   outline-right e h k = simp (ne-eqb (length l % 2) 1 e, le-ltb)
 
   pub outline-put : (v at : ℕ) (o q : List ℕ) → v ≡ length l / 2 → at ≡ 0 + length (numberBytes v) → o ≡ sets out 0 (numberBytes v)

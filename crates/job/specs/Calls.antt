@@ -7,15 +7,16 @@
 --   headerWritten t w k out     == writing a header
 --   outlineWritten l out        == writing an outline
 --   .. Told                     == the same for each case of an answer of the code
-use Prim.Native.Nat.{ℕ, _+_, _-_, _/_, _%_}
+use Prim.Native.Nat.{ℕ, _-_, _/_}
 use mathlib.Core.List.{List, [], _++_}
-use mathlib.Core.Bool.{Bool, cond, not, _&&_, _||_}
+use mathlib.Core.Bool.{cond}
 use lib.ListN.{length, getD, take, drop}
-use lib.Dec.{ltb, leb, eqb}
+use lib.Dec.{ltb, leb}
 use Rattle.number.specs.declared.Refusal.{Refusal}
 use Rattle.number.specs.declared.Refusal.the-variants.{Missing, Room}
 use Rattle.number.specs.Reading.{Reading, read, fault, refusalNo}
 use Rattle.rule.specs.Rules.{inRange}
+use Rattle.outline.specs.Corners.{badLength}
 use Rattle.job.specs.Bytes.{headerBytes, outlineBytes}
 use Rattle.job.specs.Job.{Part, Job, outline, filled, job}
 use Rattle.job.specs.declared.read.Checked.{Checked}
@@ -127,11 +128,7 @@ unfoldable pub headerWritten : ℕ → ℕ → ℕ → List ℕ → WriteSaid
 headerWritten t w k out =
     cond (inRange t w) (cond (ltb 255 k) (unwritten 10 out) (writtenTo out (headerBytes t w k))) (unwritten 1 out)
 
--- length odd, under 8 or over 64: 2
-unfoldable pub badLength : List ℕ → Bool
-badLength l = eqb (length l % 2) 1 || (ltb (length l) 8 || ltb 64 (length l))
-
--- 2, 14
+-- 2 for a length that is odd, under 8 or over 64; 14
 unfoldable pub outlineWritten : List ℕ → List ℕ → WriteSaid
 outlineWritten l out = cond (badLength l) (unwritten 2 out) (writtenTo out (outlineBytes l))
 
