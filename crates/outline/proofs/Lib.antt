@@ -9,3 +9,4 @@ pub mod Marking
 pub mod Sweeping
 pub mod Shading
 pub mod Promise
+pub mod Memory

@@ -6,11 +6,15 @@
 --   cells-shaded                 == the marks of all edges, swept, are the cells
 --   cells-empty, cells-some      == where no cell in memory is 1 no cell is inside, and the other way round
 --   refusal-2, -3, -4, -5, -0    == the refusal, by the tests in their order
+--   refusal-first, answer-first  == a refusal is given exactly when it is the first whose condition holds
+--   right-sound                  == the grid of an outline that passes 2 to 4 is sound
+--   promise-refused, promise-empty, promise-accepted   == each way a drawing ends keeps the promise
+--   promise-unique               == any two drawings that keep the promise are equal
 use Prim.Native.Nat.{ℕ, zero, suc, _+_, _*_, _-_, _/_, _%_, _≤_, _<_}
 use mathlib.Core.Path.{_≡_, refl, sym, _∙_, ap, ap₂, subst}
 use mathlib.Core.Bool.{Bool, true, false, not, cond, _&&_, _||_, true≢false}
 use mathlib.Core.List.{List, [], _∷_, _++_}
-use mathlib.Core.Logic.{_⊎_, inl, inr}
+use mathlib.Core.Logic.{_↔_, inl, inr}
 use native.Mathlib.Omega.{arith}
 use lib.Dec.{leb, ltb, eqb}
 use lib.ListN.{length, getD, take, drop, replicate, length-append, length-drop, List·getD-append, List·getD-eq-default}
@@ -267,3 +271,86 @@ module _ (l : List ℕ) (right : Right l) (range : (i : ℕ) → getD l i 0 ≤ 
 
         none : refusal l ≡ 0
         none = refusal-0 l right (cells-some (grid (corners l)) right-sound (ap (any lit) (sym shaded) ∙ sym e ∙ f))
+
+-- which of four tests is the first that holds
+pub record First (a b c d : Bool) (n : ℕ) : Type 0 where
+  pub two : (n ≡ 2) ↔ (a ≡ true)
+  pub three : (n ≡ 3) ↔ ((a ≡ false) × (b ≡ true))
+  pub four : (n ≡ 4) ↔ ((a ≡ false) × (b ≡ false) × (c ≡ true))
+  pub five : (n ≡ 5) ↔ ((a ≡ false) × (b ≡ false) × (c ≡ false) × (d ≡ true))
+  pub none : (n ≡ 0) ↔ ((a ≡ false) × (b ≡ false) × (c ≡ false) × (d ≡ false))
+
+first-of : (a b c d : Bool) → First a b c d (cond a 2 (cond b 3 (cond c 4 (cond d 5 0))))
+first-of true b c d =
+    record {
+      two = ((λ e. refl), λ h. refl);
+      three = ((λ e. absurd (omega arith)), λ h. absurd (true≢false (h .0)));
+      four = ((λ e. absurd (omega arith)), λ h. absurd (true≢false (h .0)));
+      five = ((λ e. absurd (omega arith)), λ h. absurd (true≢false (h .0)));
+      none = ((λ e. absurd (omega arith)), λ h. absurd (true≢false (h .0)));
+    }
+first-of false true c d =
+    record {
+      two = ((λ e. absurd (omega arith)), λ h. absurd (true≢false (sym h)));
+      three = ((λ e. (refl, refl)), λ h. refl);
+      four = ((λ e. absurd (omega arith)), λ h. absurd (true≢false (h .1)));
+      five = ((λ e. absurd (omega arith)), λ h. absurd (true≢false (h .1)));
+      none = ((λ e. absurd (omega arith)), λ h. absurd (true≢false (h .1)));
+    }
+first-of false false true d =
+    record {
+      two = ((λ e. absurd (omega arith)), λ h. absurd (true≢false (sym h)));
+      three = ((λ e. absurd (omega arith)), λ h. absurd (true≢false (sym (h .1))));
+      four = ((λ e. (refl, refl, refl)), λ h. refl);
+      five = ((λ e. absurd (omega arith)), λ h. absurd (true≢false (h .2)));
+      none = ((λ e. absurd (omega arith)), λ h. absurd (true≢false (h .2)));
+    }
+first-of false false false true =
+    record {
+      two = ((λ e. absurd (omega arith)), λ h. absurd (true≢false (sym h)));
+      three = ((λ e. absurd (omega arith)), λ h. absurd (true≢false (sym (h .1))));
+      four = ((λ e. absurd (omega arith)), λ h. absurd (true≢false (sym (h .2))));
+      five = ((λ e. (refl, refl, refl, refl)), λ h. refl);
+      none = ((λ e. absurd (omega arith)), λ h. absurd (true≢false (h .3)));
+    }
+first-of false false false false =
+    record {
+      two = ((λ e. absurd (omega arith)), λ h. absurd (true≢false (sym h)));
+      three = ((λ e. absurd (omega arith)), λ h. absurd (true≢false (sym (h .1))));
+      four = ((λ e. absurd (omega arith)), λ h. absurd (true≢false (sym (h .2))));
+      five = ((λ e. absurd (omega arith)), λ h. absurd (true≢false (sym (h .3))));
+      none = ((λ e. (refl, refl, refl, refl)), λ h. refl);
+    }
+
+-- Each refusal is given exactly when its condition holds and none before it does, and none exactly when no condition holds
+pub refusal-first : (l : List ℕ) → First (badLength l) (slanted (corners l)) (straight (corners l)) (empty (grid (corners l))) (refusal l)
+unfolding refusal
+refusal-first l = first-of (badLength l) (slanted (corners l)) (straight (corners l)) (empty (grid (corners l)))
+
+-- and so does the answer of a drawing that keeps its promise
+pub answer-first : (l : List ℕ) (r : Drawing) → Promise l r
+    → First (badLength l) (slanted (corners l)) (straight (corners l)) (empty (grid (corners l))) (number (r .answer))
+answer-first l r p =
+    subst (First (badLength l) (slanted (corners l)) (straight (corners l)) (empty (grid (corners l)))) (sym (p .told)) (refusal-first l)
+
+-- Any two drawings that keep the promise are equal: numbers tell the answers apart
+answerOf : ℕ → Answer
+answerOf n = cond (eqb n 0) Accepted (cond (eqb n 2) Length (cond (eqb n 3) Slanted (cond (eqb n 4) Straight Empty)))
+
+number-back : (a : Answer) → answerOf (number a) ≡ a
+unfolding number answerOf
+number-back Accepted = refl
+number-back Length = refl
+number-back Slanted = refl
+number-back Straight = refl
+number-back Empty = refl
+
+pub number-same : (a b : Answer) → number a ≡ number b → a ≡ b
+number-same a b e = sym (number-back a) ∙ ap answerOf e ∙ number-back b
+
+pub promise-unique : (l : List ℕ) (r s : Drawing) → Promise l r → Promise l s → r ≡ s
+promise-unique l r s p q i =
+    record {
+      answer = number-same (r .answer) (s .answer) (p .told ∙ sym (q .told)) i;
+      grid = (p .drawn ∙ sym (q .drawn)) i;
+    }

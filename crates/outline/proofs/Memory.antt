@@ -1,0 +1,116 @@
+-- A grid in memory: it is read back whole, and a drawing that keeps its promise holds the outline's grid. Assumes nothing.
+--
+--   laid-drawn              == a sound grid lies in memory as `Drawn` says
+--   laid-stored             == what lies there, read back, is the grid
+--   grid-repeats            == past the last line a place is the last line's
+--   drawing-drawn, drawing-stored, drawing-columns, drawing-rows   == the same of the drawing of an accepted outline
+use Prim.Native.Nat.{ℕ, suc, _+_, _*_, _-_, _/_, _%_, _≤_, _<_, min}
+use mathlib.Core.Path.{_≡_, refl, sym, _∙_, ap, ap₂, subst}
+use mathlib.Core.Bool.{Bool, true, false, cond, _&&_, and-false}
+use mathlib.Core.List.{List}
+use mathlib.Core.Logic.{inl, inr}
+use native.Mathlib.Omega.{arith}
+use lib.Dec.{leb, ltb, eqb}
+use lib.ListN.{length, getD}
+use borrow.Author.Tests.{le-leb, lt-ltb, le-ltb, eq-eqb}
+use Rattle.sum.specs.Sum.{only}
+use Rattle.sum.proofs.Sum.{le-or}
+use Rattle.outline.specs.declared.Axis.the-variants.{X, Y}
+use Rattle.outline.specs.declared.Drawing.{Drawing}
+use Rattle.outline.specs.Corners.{Corner, corners}
+use Rattle.outline.specs.Lines.{lines, place}
+use Rattle.outline.specs.Grid.{Grid, Sound, Drawn, stored}
+use Rattle.outline.specs.Inside.{grid, gridOf}
+use Rattle.outline.specs.Promise.{refusal, table, laid, blank, Promise}
+use Rattle.outline.proofs.Lines.{place-past}
+use Rattle.outline.proofs.Promise.{length-table, table-at}
+
+-- a place of a list of lines in memory
+place-laid : (f : ℕ → ℕ) (n i : ℕ) → n ≤ 15 → i ≤ n → getD (table 16 (λ k. only (leb k n) (f k))) i 0 ≡ f i
+place-laid f n i h k = table-at 16 (λ k. only (leb k n) (f k)) i (omega arith) ∙ ap (λ b. only b (f i)) (le-leb i n k)
+
+module _ (g : Grid) (sound : Sound g) where
+  cell-laid : (i j : ℕ) → i < 16 → j < 16 → getD (laid g .cells) (16 * i + j) 0 ≡ only (g .inside i j) 1
+  unfolding laid
+  cell-laid i j p q =
+      let u : (16 * i + j) / 16 ≡ i = omega arith in
+      let v : (16 * i + j) % 16 ≡ j = omega arith in
+      table-at 256 _ (16 * i + j) (omega arith) ∙ ap₂ (λ m n. only (g .inside m n) 1) u v
+
+  pub laid-drawn : Drawn g (laid g .xs) (laid g .ys) (laid g .cells)
+  unfolding laid
+  laid-drawn =
+      record {
+        xs-length = length-table 16 _;
+        ys-length = length-table 16 _;
+        cells-length = length-table 256 _;
+        x-at = λ i h. place-laid (g .x) (g .columns) i (sound .columns-most) h;
+        y-at = λ j h. place-laid (g .y) (g .rows) j (sound .rows-most) h;
+        cell-at = cell-laid;
+      }
+
+  -- places that repeat the last line's
+  abbrev Repeats : (ℕ → ℕ) → ℕ → Type 0
+  Repeats f n = (i : ℕ) → n ≤ i → f i ≡ f n
+
+  place-back : (f : ℕ → ℕ) (n : ℕ) → n ≤ 15 → Repeats f n → (i : ℕ) → getD (table 16 (λ k. only (leb k n) (f k))) (min i n) 0 ≡ f i
+  place-back f n h r i = elim (le-or n i) [
+    | inl q ↦ (let z : min i n ≡ n = omega arith in rw z (place-laid f n n h (omega arith) ∙ sym (r i q)))
+    | inr q ↦ (let z : min i n ≡ i = omega arith in rw z (place-laid f n i h (omega arith)))
+  ]
+
+  cell-back : (i j : ℕ) → (ltb i (g .columns) && (ltb j (g .rows) && eqb (getD (laid g .cells) (16 * i + j) 0) 1)) ≡ g .inside i j
+  cell-back i j = elim (le-or (g .columns) i) [
+    | inl p ↦ rw (le-ltb i (g .columns) p) (sym (sound .right-none i j p))
+    | inr p ↦
+        elim (le-or (g .rows) j) [
+          | inl q ↦ rw (le-ltb j (g .rows) q) (and-false (ltb i (g .columns)) ∙ sym (sound .above-none i j q))
+          | inr q ↦
+              rw (lt-ltb i (g .columns) p, lt-ltb j (g .rows) q)
+              (ap (λ n. eqb n 1) (cell-laid i j (omega (arith, sound .columns-most)) (omega (arith, sound .rows-most))) ∙ bit (g .inside i j))
+        ]
+  ]
+    where
+      bit : (b : Bool) → eqb (only b 1) 1 ≡ b
+      bit true = refl
+      bit false = refl
+
+  pub laid-stored : Repeats (g .x) (g .columns) → Repeats (g .y) (g .rows)
+      → stored (laid g .columns) (laid g .rows) (laid g .xs) (laid g .ys) (laid g .cells) ≡ g
+  unfolding stored laid
+  laid-stored rx ry i =
+      record {
+        columns = g .columns;
+        rows = g .rows;
+        x = λ n. place-back (g .x) (g .columns) (sound .columns-most) rx n i;
+        y = λ n. place-back (g .y) (g .rows) (sound .rows-most) ry n i;
+        inside = λ m n. cell-back m n i;
+      }
+
+pub grid-repeats : (cs : List Corner) → ((i : ℕ) → grid cs .columns ≤ i → grid cs .x i ≡ grid cs .x (grid cs .columns))
+    × ((j : ℕ) → grid cs .rows ≤ j → grid cs .y j ≡ grid cs .y (grid cs .rows))
+unfolding grid gridOf
+grid-repeats cs = ((λ i h. place-past (lines X cs) i (omega arith)), λ j h. place-past (lines Y cs) j (omega arith))
+
+-- the drawing of an accepted outline
+module _ (l : List ℕ) (r : Drawing) (promise : Promise l r) (accepted : refusal l ≡ 0) where
+  drawing-laid : r .grid ≡ laid (grid (corners l))
+  drawing-laid = promise .drawn ∙ ap (λ b. cond b (laid (grid (corners l))) blank) (eq-eqb (refusal l) 0 accepted)
+
+  pub drawing-columns : r .grid .columns ≡ grid (corners l) .columns
+  unfolding laid
+  drawing-columns = ap (λ g. g .columns) drawing-laid
+
+  pub drawing-rows : r .grid .rows ≡ grid (corners l) .rows
+  unfolding laid
+  drawing-rows = ap (λ g. g .rows) drawing-laid
+
+  pub drawing-drawn : Drawn (grid (corners l)) (r .grid .xs) (r .grid .ys) (r .grid .cells)
+  drawing-drawn =
+      subst (λ g. Drawn (grid (corners l)) (g .xs) (g .ys) (g .cells)) (sym drawing-laid)
+      (laid-drawn (grid (corners l)) (promise .sound accepted))
+
+  pub drawing-stored : stored (r .grid .columns) (r .grid .rows) (r .grid .xs) (r .grid .ys) (r .grid .cells) ≡ grid (corners l)
+  drawing-stored =
+      ap (λ g. stored (g .columns) (g .rows) (g .xs) (g .ys) (g .cells)) drawing-laid
+      ∙ laid-stored (grid (corners l)) (promise .sound accepted) (grid-repeats (corners l) .0) (grid-repeats (corners l) .1)
