@@ -3,6 +3,7 @@ pub mod Refusals
 pub mod Square
 pub mod Ways
 pub mod Figure
+pub mod Accepted
 pub mod Demands
 pub mod Promise
 pub mod Rows

@@ -1,6 +1,7 @@
 -- The tests say the conditions, and the number is that of the first that holds. Assumes nothing.
 --
---   test-true, test-false    == where a reason's test passes its condition holds; where not, it does not
+--   test-true, true-test     == where a reason's test passes its condition holds, and back
+--   test-false               == where the condition does not hold the test fails
 --   number-first, first-number   == the number n is given exactly when n is the first condition that holds
 --   number-none, none-number     == 0 is given exactly when none holds
 --   number-known             == no other number is given
@@ -158,6 +159,13 @@ module _ (l : List ℕ) (t w : ℕ) (table list : List ℕ) where
   true-test tableShort h = lt-ltb _ _ h
   true-test listShort h = lt-ltb _ _ h
 
+  pub test-false : (c : Reason) → (Holds c → ⊥) → test l t w table list c ≡ false
+  test-false c h = go (test l t w table list c) refl
+    where
+      go : (b : Bool) → test l t w table list c ≡ b → b ≡ false
+      go false e = refl
+      go true e = absurd (h (test-true c e))
+
 -- The first of several
 
 -- numbers rise along the list
@@ -183,6 +191,10 @@ each Q h listShort = h .1 .1 .1 .1 .1 .1 .0
 pub number-some : (c : Reason) → 0 < number c
 unfolding order number
 number-some = each (λ c. 0 < number c) (omega arith)
+
+pub number-most : (c : Reason) → number c ≤ 7
+unfolding order number
+number-most = each (λ c. number c ≤ 7) (omega arith)
 
 -- no two reasons have the same number
 number-tells : (c d : Reason) → number c ≡ number d → c ≡ d

@@ -139,6 +139,11 @@ module _ (g : Grid) (F : ℕ → ℕ → Bool) (sound : Sound g) (shows : Shows 
 
 -- Cover
 
+-- what counts is true
+pub held-one : (b : Bool) → 0 < only b 1 → b ≡ true
+held-one true h = refl
+held-one false h = absurd (omega arith)
+
 module _ (g : Grid) (F : ℕ → ℕ → Bool) (sound : Sound g) (shows : Shows g F) (x y : ℕ) where
   -- n for the cell that holds the unit square at (x, y)
   spot : ℕ → ℕ → ℕ → ℕ

@@ -3,6 +3,7 @@
 --   Words l            == an outline is a list of 16-bit numbers
 --   figure l x y       == the unit square at (x, y) is inside, by the odd count on the raw corners
 --   reported o         == the shots in the list of an outcome: its first 4 x shots numbers, four by four
+--   PieceOf l p        == p is a piece of the outline's grid
 --   entry o g p        == what the table of an outcome has for the piece p
 --   answer o           == the answer of an outcome, without the buffers
 --   Filled o           == the table was filled: on success, and beside 7
@@ -25,8 +26,8 @@ use Rattle.outline.specs.Corners.{corners}
 use Rattle.outline.specs.Inside.{insideAt}
 use Rattle.piece.specs.Piece.{Piece, kind, charge}
 use Rattle.piece.specs.Straight.{Cut, cuts, parts, shots}
-use Rattle.table.specs.Entry.{entryOf}
-use Rattle.demands.specs.Promise.{Outcome}
+use Rattle.table.specs.Entry.{entryOf, Valid}
+use Rattle.demands.specs.Promise.{Outcome, drawn}
 use Rattle.demands.specs.Square.{Shot, shotsIn}
 
 -- 16-bit numbers
@@ -40,6 +41,10 @@ figure l = insideAt (corners l)
 -- the list's first 4 x shots numbers, four by four
 unfoldable pub reported : Outcome → List Shot
 reported o = shotsIn (take (4 * o .shots) (o .list))
+
+-- a piece of the outline's grid
+abbrev pub PieceOf : List ℕ → Piece → Type 0
+PieceOf l p = Valid (drawn l .columns) (drawn l .rows) p
 
 -- the table's entry of the piece p
 unfoldable pub entry : Outcome → Grid → Piece → ℕ
