@@ -8,6 +8,7 @@
 --   Flanked g r a c sums         == and these are its flanks
 --   Filled g r t a c             == the table t has the cost of each piece whose low x line is above a, and of each that begins at a
 --                                   and ends below c
+--   Past n t u                   == from the n-th number on, u is as the list t
 --   Advanced g r a c t u sums    == from the table t to u and to these sums the strip between a and c was filled, and nothing past the
 --                                   entries was touched
 use Prim.Native.Nat.{ℕ, suc, _+_, _≤_, _<_}
@@ -43,8 +44,11 @@ pub record Filled (g : Grid) (r : Rule) (t : List ℕ) (a c : ℕ) : Type 0 wher
   pub right : (p : Piece) → Valid (g .columns) (g .rows) p → (a < p .a) ⊎ ((p .a ≡ a) × (p .c < c))
       → getD t (entryOf (g .columns) (g .rows) p) 0 ≡ cost g r p
 
+pub record Past (n : ℕ) (t u : List ℕ) : Type 0 where
+  pub long : length u ≡ length t
+  pub kept : (k : ℕ) → n ≤ k → getD u k 0 ≡ getD t k 0
+
 pub record Advanced (g : Grid) (r : Rule) (a c : ℕ) (t u sums : List ℕ) : Type 0 where
   pub tallied : Tallied g a c sums
   pub filled : Filled g r u a (c + 1)
-  pub long : length u ≡ length t
-  pub past : (k : ℕ) → entryCount (g .columns) (g .rows) ≤ k → getD u k 0 ≡ getD t k 0
+  pub past : Past (entryCount (g .columns) (g .rows)) t u
