@@ -2,22 +2,20 @@
 --
 --   passed               == it has passed 1 to 6
 --   shown, sound, light, whole   == so the grid shows the figure and is sound, the weight is in range, the frame is a piece
---   filled-table, entry-at       == the table begins with the costs; what it has for a piece is the piece's cost
+--   filled-table, front-table, table-room, entry-at   == the table begins with the costs; what it has for a piece is the piece's cost
 --   measured, sliver-at, charge-at   == measures at unit squares and measures of pieces agree
 --   lined, framed        == the grid's lines are the corners' coordinates, and its frame is the corners' frame
 --   recurrent            == the recurrence of the costs holds of the table
---   outcome-lengths      == both buffers keep their lengths, whatever the outcome
-use Prim.Native.Nat.{ℕ, _+_, _*_, _≤_, _<_}
+use Prim.Native.Nat.{ℕ, _+_, _≤_, _<_}
 use mathlib.Core.Path.{_≡_, refl, sym, _∙_, ap, ap₂, subst}
 use mathlib.Core.Bool.{Bool, true, false, not, _&&_, true≢false}
-use mathlib.Core.Logic.{_⊎_, inl, inr}
+use mathlib.Core.Logic.{inl, inr}
 use mathlib.Core.List.{List, [], _∷_, map}
 use native.Mathlib.Omega.{arith}
 use lib.Dec.{leb}
 use borrow.Author.Tests.{leb-true, ltb-false}
 use lib.ListN.{length, take, getD}
 use Rattle.sum.specs.Sum.{sumOf, All, Some, join}
-use Rattle.sum.proofs.Sum.{le-or}
 use Rattle.sum.proofs.Lists.{sumOf-same, sumOf-map, All-imp}
 use Rattle.recurrence.specs.Choice.{least}
 use Rattle.recurrence.specs.Scheme.{outside, full, mixed}
@@ -29,16 +27,15 @@ use Rattle.outline.specs.Corners.{corners}
 use Rattle.piece.specs.Piece.{Piece, leftPart, rightPart, lowerPart, upperPart, frame, kind, sliver, charge}
 use Rattle.piece.specs.Straight.{Cut, cuts, parts, shots, cost, choice}
 use Rattle.piece.proofs.Straight.{ends, cuts-all, cost-outside, cost-full, shots-part}
-use Rattle.piece.proofs.Choice.{choice-cost, choice-least, shots-choice, numbers-length}
+use Rattle.piece.proofs.Choice.{choice-cost, choice-least, shots-choice}
 use Rattle.table.specs.Entry.{entryCount, entryOf, costs}
 use Rattle.table.proofs.Entry.{entry-below, costs-length, costs-at}
-use Rattle.demands.specs.Promise.{rule, drawn, reportedShots, reportedList, reportedTable, Reason, ruleHigh, lengthBad, slantedEdge, straightOn, tableShort, listShort, number, Outcome, written, test, numberOf, accepted, short, refused, outcome}
-use Rattle.demands.specs.Refusals.{Condition}
+use Rattle.demands.specs.Promise.{rule, drawn, reportedTable, Reason, ruleHigh, lengthBad, slantedEdge, straightOn, tableShort, listShort, number, Outcome, written, test, accepted, short, outcome}
 use Rattle.demands.specs.Square.{Shot, sliverOf, chargeOf}
 use Rattle.demands.specs.Ways.{On, frameOf}
 use Rattle.demands.specs.Demands.{Words, PieceOf, figure, entry, Filled, partsCost, Recurrence}
-use Rattle.demands.proofs.Outcome.{written-length, written-front, written-at, outcome-number, outcome-zero, outcome-seven, outcome-other}
-use Rattle.demands.proofs.Refusals.{number-some, number-most, test-true, number-first, number-none, number-known}
+use Rattle.demands.proofs.Outcome.{written-front, written-at, outcome-number, outcome-zero, outcome-seven}
+use Rattle.demands.proofs.Refusals.{test-true, number-first, number-none}
 use Rattle.demands.proofs.Square.{Shows, rectangle, sliver-squares, charge-squares}
 use Rattle.demands.proofs.Ways as ways
 use Rattle.demands.proofs.Figure.{outline-sound, outline-shows, outline-lined, outline-frame}
@@ -103,7 +100,7 @@ module _ (l : List ℕ) (t w : ℕ) (table list : List ℕ) where
   pub front-table : Filled o → take (length (reportedTable l t w)) (o .table) ≡ reportedTable l t w
   front-table f = ap (take (length (reportedTable l t w))) (filled-table f) ∙ written-front (reportedTable l t w) table
 
-  table-room : Filled o → length (reportedTable l t w) ≤ length table
+  pub table-room : Filled o → length (reportedTable l t w) ≤ length table
   unfolding reportedTable test number
   table-room f = omega (arith, costs-length (drawn l) (rule t w), ltb-false (length table) (entryCount (drawn l .columns) (drawn l .rows)) (passed f tableShort (omega arith)))
 
@@ -197,41 +194,3 @@ module _ (l : List ℕ) (t w : ℕ) (table list : List ℕ) where
   pub framed : Words l → Filled o → rectangle (drawn l) (frame (drawn l)) ≡ frameOf (corners l)
   unfolding drawn
   framed words f = let s = sound words f in outline-frame (corners l) (s .columns-some) (s .rows-some)
-
-  -- Lengths
-
-  list-room : o .number ≡ 0 → length (reportedList l t w) ≤ length list
-  unfolding reportedList Condition
-  list-room e = elim (le-or (4 * length (reportedShots l t w)) (length list)) [
-    | inl h ↦ omega (arith, numbers-length (drawn l) (reportedShots l t w))
-    | inr h ↦ absurd (number-none l t w table list (sym (outcome-number l t w table list) ∙ e) listShort h)
-  ]
-
-  -- a table that was filled keeps its length
-  table-length : Filled o → length (o .table) ≡ length table
-  table-length f = ap length (filled-table f) ∙ written-length (reportedTable l t w) table (table-room f)
-
-  pub outcome-lengths : (length (o .table) ≡ length table) × (length (o .list) ≡ length list)
-  unfolding accepted short refused
-  outcome-lengths = go (number-known l t w table list)
-    where
-      known : (n : ℕ) → numberOf l t w table list ≡ n → o .number ≡ n
-      known n e = outcome-number l t w table list ∙ e
-
-      go : (numberOf l t w table list ≡ 0) ⊎ ((c : Reason) × (numberOf l t w table list ≡ number c))
-          → (length (o .table) ≡ length table) × (length (o .list) ≡ length list)
-      go (inl e) = (
-        table-length (inl (known 0 e)),
-        ap (λ o. length (o .list)) (outcome-zero l t w table list (known 0 e)) ∙ written-length (reportedList l t w) list (list-room (known 0 e)),
-      )
-      go (inr c) = elim (le-or 7 (number (c .0))) [
-        | inl h ↦
-            (let e : o .number ≡ 7 = known 7 (c .1 ∙ seven (c .0) h) in
-            (table-length (inr e), ap (λ o. length (o .list)) (outcome-seven l t w table list e)))
-        | inr h ↦
-            (let q = outcome-other l t w table list (number (c .0)) (number-some (c .0)) h (known (number (c .0)) (c .1)) in
-            (ap (λ o. length (o .table)) q, ap (λ o. length (o .list)) q))
-      ]
-        where
-          seven : (c : Reason) → 7 ≤ number c → number c ≡ 7
-          seven c h = omega (arith, number-most c)

@@ -12,7 +12,7 @@
 --   refusal-keeps        == beside 1 to 6: zeros, and both buffers as they came in
 --   short-keeps          == beside 7: the shots needed, zeros, the list as it came in, the table as on success
 --   accepted-fills       == on success: the costs at the front of the table, the shots at the front of the list, the rest as it came in
---   lengths-kept         == both buffers keep their lengths, whatever the outcome
+--   lengths-kept         == both buffers keep their lengths, whatever the outcome (proofs/Lengths.antt)
 --   no-influence         == what the buffers held before has no influence: with others of the same lengths the answer is the same, and
 --                           so is what is written
 --   outcome-unique       == two outcomes that are what was promised are equal (proofs/Outcome.antt)
@@ -59,7 +59,7 @@ use Rattle.demands.proofs.Refusals.{number-some, test-false, number-fir
 use Rattle.demands.proofs.Square.{held-one, rectangle, numbers-shots, cover-squares}
 use Rattle.demands.proofs.Ways as ways
 use Rattle.demands.proofs.Figure.{outline-sound, outline-shows}
-use Rattle.demands.proofs.Accepted.{shown, sound, light, whole, entry-at, front-table, measured, sliver-at, charge-at, recurrent, lined, framed, outcome-lengths}
+use Rattle.demands.proofs.Accepted.{shown, sound, light, whole, entry-at, front-table, measured, sliver-at, charge-at, recurrent, lined, framed}
 
 module _ (l : List ℕ) (t w : ℕ) (table list : List ℕ) where
   abbrev o : Outcome
@@ -127,9 +127,6 @@ module _ (l : List ℕ) (t w : ℕ) (table list : List ℕ) where
   pub accepted-fills : o .number ≡ 0 → (o .table ≡ written (reportedTable l t w) table) × (o .list ≡ written (reportedList l t w) list)
   unfolding accepted
   accepted-fills e = let q = outcome-zero l t w table list e in (ap (λ o. o .table) q, ap (λ o. o .list) q)
-
-  pub lengths-kept : (length (o .table) ≡ length table) × (length (o .list) ≡ length list)
-  lengths-kept = outcome-lengths l t w table list
 
   -- Demand 2
 
