@@ -36,7 +36,8 @@ fn turned(cell: u8, covered: bool) -> u8
     requires { ⌜ cell ≤ 1 ⌝ }
     ensures { λ r. ⌜ r ≡ step.flip covered cell ⌝ }
 {
-    if covered { 1 - cell } else { cell }
+    let other = 1 - cell;
+    if covered { other } else { cell }
 }
 
 // Turns over each cell right of an x line whose y range a span covers, in 16 by 16 cells.

@@ -1,41 +1,29 @@
+-- `outline::draw` meets its contract. Each test passed is one condition that does not hold. Assumes nothing.
 use mathlib.Core.Path.{refl, sym, _∙_}
+use borrow.Author.Needs.{needs}
 use Rattle.outline.specs.declared.Answer.the-variants.{Length, Slanted, Straight}
 use Rattle.outline.specs.Promise.{number}
 use Rattle.outline.proofs.Promise.{promise-refused, refusal-2, refusal-3, refusal-4}
-use borrow.Author.Needs.{needs}
 use Rattle.outline.proofs.draw.Statement.{statement}
 use Rattle.outline.proofs.draw.Tie as tie
-use Rattle.outline.proofs.draw.Reads as reads
-use Rattle.outline.proofs.draw.Lts as lts
-use Rattle.outline.proofs.edges.bad_length.Reads as bad-length-reads
-use Rattle.outline.proofs.edges.slanted.Reads as slanted-reads
-use Rattle.outline.proofs.edges.straight.Reads as straight-reads
-use Rattle.outline.proofs.plot.Reads as plot-reads
-use Rattle.outline.proofs.refused.Reads as refused-reads
 
--- src/lib.rt:104:8
 bad-length-requires : tie.Need-bad-length-requires
 bad-length-requires c κs = search needs
 
--- src/lib.rt:105:9
 refused-requires : tie.Need-refused-requires
 refused-requires c κs = search needs
 
--- src/lib.rt:105:9
 returns : tie.Need-returns
 unfolding number
 returns c =
     promise-refused _ 1 _ Length (refusal-2 _ (sym (c .before .before .bad-length .ensures) ∙ c .before .if1 .taken)) (c .refused .ensures .0) refl (c .refused .ensures .1)
 
--- src/lib.rt:107:8
 slanted-requires : tie.Need-slanted-requires
 slanted-requires c κs = search needs
 
--- src/lib.rt:108:9
 refused-requires-2 : tie.Need-refused-requires-2
 refused-requires-2 c κs = search needs
 
--- src/lib.rt:108:9
 returns-2 : tie.Need-returns-2
 unfolding number
 returns-2 c =
@@ -45,15 +33,12 @@ returns-2 c =
     refl
     (c .refused2 .ensures .1)
 
--- src/lib.rt:110:8
 straight-requires : tie.Need-straight-requires
 straight-requires c κs = search needs
 
--- src/lib.rt:111:9
 refused-requires-3 : tie.Need-refused-requires-3
 refused-requires-3 c κs = search needs
 
--- src/lib.rt:111:9
 returns-3 : tie.Need-returns-3
 unfolding number
 returns-3 c =
@@ -66,7 +51,6 @@ returns-3 c =
     refl
     (c .refused3 .ensures .1)
 
--- src/lib.rt:113:5
 plot-requires : tie.Need-plot-requires
 plot-requires c κs =
     record {
@@ -75,7 +59,6 @@ plot-requires c κs =
       straight-none = sym (c .before .straight .ensures) ∙ c .if3 .left;
     }
 
--- src/lib.rt:101:1
 returns-4 : tie.Need-returns-4
 returns-4 c = search needs
 

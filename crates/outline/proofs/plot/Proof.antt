@@ -1,64 +1,49 @@
-use borrow.Author.Tests.{not-true, not-false}
+-- `outline::plot` meets its contract. Lines and cells are those of the outline's grid; it is refused where no cell is 1. Assumes nothing.
 use mathlib.Core.Path.{refl}
 use native.Mathlib.Omega.{arith}
+use borrow.Author.Tests.{not-true, not-false}
+use borrow.Author.Needs.{needs}
 use Rattle.outline.specs.declared.Axis.the-variants.{X, Y}
 use Rattle.outline.proofs.Marking.{right-lines}
 use Rattle.outline.proofs.Promise.{front-within, front-lines, front-length, promise-empty, promise-accepted}
-use borrow.Author.Needs.{needs}
 use Rattle.outline.proofs.plot.Statement.{statement}
 use Rattle.outline.proofs.plot.Tie as tie
-use Rattle.outline.proofs.plot.Reads as reads
-use Rattle.outline.proofs.plot.Lts as lts
-use Rattle.outline.proofs.cells.any_inside.Reads as any-inside-reads
-use Rattle.outline.proofs.cells.shade.Reads as shade-reads
-use Rattle.outline.proofs.refused.Reads as refused-reads
-use Rattle.outline.proofs.rising.gather.Reads as gather-reads
 
--- src/lib.rt:80:53
 slice-aggregate-gather : tie.Need-slice-aggregate-gather
 slice-aggregate-gather c = search needs
 
--- src/lib.rt:80:9
 gather-requires : tie.Need-gather-requires
 gather-requires c κs = right-lines _ (c .before .before .pre) X .1
 
--- src/lib.rt:81:53
 slice-aggregate-gather-2 : tie.Need-slice-aggregate-gather-2
 slice-aggregate-gather-2 c = search needs
 
--- src/lib.rt:81:9
 gather-requires-2 : tie.Need-gather-requires-2
 gather-requires-2 c κs = right-lines _ (c .before .before .before .before .before .pre) Y .1
 
--- src/lib.rt:82:27
 array-share-prefix-xs : tie.Need-array-share-prefix-xs
 array-share-prefix-xs c =
     let g = c .before .before .before .before .gather .ensures in
     front-within _ _ _ _ _ g
 
--- src/lib.rt:82:27
 slice-aggregate-shade : tie.Need-slice-aggregate-shade
 slice-aggregate-shade c =
     let g = c .before .before .before .before .before .gather .ensures in
     front-length _ _ _ _ _ g
 
--- src/lib.rt:82:44
 array-share-prefix-ys : tie.Need-array-share-prefix-ys
 array-share-prefix-ys c =
     let g = c .before .before .gather2 .ensures in
     front-within _ _ _ _ _ g
 
--- src/lib.rt:82:44
 slice-aggregate-shade-2 : tie.Need-slice-aggregate-shade-2
 slice-aggregate-shade-2 c =
     let g = c .before .before .before .gather2 .ensures in
     front-length _ _ _ _ _ g
 
--- src/lib.rt:82:61
 slice-aggregate-shade-3 : tie.Need-slice-aggregate-shade-3
 slice-aggregate-shade-3 c = search needs
 
--- src/lib.rt:82:5
 shade-requires : tie.Need-shade-requires
 shade-requires c κs =
     let x = c .before .before .before .before .before .before .before .gather .ensures in
@@ -71,34 +56,27 @@ shade-requires c κs =
       refl,
     )
 
--- src/lib.rt:83:27
 slice-aggregate-any-inside : tie.Need-slice-aggregate-any-inside
 slice-aggregate-any-inside c = search needs
 
--- src/lib.rt:83:9
 any-inside-requires : tie.Need-any-inside-requires
 any-inside-requires c κs = search needs
 
--- src/lib.rt:84:9
 refused-requires : tie.Need-refused-requires
 refused-requires c κs = search needs
 
--- src/lib.rt:84:9
 returns : tie.Need-returns
 returns c =
     let d = c .before .before in
     let s = d .before .before .before .before .before .before .before .before .before .before .before .before .before in
     promise-empty _ (s .before .pre) (λ i. omega (arith, s .shared-slice-known .given i)) _ (d .before .before .before .shade .ensures) _ _ (d .any-inside .ensures) (not-true _ (c .before .if1 .taken)) (c .refused .ensures .0) (c .refused .ensures .1)
 
--- src/lib.rt:87:18
 sub-t25 : tie.Need-sub-t25
 sub-t25 c = omega (arith, c .before .before .before .before .before .before .before .before .before .before .before .before .gather .ensures .number, right-lines _ (c .before .before .before .before .before .before .before .before .before .before .before .before .before .before .before .pre) X .0)
 
--- src/lib.rt:88:15
 sub-t26 : tie.Need-sub-t26
 sub-t26 c = omega (arith, c .before .before .before .before .before .before .before .before .before .gather2 .ensures .number, right-lines _ (c .before .before .before .before .before .before .before .before .before .before .before .before .before .before .before .pre) Y .0)
 
--- src/lib.rt:73:1
 returns-2 : tie.Need-returns-2
 returns-2 c =
     let d = c .before in

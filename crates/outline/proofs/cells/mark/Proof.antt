@@ -1,67 +1,47 @@
-use Rattle.outline.proofs.Marking.{marked-bits, marked-flat, marked-wall}
+-- `outline::cells::mark` meets its contract. An edge that is no wall marks nothing; a wall turns over the cells that it covers. Assumes nothing.
 use borrow.Author.Needs.{needs}
+use Rattle.outline.proofs.Marking.{marked-bits, marked-flat, marked-wall}
 use Rattle.outline.proofs.cells.mark.Statement.{statement}
 use Rattle.outline.proofs.cells.mark.Tie as tie
-use Rattle.outline.proofs.cells.mark.Reads as reads
-use Rattle.outline.proofs.cells.mark.Lts as lts
-use Rattle.outline.proofs.cells.higher.Reads as higher-reads
-use Rattle.outline.proofs.cells.lower.Reads as lower-reads
-use Rattle.outline.proofs.cells.turn_over.Reads as turn-over-reads
-use Rattle.outline.proofs.edges.along.Reads as along-reads
-use Rattle.outline.proofs.edges.before.Reads as before-reads
-use Rattle.outline.proofs.edges.changes.Reads as changes-reads
-use Rattle.outline.proofs.rising.line_of.Reads as line-of-reads
 
--- src/cells.rt:64:8
 changes-requires : tie.Need-changes-requires
 changes-requires c κs = search needs
 
--- src/cells.rt:65:9
 returns : tie.Need-returns
 returns c =
     let s = c .before .before .before .before .before .before in
     marked-flat _ _ _ _ (s .pre .0) (s .pre .1 .1) (c .before .changes .ensures) (c .if1 .taken)
 
--- src/cells.rt:67:39
 before-requires : tie.Need-before-requires
 before-requires c κs = search needs
 
--- src/cells.rt:67:9
 along-requires : tie.Need-along-requires
 along-requires c κs = search needs
 
--- src/cells.rt:68:9
 along-requires-2 : tie.Need-along-requires-2
 along-requires-2 c κs = search needs
 
--- src/cells.rt:69:36
 along-requires-3 : tie.Need-along-requires-3
 along-requires-3 c κs = search needs
 
--- src/cells.rt:69:9
 line-of-requires : tie.Need-line-of-requires
 line-of-requires c κs = search needs
 
--- src/cells.rt:70:32
 lower-requires : tie.Need-lower-requires
 lower-requires c κs = search needs
 
--- src/cells.rt:70:51
 higher-requires : tie.Need-higher-requires
 higher-requires c κs = search needs
 
--- src/cells.rt:70:5
 turn-over-requires : tie.Need-turn-over-requires
 turn-over-requires c κs =
     let d = c .before .before .before in
     let s = d .before .before .before .before .before .before .before .before .before .before .before in
     marked-bits _ _ _ _ _ _ _ (s .pre .0) (s .pre .1 .0) (s .pre .1 .1) (d .before .along3 .ensures) (d .line-of .ensures)
 
--- src/cells.rt:58:1
 same-length : tie.Need-same-length
 same-length c = search needs
 
--- src/cells.rt:58:1
 returns-2 : tie.Need-returns-2
 returns-2 c =
     let h = c .before .before .before in

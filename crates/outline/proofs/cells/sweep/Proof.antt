@@ -1,11 +1,10 @@
+-- `outline::cells::sweep` meets its contract. The invariant: below k the cells have taken in those left of them. Assumes nothing.
 use Prim.Native.Nat.{_-_}
-use borrow.Author.Needs.{needs}
 use native.Mathlib.Omega.{arith}
+use borrow.Author.Needs.{needs}
 use Rattle.outline.proofs.Sweeping.{Sweeping, sweeping-start, sweeping-bits, sweeping-more, sweeping-end}
 use Rattle.outline.proofs.cells.sweep.Statement.{statement}
 use Rattle.outline.proofs.cells.sweep.Tie as tie
-use Rattle.outline.proofs.cells.sweep.Reads as reads
-use Rattle.outline.proofs.cells.sweep.Lts as lts
 
 abbrev Inv-loop : tie.InvT-loop
 Inv-loop cells₀ k₀ cells k = Sweeping cells₀ cells k
@@ -13,51 +12,40 @@ Inv-loop cells₀ k₀ cells k = Sweeping cells₀ cells k
 abbrev μ-loop : tie.MeasureT-loop
 μ-loop cells₀ k₀ cells k = 256 - k
 
--- src/cells.rt:90:5
 loop-holds : tie.Need-loop-holds Inv-loop μ-loop
 loop-holds c = sweeping-start _
 
--- src/cells.rt:91:27
 sub-cells : tie.Need-sub-cells Inv-loop μ-loop
 sub-cells c = search needs
 
--- src/cells.rt:91:21
 slice-read-cells : tie.Need-slice-read-cells Inv-loop μ-loop
 slice-read-cells c = search needs
 
--- src/cells.rt:91:37
 slice-read-cells-2 : tie.Need-slice-read-cells-2 Inv-loop μ-loop
 slice-read-cells-2 c = search needs
 
--- src/cells.rt:91:21
 add-cells : tie.Need-add-cells Inv-loop μ-loop
 add-cells c =
     let s = c .before .before .before in
     omega (arith, sweeping-bits _ _ _ (s .before .pre) (s .loop .inv))
 
--- src/cells.rt:91:9
 slice-write-cells : tie.Need-slice-write-cells Inv-loop μ-loop
 slice-write-cells c = search needs
 
--- src/cells.rt:90:9
 add-k : tie.Need-add-k Inv-loop μ-loop
 add-k c = search needs
 
--- src/cells.rt:90:5
 loop-less : tie.Need-loop-less Inv-loop μ-loop
 loop-less c = search needs
 
--- src/cells.rt:90:5
 loop-again : tie.Need-loop-again Inv-loop μ-loop
 loop-again c =
     let s = c .before .before .before in
     sweeping-more _ _ _ (s .before .pre) (s .loop .inv) (search needs)
 
--- src/cells.rt:86:1
 same-length : tie.Need-same-length Inv-loop μ-loop
 same-length c = search needs
 
--- src/cells.rt:86:1
 returns : tie.Need-returns Inv-loop μ-loop
 returns c = sweeping-end _ _ _ (c .before .before .pre) (c .before .loop .inv) (search needs)
 

@@ -1,13 +1,10 @@
-use mathlib.Core.Path.{refl}
+-- `outline::cells::turn_over` meets its contract. The invariant: of the cells right of the line those passed are turned over, all others are as they were. Assumes nothing.
 use Prim.Native.Nat.{_-_}
+use mathlib.Core.Path.{refl}
 use borrow.Author.Needs.{needs}
 use Rattle.outline.proofs.Turning.{Turning, turning-start, turning-bit, turning-more, turning-end}
 use Rattle.outline.proofs.cells.turn_over.Statement.{statement}
 use Rattle.outline.proofs.cells.turn_over.Tie as tie
-use Rattle.outline.proofs.cells.turn_over.Reads as reads
-use Rattle.outline.proofs.cells.turn_over.Lts as lts
-use Rattle.outline.proofs.cells.covers.Reads as covers-reads
-use Rattle.outline.proofs.cells.turned.Reads as turned-reads
 
 abbrev Inv-loop : tie.InvT-loop
 Inv-loop cells₀ ys low high first rows j₀ cells j = Turning cells₀ ys first (low .0) (high .0) cells j
@@ -15,79 +12,61 @@ Inv-loop cells₀ ys low high first rows j₀ cells j = Turning cells₀ ys firs
 abbrev μ-loop : tie.MeasureT-loop
 μ-loop cells₀ ys low high first rows j₀ cells j = rows - j
 
--- src/cells.rt:48:17
 mul-first : tie.Need-mul-first Inv-loop μ-loop
 mul-first c = search needs
 
--- src/cells.rt:49:16
 sub-rows : tie.Need-sub-rows Inv-loop μ-loop
 sub-rows c = search needs
 
--- src/cells.rt:50:5
 loop-holds : tie.Need-loop-holds Inv-loop μ-loop
 loop-holds c = turning-start _ _ _ _ _ (search needs)
 
--- src/cells.rt:51:47
 mul-t13 : tie.Need-mul-t13 Inv-loop μ-loop
 mul-t13 c = search needs
 
--- src/cells.rt:51:47
 shared-slice-read-t15 : tie.Need-shared-slice-read-t15 Inv-loop μ-loop
 shared-slice-read-t15 c = search needs
 
--- src/cells.rt:51:64
 add-t17 : tie.Need-add-t17 Inv-loop μ-loop
 add-t17 c = search needs
 
--- src/cells.rt:51:61
 mul-t18 : tie.Need-mul-t18 Inv-loop μ-loop
 mul-t18 c = search needs
 
--- src/cells.rt:51:61
 shared-slice-read-t20 : tie.Need-shared-slice-read-t20 Inv-loop μ-loop
 shared-slice-read-t20 c = search needs
 
--- src/cells.rt:51:13
 covers-requires : tie.Need-covers-requires Inv-loop μ-loop
 covers-requires c κs = search needs
 
--- src/cells.rt:52:18
 add-at : tie.Need-add-at Inv-loop μ-loop
 add-at c = search needs
 
--- src/cells.rt:53:28
 slice-read-turned : tie.Need-slice-read-turned Inv-loop μ-loop
 slice-read-turned c = search needs
 
--- src/cells.rt:53:21
 turned-requires : tie.Need-turned-requires Inv-loop μ-loop
 turned-requires c κs =
     let s = c .before .before .before .before .before in
     turning-bit _ _ _ _ _ _ _ (s .loop .inv) _ (s .before .before .before .before .pre)
 
--- src/cells.rt:53:9
 slice-write-cells : tie.Need-slice-write-cells Inv-loop μ-loop
 slice-write-cells c = search needs
 
--- src/cells.rt:50:9
 add-j : tie.Need-add-j Inv-loop μ-loop
 add-j c = search needs
 
--- src/cells.rt:50:5
 loop-less : tie.Need-loop-less Inv-loop μ-loop
 loop-less c = search needs
 
--- src/cells.rt:50:5
 loop-again : tie.Need-loop-again Inv-loop μ-loop
 loop-again c =
     let s = c .before .before .before .before .before .before in
     turning-more _ _ _ _ _ _ _ (s .loop .inv) _ _ (c .before .before .covers .ensures) (c .turned .ensures) (search needs) (search needs)
 
--- src/cells.rt:44:1
 same-length : tie.Need-same-length Inv-loop μ-loop
 same-length c = search needs
 
--- src/cells.rt:44:1
 returns : tie.Need-returns Inv-loop μ-loop
 returns c =
     let s = c .before in

@@ -1,26 +1,20 @@
+-- `outline::edges::alike` meets its contract. The second axis is tried where the first does not decide. Assumes nothing.
 use borrow.Author.Needs.{needs}
 use Rattle.outline.specs.Corners.{alike}
 use Rattle.outline.proofs.Corners
 use Rattle.outline.proofs.edges.alike.Statement.{statement}
 use Rattle.outline.proofs.edges.alike.Tie as tie
-use Rattle.outline.proofs.edges.alike.Reads as reads
-use Rattle.outline.proofs.edges.alike.Lts as lts
-use Rattle.outline.proofs.edges.same.Reads as same-reads
 
--- src/edges.rt:74:9
 same-requires : tie.Need-same-requires
 same-requires c κs = search needs
 
--- src/edges.rt:75:9
 same-requires-2 : tie.Need-same-requires-2
 same-requires-2 c κs = search needs
 
--- src/edges.rt:70:1
 returns : tie.Need-returns
 unfolding alike
 returns c = Corners.or-taken _ _ _ (c .before .before .same .ensures) (c .if1 .taken)
 
--- src/edges.rt:70:1
 returns-2 : tie.Need-returns-2
 unfolding alike
 returns-2 c = Corners.or-left _ _ _ _ (c .before .before .same .ensures) (c .before .same2 .ensures) (c .if1 .left)

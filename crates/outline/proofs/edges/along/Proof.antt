@@ -1,51 +1,39 @@
+-- `outline::edges::along` meets its contract. The place of a corner stands in the list at twice its number, or one further. Assumes nothing.
 use borrow.Author.Needs.{needs}
 use Rattle.outline.proofs.Corners
 use Rattle.outline.proofs.edges.along.Statement.{statement}
 use Rattle.outline.proofs.edges.along.Tie as tie
-use Rattle.outline.proofs.edges.along.Reads as reads
-use Rattle.outline.proofs.edges.along.Lts as lts
 
--- src/edges.rt:16:34
 enum-told : tie.Need-enum-told
 enum-told c = search needs
 
--- src/edges.rt:16:34
 mul-t5 : tie.Need-mul-t5
 mul-t5 c = search needs
 
--- src/edges.rt:16:26
 mul-t6 : tie.Need-mul-t6
 mul-t6 c = search needs
 
--- src/edges.rt:16:26
 shared-slice-read-t8 : tie.Need-shared-slice-read-t8
 shared-slice-read-t8 c = search needs
 
--- src/edges.rt:17:34
 enum-told-2 : tie.Need-enum-told-2
 enum-told-2 c = search needs
 
--- src/edges.rt:17:34
 mul-t9 : tie.Need-mul-t9
 mul-t9 c = search needs
 
--- src/edges.rt:17:34
 add-t10 : tie.Need-add-t10
 add-t10 c = search needs
 
--- src/edges.rt:17:26
 mul-t11 : tie.Need-mul-t11
 mul-t11 c = search needs
 
--- src/edges.rt:17:26
 shared-slice-read-t13 : tie.Need-shared-slice-read-t13
 shared-slice-read-t13 c = search needs
 
--- src/edges.rt:11:1
 returns : tie.Need-returns
 returns c = Corners.coordinate-x _ _ _ (search needs) (c .before .enum-told .given .1)
 
--- src/edges.rt:11:1
 returns-2 : tie.Need-returns-2
 returns-2 c = Corners.coordinate-y _ _ _ (search needs) (c .before .enum-told2 .given .1)
 

@@ -1,4 +1,4 @@
-use borrow.Author.Needs.{needs}
+-- `outline::edges::bad_length` meets its contract. Each exit is one of the three faults of a length, or none. Assumes nothing.
 use Rattle.outline.proofs.Corners
 use Rattle.outline.proofs.edges.bad_length.Statement.{statement}
 use Rattle.outline.proofs.edges.bad_length.Tie as tie

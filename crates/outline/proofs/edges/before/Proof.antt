@@ -1,23 +1,18 @@
+-- `outline::edges::before` meets its contract. The number before 0 is the last. Assumes nothing.
 use borrow.Author.Needs.{needs}
 use Rattle.outline.proofs.Corners
 use Rattle.outline.proofs.edges.before.Statement.{statement}
 use Rattle.outline.proofs.edges.before.Tie as tie
-use Rattle.outline.proofs.edges.before.Reads as reads
-use Rattle.outline.proofs.edges.before.Lts as lts
 
--- src/edges.rt:26:17
 sub-result : tie.Need-sub-result
 sub-result c = search needs
 
--- src/edges.rt:26:36
 sub-result-2 : tie.Need-sub-result-2
 sub-result-2 c = search needs
 
--- src/edges.rt:22:1
 returns : tie.Need-returns
 returns c = (Corners.before-none _ _ (c .if1 .taken), search needs)
 
--- src/edges.rt:22:1
 returns-2 : tie.Need-returns-2
 returns-2 c = (Corners.before-some _ _ (c .if1 .left), search needs)
 

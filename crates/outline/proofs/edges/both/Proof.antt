@@ -1,26 +1,20 @@
+-- `outline::edges::both` meets its contract. Both tests are made one after the other. Assumes nothing.
 use borrow.Author.Needs.{needs}
 use Rattle.outline.specs.Corners.{both}
 use Rattle.outline.proofs.Corners
 use Rattle.outline.proofs.edges.both.Statement.{statement}
 use Rattle.outline.proofs.edges.both.Tie as tie
-use Rattle.outline.proofs.edges.both.Reads as reads
-use Rattle.outline.proofs.edges.both.Lts as lts
-use Rattle.outline.proofs.edges.changes.Reads as changes-reads
 
--- src/edges.rt:44:9
 changes-requires : tie.Need-changes-requires
 changes-requires c κs = search needs
 
--- src/edges.rt:45:9
 changes-requires-2 : tie.Need-changes-requires-2
 changes-requires-2 c κs = search needs
 
--- src/edges.rt:40:1
 returns : tie.Need-returns
 unfolding both
 returns c = Corners.and-taken _ _ _ _ (c .before .before .changes .ensures) (c .before .changes2 .ensures) (c .if1 .taken)
 
--- src/edges.rt:40:1
 returns-2 : tie.Need-returns-2
 unfolding both
 returns-2 c = Corners.and-left _ _ _ (c .before .before .changes .ensures) (c .if1 .left)

@@ -1,25 +1,18 @@
+-- `outline::edges::changes` meets its contract. The edge that ends at a corner starts at the one before. Assumes nothing.
 use borrow.Author.Needs.{needs}
 use Rattle.outline.proofs.Corners
 use Rattle.outline.proofs.edges.changes.Statement.{statement}
 use Rattle.outline.proofs.edges.changes.Tie as tie
-use Rattle.outline.proofs.edges.changes.Reads as reads
-use Rattle.outline.proofs.edges.changes.Lts as lts
-use Rattle.outline.proofs.edges.along.Reads as along-reads
-use Rattle.outline.proofs.edges.before.Reads as before-reads
 
--- src/edges.rt:34:31
 before-requires : tie.Need-before-requires
 before-requires c κs = search needs
 
--- src/edges.rt:34:9
 along-requires : tie.Need-along-requires
 along-requires c κs = search needs
 
--- src/edges.rt:35:9
 along-requires-2 : tie.Need-along-requires-2
 along-requires-2 c κs = search needs
 
--- src/edges.rt:30:1
 returns : tie.Need-returns
 returns c =
     Corners.changes-at _ _ _ _ _ _ (search needs)

@@ -1,26 +1,19 @@
+-- `outline::edges::same` meets its contract. The turn at a corner is the edge that ends there, with the one before. Assumes nothing.
 use borrow.Author.Needs.{needs}
 use Rattle.outline.specs.Corners.{same}
 use Rattle.outline.proofs.Corners
 use Rattle.outline.proofs.edges.same.Statement.{statement}
 use Rattle.outline.proofs.edges.same.Tie as tie
-use Rattle.outline.proofs.edges.same.Reads as reads
-use Rattle.outline.proofs.edges.same.Lts as lts
-use Rattle.outline.proofs.edges.before.Reads as before-reads
-use Rattle.outline.proofs.edges.changes.Reads as changes-reads
 
--- src/edges.rt:64:34
 before-requires : tie.Need-before-requires
 before-requires c κs = search needs
 
--- src/edges.rt:64:9
 changes-requires : tie.Need-changes-requires
 changes-requires c κs = search needs
 
--- src/edges.rt:65:9
 changes-requires-2 : tie.Need-changes-requires-2
 changes-requires-2 c κs = search needs
 
--- src/edges.rt:60:1
 returns : tie.Need-returns
 unfolding same
 returns c = Corners.and-taken _ _ _ _
@@ -28,7 +21,6 @@ returns c = Corners.and-taken _ _ _ _
     (Corners.turn-to _ _ _ 0 _ (search needs) (c .before .changes2 .ensures))
     (c .if1 .taken)
 
--- src/edges.rt:60:1
 returns-2 : tie.Need-returns-2
 unfolding same
 returns-2 c = Corners.and-left _ _ _

@@ -1,3 +1,4 @@
+-- `outline::edges::slanted` meets its contract. The invariant: no edge passed so far changes both coordinates. Assumes nothing.
 use Prim.Native.Nat.{ℕ, _≤_, _<_, _-_}
 use mathlib.Core.Path.{_≡_, sym, _∙_}
 use mathlib.Core.Bool.{false}
@@ -8,9 +9,6 @@ use Rattle.outline.specs.Steps.{edge}
 use Rattle.outline.proofs.Corners
 use Rattle.outline.proofs.edges.slanted.Statement.{statement}
 use Rattle.outline.proofs.edges.slanted.Tie as tie
-use Rattle.outline.proofs.edges.slanted.Reads as reads
-use Rattle.outline.proofs.edges.slanted.Lts as lts
-use Rattle.outline.proofs.edges.both.Reads as both-reads
 
 abbrev Inv-loop : tie.InvT-loop
 Inv-loop corners count end₀ end = (end ≤ count) × ((k : ℕ) → k < end → both (edge corners k) ≡ false)
@@ -18,31 +16,24 @@ Inv-loop corners count end₀ end = (end ≤ count) × ((k : ℕ) → k < end �
 abbrev μ-loop : tie.MeasureT-loop
 μ-loop corners count end₀ end = count - end
 
--- src/edges.rt:85:5
 loop-holds : tie.Need-loop-holds Inv-loop μ-loop
 loop-holds c = (search needs, below-none _)
 
--- src/edges.rt:86:12
 both-requires : tie.Need-both-requires Inv-loop μ-loop
 both-requires c κs = search needs
 
--- src/edges.rt:87:13
 returns : tie.Need-returns Inv-loop μ-loop
 returns c = Corners.slanted-at _ _ (search needs) (c .before .both .ensures) (c .if1 .taken)
 
--- src/edges.rt:85:9
 add-end : tie.Need-add-end Inv-loop μ-loop
 add-end c = search needs
 
--- src/edges.rt:85:5
 loop-less : tie.Need-loop-less Inv-loop μ-loop
 loop-less c = search needs
 
--- src/edges.rt:85:5
 loop-again : tie.Need-loop-again Inv-loop μ-loop
 loop-again c = (search needs, below-more _ _ (c .before .before .before .loop .inv .1) (sym (c .before .both .ensures) ∙ c .if1 .left))
 
--- src/edges.rt:81:1
 returns-2 : tie.Need-returns-2 Inv-loop μ-loop
 returns-2 c = Corners.slanted-none _ (λ k h. c .before .loop .inv .1 k (search needs))
 

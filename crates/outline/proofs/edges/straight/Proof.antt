@@ -1,3 +1,4 @@
+-- `outline::edges::straight` meets its contract. The invariant: no edge passed so far changes neither, and no turn is straight. Assumes nothing.
 use Prim.Native.Nat.{ℕ, _≤_, _<_, _-_}
 use mathlib.Core.Path.{_≡_, sym, _∙_}
 use mathlib.Core.Bool.{false}
@@ -9,10 +10,6 @@ use Rattle.outline.specs.Steps.{edge}
 use Rattle.outline.proofs.Corners
 use Rattle.outline.proofs.edges.straight.Statement.{statement}
 use Rattle.outline.proofs.edges.straight.Tie as tie
-use Rattle.outline.proofs.edges.straight.Reads as reads
-use Rattle.outline.proofs.edges.straight.Lts as lts
-use Rattle.outline.proofs.edges.alike.Reads as alike-reads
-use Rattle.outline.proofs.edges.neither.Reads as neither-reads
 
 abbrev Inv-loop : tie.InvT-loop
 Inv-loop corners count turn₀ turn =
@@ -23,35 +20,27 @@ Inv-loop corners count turn₀ turn =
 abbrev μ-loop : tie.MeasureT-loop
 μ-loop corners count turn₀ turn = count - turn
 
--- src/edges.rt:98:5
 loop-holds : tie.Need-loop-holds Inv-loop μ-loop
 loop-holds c = (search needs, below-none _, below-none _)
 
--- src/edges.rt:99:12
 neither-requires : tie.Need-neither-requires Inv-loop μ-loop
 neither-requires c κs = search needs
 
--- src/edges.rt:100:13
 returns : tie.Need-returns Inv-loop μ-loop
 returns c = Corners.straight-neither _ _ (search needs) (c .before .neither .ensures) (c .if1 .taken)
 
--- src/edges.rt:102:12
 alike-requires : tie.Need-alike-requires Inv-loop μ-loop
 alike-requires c κs = search needs
 
--- src/edges.rt:103:13
 returns-2 : tie.Need-returns-2 Inv-loop μ-loop
 returns-2 c = Corners.straight-alike _ _ (search needs) (c .before .alike .ensures) (c .if2 .taken)
 
--- src/edges.rt:98:9
 add-turn : tie.Need-add-turn Inv-loop μ-loop
 add-turn c = search needs
 
--- src/edges.rt:98:5
 loop-less : tie.Need-loop-less Inv-loop μ-loop
 loop-less c = search needs
 
--- src/edges.rt:98:5
 loop-again : tie.Need-loop-again Inv-loop μ-loop
 loop-again c = (
   search needs,
@@ -59,7 +48,6 @@ loop-again c = (
   below-more _ _ (c .before .before .before .before .before .loop .inv .2) (sym (c .before .alike .ensures) ∙ c .if2 .left),
 )
 
--- src/edges.rt:94:1
 returns-3 : tie.Need-returns-3 Inv-loop μ-loop
 returns-3 c = Corners.straight-none _ (λ k h. c .before .loop .inv .1 k (search needs)) (λ k h. c .before .loop .inv .2 k (search needs))
 
