@@ -5,10 +5,9 @@
 --   outline-shows        == it shows the figure: the odd count at a unit square is that of the cell that holds it
 --   outline-lined        == its lines are the coordinates of the corners
 --   outline-frame        == its frame is the corners' frame
---   passed               == an accepted outline passes 2, 3 and 4
 use Prim.Native.Nat.{ℕ, zero, suc, _-_, _≤_, _<_, min, max}
 use mathlib.Core.Path.{_≡_, refl, sym, subst}
-use mathlib.Core.Bool.{Bool, true, false, cond, _||_, true≢false}
+use mathlib.Core.Bool.{Bool, true, false, _||_, true≢false}
 use mathlib.Core.List.{List, [], _∷_, map, List·Memᴰ as Member, List·Memᴰ·head, List·Memᴰ·tail, List·Memᴰ·not-nil}
 use mathlib.Core.Logic.{inl, inr}
 use native.Mathlib.Omega.{arith}
@@ -23,8 +22,7 @@ use Rattle.outline.specs.declared.Axis.the-variants.{X, Y}
 use Rattle.outline.specs.Corners.{Corner, corners, coordinate, odd, badLength, slanted, straight}
 use Rattle.outline.specs.Lines.{rising, lines, place}
 use Rattle.outline.specs.Grid.{Sound}
-use Rattle.outline.specs.Inside.{gridOf, grid, empty, insideAt}
-use Rattle.outline.specs.Promise.{refusal}
+use Rattle.outline.specs.Inside.{gridOf, grid, insideAt}
 use Rattle.outline.proofs.Corners.{length-corners}
 use Rattle.outline.proofs.Lines.{lowest, highest, rising-back, rising-lines, rising-values}
 use Rattle.outline.proofs.Turns.{All-both}
@@ -182,15 +180,3 @@ pub outline-sound : (l : List ℕ) → All (λ v. v ≤ 65535) l → badLength l
 outline-sound l words h s t =
     let n = lengths l h in
     grid-sound (corners l) s t (omega (arith, length-corners l)) (omega (arith, length-corners l)) (words-corners (λ v. v ≤ 65535) l words)
-
-pub passed : (l : List ℕ) → refusal l ≡ 0
-    → (badLength l ≡ false) × (slanted (corners l) ≡ false) × (straight (corners l) ≡ false) × (empty (grid (corners l)) ≡ false)
-unfolding refusal
-passed l = go (badLength l) (slanted (corners l)) (straight (corners l)) (empty (grid (corners l)))
-  where
-    go : (a b c d : Bool) → _≡_ {A = ℕ} (cond a 2 (cond b 3 (cond c 4 (cond d 5 0)))) 0 → (a ≡ false) × (b ≡ false) × (c ≡ false) × (d ≡ false)
-    go true b c d e = absurd (omega arith)
-    go false true c d e = absurd (omega arith)
-    go false false true d e = absurd (omega arith)
-    go false false false true e = absurd (omega arith)
-    go false false false false e = (refl, refl, refl, refl)

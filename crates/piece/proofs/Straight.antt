@@ -2,7 +2,6 @@
 --
 -- The cuts of a piece
 --   cuts-all, cuts-at                    == what holds of each line strictly between the ends holds of each cut, and back
---   cut-vertical, cut-horizontal         == each such line is one of the cuts
 --   sum-cuts, cuts-some, ends            == a cut shares out sums over cells; a piece of two cells has a cut; the recurrence ends
 -- The recurrence
 --   shots-outside, shots-full            == no shot; the piece itself
@@ -17,12 +16,12 @@
 --   no-cheaper, attained                 == no cutting has a lower price than the cost; one has these very shots
 use Prim.Native.Nat.{ℕ, zero, suc, _+_, _-_, _≤_, _<_}
 use mathlib.Core.Path.{_≡_, refl, sym, _∙_, subst}
-use mathlib.Core.List.{List, [], _∷_, map, List·Memᴰ as Member}
+use mathlib.Core.List.{List, [], _∷_, map}
 use mathlib.Core.Logic.{_⊎_, inl, inr}
 use native.Mathlib.Omega.{arith}
 use Rattle.sum.specs.Sum.{only, sumOf, All, Some}
 use Rattle.sum.proofs.Sum.{le-or}
-use Rattle.sum.proofs.Lists.{All-imp, All-append, All-parts, All-map, All-unmap, All-of, All-at, All-join, Some-map, Some-left, Some-right}
+use Rattle.sum.proofs.Lists.{All-imp, All-append, All-parts, All-map, All-unmap, All-at, All-join, Some-map, Some-left, Some-right}
 use Rattle.recurrence.specs.Scheme.{Kind, outside, full, mixed, Ends}
 use Rattle.recurrence.specs.Cutting.{Cutting, shotsIn, price}
 use Rattle.recurrence.proofs.Scheme as scheme
@@ -74,12 +73,6 @@ cuts-at Q p h =
       λ j q r. run-at (λ j. Q (vertical j)) (suc (p .a)) (p .c - suc (p .a)) (All-unmap Q vertical (between (p .a) (p .c)) (f .0)) j q (omega arith),
       λ j q r. run-at (λ j. Q (horizontal j)) (suc (p .b)) (p .d - suc (p .b)) (All-unmap Q horizontal (between (p .b) (p .d)) (f .1)) j q (omega arith),
     )
-
-pub cut-vertical : (p : Piece) (j : ℕ) → p .a < j → j < p .c → Member (vertical j) (cuts p)
-cut-vertical p = cuts-at (λ k. Member k (cuts p)) p (All-of (λ k. Member k (cuts p)) (cuts p) (λ k m. m)) .0
-
-pub cut-horizontal : (p : Piece) (j : ℕ) → p .b < j → j < p .d → Member (horizontal j) (cuts p)
-cut-horizontal p = cuts-at (λ k. Member k (cuts p)) p (All-of (λ k. Member k (cuts p)) (cuts p) (λ k m. m)) .1
 
 -- a sum over cells is shared out by each cut
 pub sum-cuts : (f : ℕ → ℕ → ℕ) (p : Piece) → All (λ k. cellSum f p ≡ sumOf (cellSum f) (parts p k)) (cuts p)

@@ -1,19 +1,18 @@
 -- Laws of lists: sums, joins and properties of members. Assumes nothing.
 --
 --   sumOf-append, sumOf-one, sumOf-join, sumOf-map   == the sum over two lists, over one member, over joined lists, over a map
---   sumOf-le, sumOf-same, sumOf-zero     == member by member: at most, the same, nothing
---   sumOf-add, sumOf-mul, sumOf-ones     == a sum of sums, a factor, the length
+--   sumOf-le, sumOf-same                 == member by member: at most, the same
+--   sumOf-add, sumOf-ones                == a sum of sums, the length
 --   sumOf-member, sumOf-at, sumOf-two, sumOf-some   == one member's summand, two members'; a member that has a summand
 --   All-all, All-imp, All-append, All-map, All-unmap, All-join, All-parts   == a property of all members of ..
 --   All-at, All-of                       == .. and of each member
 --   Some-map, Some-left, Some-right      == a member of a map, of two lists
 --   map-same, join-same, join-append     == member by member the same; the join of two lists
-use Prim.Native.Nat.{ℕ, zero, suc, _+_, _*_, _≤_, _<_}
+use Prim.Native.Nat.{ℕ, zero, suc, _+_, _≤_, _<_}
 use mathlib.Core.Path.{_≡_, refl, sym, _∙_, ap, subst}
 use mathlib.Core.List.{List, [], _∷_, _++_, map, append-assoc, List·Memᴰ as Member, List·Memᴰ·head, List·Memᴰ·tail}
 use native.Mathlib.Omega.{arith}
 use lib.ListN.{length, getD}
-use native.Mathlib.Nat.{mul-add}
 use Rattle.sum.specs.Sum.{sumOf, All, Some, join}
 
 module _ {A : Type 0} where
@@ -48,11 +47,6 @@ module _ {A : Type 0} where
   All-all f [] = tt
   All-all f (s ∷ l) = (f s, All-all f l)
 
-  pub sumOf-zero : (f : A → ℕ) (l : List A) → All (λ s. f s ≡ 0) l → sumOf f l ≡ 0
-  unfolding sumOf
-  sumOf-zero f [] h = refl
-  sumOf-zero f (s ∷ l) h = omega (arith, h .0, sumOf-zero f l (h .1))
-
   pub sumOf-ones : (l : List A) → sumOf (λ s. 1) l ≡ length l
   unfolding sumOf
   sumOf-ones [] = refl
@@ -62,11 +56,6 @@ module _ {A : Type 0} where
   unfolding sumOf
   sumOf-add f g [] = refl
   sumOf-add f g (s ∷ l) = omega (arith, sumOf-add f g l)
-
-  pub sumOf-mul : (n : ℕ) (f : A → ℕ) (l : List A) → sumOf (λ s. n * f s) l ≡ n * sumOf f l
-  unfolding sumOf
-  sumOf-mul n f [] = omega arith
-  sumOf-mul n f (s ∷ l) = rw (mul-add, sumOf-mul n f l)
 
   pub All-parts : (Q : A → Type 0) (l m : List A) → All Q (l ++ m) → All Q l × All Q m
   All-parts Q [] m h = (tt, h)

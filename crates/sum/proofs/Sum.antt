@@ -6,7 +6,7 @@
 --   over-add, over-mul, over-zero        == a sum of sums, a factor, summands of nothing
 --   over-swap, over-steps, over-ones     == two sums in either order; differences add up; the length of a run
 --   over-pick, over-spans                == one line picked out; the one pair of neighbours that a place lies between
---   only-over, only-only, only-le, only-add, only-most   == a test before a sum, two tests, the order, a sum, the most
+--   only-over, only-only, only-add, only-most   == a test before a sum, two tests, a sum, the most
 --   le-or, rise                          == a ≤ b or b < a; what rises from each line to the next rises all along
 use Prim.Native.Nat.{ℕ, zero, suc, _+_, _*_, _-_, _≤_, _<_}
 use mathlib.Core.Path.{_≡_, refl, sym, _∙_, ap}
@@ -188,10 +188,6 @@ only-over false b d f = over-zero b d _ (λ k q r. refl)
 pub only-only : (s t : Bool) (n : ℕ) → only s (only t n) ≡ only (s && t) n
 only-only true t n = refl
 only-only false t n = refl
-
-pub only-le : (t : Bool) (m n : ℕ) → m ≤ n → only t m ≤ only t n
-only-le true m n h = h
-only-le false m n h = omega arith
 
 pub only-add : (t : Bool) (m n : ℕ) → only t (m + n) ≡ only t m + only t n
 only-add true m n = refl
