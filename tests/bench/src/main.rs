@@ -2,8 +2,9 @@
 //!
 //!     bench [--rounds N]
 //!
-//! Library and baseline take turns, round by round, on the same outlines and in the same buffers;
-//! the best round of each counts. Table (14,400 entries) and list (900 numbers) are lent whole and
+//! The library and the two C++ baselines (see baseline/baseline.cpp: by heights, and by rows as the
+//! library has it) take turns, round by round, on the same outlines and in the same buffers; the best
+//! round of each counts. Table (14,400 entries) and list (900 numbers) are lent whole and
 //! not cleared between calls: each call finds what the last one left. Every call is whole: checks,
 //! grid, fill, emission.
 
@@ -147,23 +148,25 @@ fn main() {
         Some(library) => library.fracture(corners, 25, 40, table, list),
         None => Law.fracture(corners, 25, 40, table, list),
     };
-    let baseline: Fracture = &|corners, table, list| lent::baseline(corners, 25, 40, table, list);
+    let heights: Fracture = &|corners, table, list| lent::baseline(corners, 25, 40, table, list);
+    let rows: Fracture = &|corners, table, list| lent::baseline_rows(corners, 25, 40, table, list);
     let who = if library.is_some() { "library" } else { "plain Rust" };
     println!("ns per fracture, whole call, rule 25, 40; best of {rounds} rounds in turn; buffers not cleared between calls");
     println!("machine: {}, load before {}", std::env::consts::ARCH, load());
-    println!("| Outline | {who} | C++ baseline | ratio |\n|---|---:|---:|---:|");
+    println!("| Outline | {who} | C++ by heights | C++ by rows | to heights | to rows |\n|---|---:|---:|---:|---:|---:|");
     let (mut table, mut list) = (vec![0u32; 14_400], vec![0u16; 900]);
     for line in &lines {
-        let (our_turns, its_turns) = (
-            turns(&line.outlines, ours, &mut table, &mut list),
-            turns(&line.outlines, baseline, &mut table, &mut list),
-        );
-        let (mut our_best, mut its_best) = (f64::MAX, f64::MAX);
+        let all = [ours, heights, rows];
+        let turns = all.map(|fracture| turns(&line.outlines, fracture, &mut table, &mut list));
+        let mut best = [f64::MAX; 3];
         for _ in 0..rounds {
-            our_best = our_best.min(round(&line.outlines, ours, &mut table, &mut list, our_turns));
-            its_best = its_best.min(round(&line.outlines, baseline, &mut table, &mut list, its_turns));
+            for which in 0..3 {
+                let took = round(&line.outlines, all[which], &mut table, &mut list, turns[which]);
+                best[which] = best[which].min(took);
+            }
         }
-        println!("| {} | {our_best:.0} | {its_best:.0} | {:.2} |", line.name, our_best / its_best);
+        let [ours, heights, rows] = best;
+        println!("| {} | {ours:.0} | {heights:.0} | {rows:.0} | {:.2} | {:.2} |", line.name, ours / heights, ours / rows);
     }
     let job = job();
     let calls: &dyn Calls = match library {

@@ -32,7 +32,7 @@ impl Case<'_> {
         }
     }
 
-    /// Compares the library and the baseline with the law; gives the law's answer, table and list.
+    /// Compares the library and both baselines with the law; gives the law's answer, table and list.
     pub fn compare(&self, plan: &Plan, progress: &Progress, from: &dyn Fn() -> String) -> (Told, Room<u32>, Room<u16>) {
         let (mut table, mut list) = (Room::new(self.table), Room::new(self.list));
         let right = self.by(&Law, table.lent(), list.lent());
@@ -52,10 +52,13 @@ impl Case<'_> {
             let told = self.by(library, its_table.lent(), its_list.lent());
             check("the library", told, its_table, its_list);
         }
-        let (mut its_table, mut its_list) = (Room::new(self.table), Room::new(self.list));
         let (threshold, weight) = self.rule.unwrap_or(law::call::PRESETS[0]);
+        let (mut its_table, mut its_list) = (Room::new(self.table), Room::new(self.list));
         let told = lent::baseline(self.corners, threshold, weight, its_table.lent(), its_list.lent());
-        check("the baseline", told, its_table, its_list);
+        check("the baseline by heights", told, its_table, its_list);
+        let (mut its_table, mut its_list) = (Room::new(self.table), Room::new(self.list));
+        let told = lent::baseline_rows(self.corners, threshold, weight, its_table.lent(), its_list.lent());
+        check("the baseline by rows", told, its_table, its_list);
         (right, table, list)
     }
 }

@@ -1,10 +1,10 @@
 //! The comparison that the gate runs: the proved library, through its C interface, and the C++
-//! baseline against document 01 in plain Rust (`law`), answer by answer and buffer by buffer.
+//! baselines against document 01 in plain Rust (`law`), answer by answer and buffer by buffer.
 //!
 //!     compare [--outlines N] [--jobs N] [--seed S] [--threads T] [--record FILE] [--without-library]
 //!
 //! It stops at the first difference and says from which seed it came. `--record` also writes cases
-//! with their outcomes for the C program `replay`. Without the library only the baseline is compared.
+//! with their outcomes for the C program `replay`. Without the library only the baselines are compared.
 
 mod fractures;
 mod jobs;
@@ -60,7 +60,7 @@ fn main() {
     let progress = Progress::new();
     println!(
         "comparing {} with document 01 in plain Rust: seed {}, {} threads",
-        if plan.library.is_some() { "the library and the C++ baseline" } else { "the C++ baseline alone" },
+        if plan.library.is_some() { "the library and the C++ baselines" } else { "the C++ baselines alone" },
         plan.seed,
         plan.threads
     );

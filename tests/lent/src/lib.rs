@@ -17,6 +17,11 @@ extern "C" {
         table: *mut u32, table_len: usize, list: *mut u16, list_len: usize,
         shots: *mut u32, cost: *mut u32, sliver: *mut u32,
     ) -> u32;
+    fn baseline_rows_fracture(
+        corners: *const u16, corners_len: usize, threshold: u32, weight: u32,
+        table: *mut u32, table_len: usize, list: *mut u16, list_len: usize,
+        shots: *mut u32, cost: *mut u32, sliver: *mut u32,
+    ) -> u32;
 }
 
 #[cfg(archive)]
@@ -71,7 +76,13 @@ fn fracture_by(
     Told { number, numbers: [shots as u64, cost as u64, sliver as u64, 0] }
 }
 
-/// One fracture by the baseline, for the comparison and the benchmark.
+/// One fracture by the baseline that weighs horizontal cuts from each settled piece on, as the
+/// library does.
+pub fn baseline_rows(corners: &[u16], threshold: u32, weight: u32, table: &mut [u32], list: &mut [u16]) -> Told {
+    fracture_by(baseline_rows_fracture, corners, threshold, weight, table, list)
+}
+
+/// One fracture by the baseline that weighs them height by height.
 pub fn baseline(corners: &[u16], threshold: u32, weight: u32, table: &mut [u32], list: &mut [u16]) -> Told {
     fracture_by(baseline_fracture, corners, threshold, weight, table, list)
 }
