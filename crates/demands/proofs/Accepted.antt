@@ -26,7 +26,7 @@ use Rattle.outline.specs.Grid.{Sound}
 use Rattle.outline.specs.Corners.{corners}
 use Rattle.piece.specs.Piece.{Piece, leftPart, rightPart, lowerPart, upperPart, frame, kind, sliver, charge}
 use Rattle.piece.specs.Straight.{Cut, cuts, parts, shots, cost, choice}
-use Rattle.piece.proofs.Straight.{ends, cuts-all, cost-outside, cost-full, shots-part}
+use Rattle.piece.proofs.Straight.{ends, cuts-all, shots-outside, shots-full, cost-outside, cost-full, shots-part}
 use Rattle.piece.proofs.Choice.{choice-cost, choice-least, shots-choice}
 use Rattle.table.specs.Entry.{entryCount, entryOf, costs}
 use Rattle.table.proofs.Entry.{entry-below, costs-length, costs-at}
@@ -151,8 +151,8 @@ module _ (l : List ℕ) (t w : ℕ) (table list : List ℕ) where
   pub recurrent : Filled o → (p : Piece) → PieceOf l p → Recurrence (drawn l) (rule t w) E p
   recurrent f p v =
       record {
-        outside = λ e. entry-at f p v ∙ cost-outside (drawn l) (rule t w) p e;
-        full = λ e. entry-at f p v ∙ cost-full (drawn l) (rule t w) p e;
+        outside = λ e. (entry-at f p v ∙ cost-outside (drawn l) (rule t w) p e, shots-outside (drawn l) (rule t w) p e);
+        full = λ e. (entry-at f p v ∙ cost-full (drawn l) (rule t w) p e, shots-full (drawn l) (rule t w) p e);
         mixed = λ e. go e (cuts p) refl (ends (drawn l) (rule t w) .some p e);
       }
     where

@@ -21,7 +21,8 @@
 --   shots-inside, shots-apart, shots-cover   == so shots lie inside, no two hold the same square, and each inside square is held
 --   these-shots          == count, sliver length and cost, worked out anew from the four numbers of each shot, at unit squares
 --   entry-cost, frame-entry   == each table entry is its piece's cost, and the frame's is the reported cost
---   recurrence           == the paper's equation (2), with document 01's tie order, holds of the table
+--   reported-is          == the reported shots are those of the frame, in its list order
+--   recurrence           == the paper's equation (2), with document 01's tie order and order of the list, holds of the table
 -- Demand 3: no way to cut is cheaper
 --   never-cheaper        == no way to cut the frame at the nanometre, each cut at a corner's coordinate and right across, good shots cut
 --                           again or not, totals less than the reported cost
@@ -130,8 +131,7 @@ module _ (l : List ℕ) (t w : ℕ) (table list : List ℕ) where
 
   -- Demand 2
 
-  -- the reported shots are the rectangles of the frame's shots
-  reported-is : o .number ≡ 0 → reported o ≡ map (rectangle (drawn l)) (reportedShots l t w)
+  pub reported-is : o .number ≡ 0 → reported o ≡ map (rectangle (drawn l)) (reportedShots l t w)
   unfolding reported accepted reportedList
   reported-is e =
       ap reported (outcome-zero l t w table list e)

@@ -8,9 +8,9 @@
 --   answer o           == the answer of an outcome, without the buffers
 --   Filled o           == the table was filled: on success, and beside 7
 --   partsCost E p k    == what the two parts of the cut k of p have together in a table E
---   Recurrence g r E p == the paper's equation (2) at the piece p of the grid g, for a table of costs E, with document 01's tie order: 0
---                         outside; the charge where full; else the least, over its cuts, of its parts' costs, of equals the first; and
---                         the shots are those of that cut's low part, then those of its high part
+--   Recurrence g r E p == the paper's equation (2) at the piece p of the grid g, for a table of costs E, with document 01's tie order and
+--                         order of the list: 0 and no shot outside; the charge and the piece itself where full; else the least, over its
+--                         cuts, of its parts' costs, of equals the first, and the shots of that cut's low part, then of its high part
 use Prim.Native.Nat.{ℕ, _*_, _≤_}
 use mathlib.Core.Path.{_≡_}
 use mathlib.Core.Logic.{_⊎_}
@@ -64,8 +64,8 @@ partsCost E p k = sumOf E (parts p k)
 
 -- equation (2) with the tie order
 pub record Recurrence (g : Grid) (r : Rule) (E : Piece → ℕ) (p : Piece) : Type 0 where
-  pub outside : kind g p ≡ outside → E p ≡ 0
-  pub full : kind g p ≡ full → E p ≡ charge g r p
+  pub outside : kind g p ≡ outside → (E p ≡ 0) × (shots g r p ≡ [])
+  pub full : kind g p ≡ full → (E p ≡ charge g r p) × (shots g r p ≡ p ∷ [])
   pub mixed : kind g p ≡ mixed
       → (k : Cut) × (ks : List Cut) × (cuts p ≡ k ∷ ks)
       × (E p ≡ partsCost E p (least (partsCost E p) k ks))
