@@ -47,7 +47,7 @@ module _ {A : Type 0} where
   pub length-around : (l : List A) → length (around l) ≡ length l
   unfolding around
   length-around [] = refl
-  length-around (s ∷ l) = length-steps (last s l) (s ∷ l)
+  length-around (s ∷ l) = length-steps _ (s ∷ l)
 
   last-at : (d s : A) (l : List A) → last s l ≡ getD (s ∷ l) (length l) d
   unfolding last

@@ -7,6 +7,7 @@
 --   inside-cell                       == a unit square is inside just if the cell that holds it is
 --   inside-left, inside-right, inside-below, inside-above   == beyond the frame nothing is inside
 --   lines-up, lines-corners, corners-lines     == the lines rise strictly; each is a corner's coordinate; each corner's coordinate is one
+--   lines-unique                               == no other list has these three
 --   grid-sound                        == the grid of an outline that passes 2 to 4 is sound
 use Prim.Native.Nat.{ℕ, zero, suc, _+_, _*_, _-_, _%_, _/_, _≤_, _<_, min, max}
 use mathlib.Core.Path.{_≡_, refl, sym, _∙_, ap, ap₂, subst}
@@ -26,7 +27,7 @@ use Rattle.outline.specs.Corners.{Corner, Link, coordinate, last, steps,
 use Rattle.outline.specs.Lines.{rising, lines, Up, place}
 use Rattle.outline.specs.Grid.{Grid, Sound}
 use Rattle.outline.specs.Inside.{Wall, wall, walls, covers, count, within, gridOf, grid, insideAt}
-use Rattle.outline.proofs.Lines.{Beside, beside, rising-up, rising-all, rising-back, rising-lines, rising-values, lowest, highest, place-all, place-up, place-rises}
+use Rattle.outline.proofs.Lines.{Beside, beside, rising-up, rising-all, rising-back, rising-lines, rising-values, rising-unique, lowest, highest, place-all, place-up, place-rises}
 use Rattle.outline.proofs.Turns.{any-all, All-both, around-all, lines-some, lines-most}
 
 -- the coordinates of the walls are those of the corners
@@ -92,17 +93,39 @@ unfolding covers
 same-covers x₀ x₁ y₀ y₁ x y w s a b c d =
     ap₂ _&&_ (same-low x₀ x₁ (w .x) x (s .0) a b) (ap₂ _&&_ (same-low y₀ y₁ (w .lo) y (s .1 .0) c d) (same-high y₀ y₁ (w .hi) y (s .1 .1) c d))
 
+-- how many walls
+pub count-append : (t : Wall → Bool) (l m : List Wall) → count t (l ++ m) ≡ count t l + count t m
+unfolding count
+count-append t l m = sumOf-append (λ w. only (t w) 1) l m
+
+pub count-none : (t : Wall → Bool) (ws : List Wall) → All (λ w. t w ≡ false) ws → count t ws ≡ 0
+unfolding count sumOf
+count-none t [] h = refl
+count-none t (w ∷ ws) h = omega (arith, ap (λ b. only b 1) (h .0), count-none t ws (h .1))
+
+pub count-same : (t u : Wall → Bool) (ws : List Wall) → All (λ w. t w ≡ u w) ws → count t ws ≡ count u ws
+unfolding count
+count-same t u ws h = sumOf-same (λ w. only (t w) 1) (λ w. only (u w) 1) ws (All-imp (λ w e. ap (λ b. only b 1) e) ws h)
+
+pub even : (n : ℕ) → n % 2 ≡ 0 → odd n ≡ false
+unfolding odd
+even n h = rw h
+
+none-within : (ws : List Wall) (x lo hi : ℕ) → All (λ w. covers x lo hi w ≡ false) ws → within ws x lo hi ≡ false
+unfolding within odd
+none-within ws x lo hi h = rw (count-none (covers x lo hi) ws h)
+
 same-within : (x₀ x₁ y₀ y₁ x y : ℕ) (ws : List Wall) → All (Set (Beside x₀ x₁) (Beside y₀ y₁)) ws → x₀ ≤ x → x < x₁ → y₀ ≤ y → y < y₁
     → within ws x₀ y₀ y₁ ≡ within ws x y (suc y)
-unfolding within count
+unfolding within
 same-within x₀ x₁ y₀ y₁ x y ws h a b c d =
-    ap odd (sumOf-same _ _ ws (All-imp (λ w s. ap (λ t. only t 1) (same-covers x₀ x₁ y₀ y₁ x y w s a b c d)) ws h))
+    rw (count-same (covers x₀ y₀ y₁) (covers x y (suc y)) ws (All-imp (λ w s. same-covers x₀ x₁ y₀ y₁ x y w s a b c d) ws h))
 
 -- the cells of a grid: within the frame, right of it and above it
 module _ (cs : List Corner) (i j : ℕ) where
   pub grid-cell : i < length (lines X cs) - 1 → j < length (lines Y cs) - 1
-      → grid cs .inside i j ≡ odd (count (covers (place (lines X cs) i) (place (lines Y cs) j) (place (lines Y cs) (suc j))) (walls (edges cs)))
-  unfolding grid gridOf within
+      → grid cs .inside i j ≡ within (walls (edges cs)) (place (lines X cs) i) (place (lines Y cs) j) (place (lines Y cs) (suc j))
+  unfolding grid gridOf
   grid-cell h k = rw (lt-ltb i (length (lines X cs) - 1) h, lt-ltb j (length (lines Y cs) - 1) k)
 
   pub grid-right : length (lines X cs) - 1 ≤ i → grid cs .inside i j ≡ false
@@ -118,7 +141,7 @@ module _ (cs : List Corner) (x y : ℕ) where
   pub inside-cell : (i j : ℕ) → i < grid cs .columns → j < grid cs .rows
       → grid cs .x i ≤ x → x < grid cs .x (suc i) → grid cs .y j ≤ y → y < grid cs .y (suc j)
       → insideAt cs x y ≡ grid cs .inside i j
-  unfolding grid gridOf insideAt within
+  unfolding grid gridOf insideAt
   inside-cell i j hi hj a b c d =
       sym
       (grid-cell cs i j hi hj
@@ -139,28 +162,6 @@ module _ (cs : List Corner) (x y : ℕ) where
 
       next : (i n : ℕ) → i < n - 1 → suc i < n
       next i n h = omega arith
-
--- how many walls
-pub count-append : (t : Wall → Bool) (l m : List Wall) → count t (l ++ m) ≡ count t l + count t m
-unfolding count
-count-append t l m = sumOf-append (λ w. only (t w) 1) l m
-
-pub count-none : (t : Wall → Bool) (ws : List Wall) → All (λ w. t w ≡ false) ws → count t ws ≡ 0
-unfolding count sumOf
-count-none t [] h = refl
-count-none t (w ∷ ws) h = omega (arith, ap (λ b. only b 1) (h .0), count-none t ws (h .1))
-
-pub count-same : (t u : Wall → Bool) (ws : List Wall) → All (λ w. t w ≡ u w) ws → count t ws ≡ count u ws
-unfolding count
-count-same t u ws h = sumOf-same (λ w. only (t w) 1) (λ w. only (u w) 1) ws (All-imp (λ w e. ap (λ b. only b 1) e) ws h)
-
-pub even : (n : ℕ) → n % 2 ≡ 0 → odd n ≡ false
-unfolding odd
-even n h = rw h
-
-none-within : (ws : List Wall) (x lo hi : ℕ) → All (λ w. covers x lo hi w ≡ false) ws → within ws x lo hi ≡ false
-unfolding within
-none-within ws x lo hi h = ap odd (count-none (covers x lo hi) ws h) ∙ even 0 refl
 
 -- an outline passes each stretch of heights an even number of times, if no corner lies within it
 module _ (lo hi : ℕ) where
@@ -277,6 +278,14 @@ lines-corners a cs = rising-values (map (coordinate a) cs)
 pub corners-lines : (a : Axis) (cs : List Corner) → All (λ c. Member (coordinate a c) (lines a cs)) cs
 unfolding lines
 corners-lines a cs = All-unmap (λ v. Member v (rising (map (coordinate a) cs))) (coordinate a) cs (rising-lines (map (coordinate a) cs))
+
+pub lines-unique : (a : Axis) (cs : List Corner) (ls : List ℕ) → Up ls
+    → All (λ v. Member v (map (coordinate a) cs)) ls
+    → All (λ c. Member (coordinate a c) ls) cs
+    → ls ≡ lines a cs
+unfolding lines
+lines-unique a cs ls h p q =
+    rising-unique (map (coordinate a) cs) ls h p (All-map (λ v. Member v ls) (coordinate a) cs q)
 
 -- what Sound asks
 module _

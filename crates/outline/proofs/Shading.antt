@@ -174,6 +174,7 @@ module _ (cs : List Corner) (some : 0 < length (lines X cs)) where
 
   pub reaches-inside : slanted cs ≡ false → (i j : ℕ)
       → odd (count (reaches (lines X cs) (lines Y cs) i j) (walls (edges cs))) ≡ grid cs .inside i j
+  unfolding within
   reaches-inside s i j = elim (le-or (length (lines Y cs)) (suc j)) [
     | inl q ↦
         ap odd (count-none _ (walls (edges cs)) (All-all (reaches-above i j q) (walls (edges cs))))

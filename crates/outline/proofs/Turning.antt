@@ -51,10 +51,11 @@ module _ (cells ys : List ℕ) (first lo hi : ℕ) (now : List ℕ) (j : ℕ) (h
   pub turning-bit : (line : ℕ) → Bits cells ys line → getD now (first + j) 0 ≤ 1
   turning-bit line b = omega (arith, turning-here, b .bit (first + j))
 
-  pub turning-more : (b : Bool) (v : ℕ) → b ≡ covered lo hi (getD ys j 0) (getD ys (j + 1) 0) → v ≡ flip b (getD now (first + j) 0)
+  pub turning-more : (b : Bool) (v bottom top : ℕ) → bottom ≡ getD ys j 0 → top ≡ getD ys (j + 1) 0 → b ≡ covered lo hi bottom top
+      → v ≡ flip b (getD now (first + j) 0)
       → first + j < length cells → j + 1 < length ys
       → Turning cells ys first lo hi (set now (first + j) v) (j + 1)
-  turning-more b v e f k m =
+  turning-more b v bottom top eb et e f k m =
       record {
         most = omega arith;
         same = length-set now (first + j) v ∙ h .same;
@@ -77,7 +78,7 @@ module _ (cells ys : List ℕ) (first lo hi : ℕ) (now : List ℕ) (j : ℕ) (h
       done′ i q = elim (le-or j i) [
         | inl r ↦
             (let z : i ≡ j = omega arith in
-            rw z (getD-set-same now (first + j) v 0 (omega (arith, h .same)) ∙ f ∙ ap₂ flip e turning-here))
+            rw z (getD-set-same now (first + j) v 0 (omega (arith, h .same)) ∙ f ∙ ap₂ flip (e ∙ ap₂ (covered lo hi) eb et) turning-here))
         | inr r ↦ other (first + i) (λ z. omega arith) ∙ h .done i r
       ]
 

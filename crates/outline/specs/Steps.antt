@@ -1,17 +1,25 @@
 -- What the inner functions promise, on the way from the corners to the cells. Nobody has to believe these: the promise of a
 -- drawing does not cite them.
 --
+-- The edges
 --   corner l k, edge l k, turn l k   == the corner k of the list l, the edge that ends at it, and that edge with the one before
 --   before k n                       == the number before k of n, once round
 --   Right l                          == the outline passes 2, 3 and 4
+-- The lines
 --   Room ls n v, Inserted ..         == the first n of ls rise, and there is room to insert v; ls with v inserted, and their number
 --   Gathered a l ls r after          == the r lines of the outline across the axis a, at the front of what was ls
+--   Ruled l xs ys                    == the outline passes 2, 3 and 4, and these are its lines
+-- The cells, the cell (i, j) at 16 * i + j
 --   flip t n                         == n, 0 or 1, turned over where the test t holds
 --   covered lo hi bottom top         == what lies from bottom to top lies from lo to hi
 --   span ys lo hi j                  == the row j of cells between the y lines ys lies from lo to hi
+--   Bits cells ys line               == 16 by 16 bits, the y lines of a grid, and the number of an x line
+--   Turned cells ys line lo hi after == each cell right of the line whose row lies from lo to hi is turned over
 --   stands xs ys n w                 == the wall w stands on the low x of the cell n, and its span covers the cell
 --   marks cs k n                     == 1 where an odd number of the first k edges are walls that stand at the cell n, else 0
---   swept l i j                      == 1 where an odd number of the marks of row j up to column i are 1, else 0
+--   Marked l k cells, Marks cells    == the first k edges are marked; marks are bits
+--   swept l i j, Swept cells after   == 1 where an odd number of the marks of row j up to column i are 1; all of them so
+--   lit n                            == a cell that is not 0
 use Prim.Native.Nat.{ℕ, zero, suc, _+_, _*_, _-_, _/_, _%_, _≤_, _<_}
 use mathlib.Core.Path.{_≡_}
 use mathlib.Core.Bool.{Bool, true, false, not, _&&_}
@@ -72,7 +80,6 @@ covered lo hi bottom top = leb lo bottom && leb top hi
 unfoldable pub span : List ℕ → ℕ → ℕ → ℕ → Bool
 span ys lo hi j = ltb (j + 1) (length ys) && covered lo hi (getD ys j 0) (getD ys (j + 1) 0)
 
--- 16 by 16 bits, the y lines of a grid, and the number of an x line
 pub record Bits (cells ys : List ℕ) (line : ℕ) : Type 0 where
   pub length-cells : length cells ≡ 256
   pub bit : (n : ℕ) → getD cells n 0 ≤ 1
@@ -80,7 +87,6 @@ pub record Bits (cells ys : List ℕ) (line : ℕ) : Type 0 where
   pub most : length ys ≤ 16
   pub column : line < 16
 
--- each cell right of the line whose y range the span covers is turned over
 pub record Turned (cells ys : List ℕ) (line lo hi : ℕ) (after : List ℕ) : Type 0 where
   pub at : (n : ℕ) → getD after n 0 ≡ flip (eqb (n / 16) line && span ys lo hi (n % 16)) (getD cells n 0)
 
@@ -91,18 +97,15 @@ stands xs ys n w =
 unfoldable pub marks : List Corner → ℕ → ℕ → ℕ
 marks cs k n = only (odd (count (stands (lines X cs) (lines Y cs) n) (walls (take k (edges cs))))) 1
 
--- the outline passes 2, 3 and 4, and these are its lines
 pub record Ruled (l xs ys : List ℕ) : Type 0 where
   pub right : Right l
   pub across-x : xs ≡ lines X (corners l)
   pub across-y : ys ≡ lines Y (corners l)
 
--- the first k edges are marked
 pub record Marked (l : List ℕ) (k : ℕ) (cells : List ℕ) : Type 0 where
   pub length-cells : length cells ≡ 256
   pub at : (n : ℕ) → getD cells n 0 ≡ marks (corners l) k n
 
--- 16 by 16 bits, and what they are when each has taken in those left of it
 pub record Marks (cells : List ℕ) : Type 0 where
   pub length-cells : length cells ≡ 256
   pub bit : (n : ℕ) → getD cells n 0 ≤ 1
@@ -114,6 +117,5 @@ swept l (suc i) j = (swept l i j + getD l (16 * suc i + j) 0) % 2
 pub record Swept (cells after : List ℕ) : Type 0 where
   pub at : (i j : ℕ) → i < 16 → j < 16 → getD after (16 * i + j) 0 ≡ swept cells i j
 
--- a cell that is not 0
 unfoldable pub lit : ℕ → Bool
 lit n = not (eqb n 0)

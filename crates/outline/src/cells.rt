@@ -48,7 +48,9 @@ fn turn_over(cells: &mut [u8], line: Line, ys: &[u16], low: Place, high: Place)
     let first = 16 * line.0;
     let rows = ys.len() - 1;
     for j in 0..rows {
-        let covered = covers(low, high, Place(ys[j]), Place(ys[j + 1]));
+        let bottom = crate::place_of(ys, Line(j));
+        let top = crate::place_of(ys, Line(j + 1));
+        let covered = covers(low, high, bottom, top);
         let at = first + j;
         cells[at] = turned(cells[at], covered);
     }

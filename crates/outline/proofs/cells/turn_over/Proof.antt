@@ -21,20 +21,14 @@ sub-rows c = search needs
 loop-holds : tie.Need-loop-holds Inv-loop μ-loop
 loop-holds c = turning-start _ _ _ _ _ (search needs)
 
-mul-t13 : tie.Need-mul-t13 Inv-loop μ-loop
-mul-t13 c = search needs
+place-of-requires : tie.Need-place-of-requires Inv-loop μ-loop
+place-of-requires c κs = search needs
 
-shared-slice-read-t15 : tie.Need-shared-slice-read-t15 Inv-loop μ-loop
-shared-slice-read-t15 c = search needs
+add-t16 : tie.Need-add-t16 Inv-loop μ-loop
+add-t16 c = search needs
 
-add-t17 : tie.Need-add-t17 Inv-loop μ-loop
-add-t17 c = search needs
-
-mul-t18 : tie.Need-mul-t18 Inv-loop μ-loop
-mul-t18 c = search needs
-
-shared-slice-read-t20 : tie.Need-shared-slice-read-t20 Inv-loop μ-loop
-shared-slice-read-t20 c = search needs
+place-of-requires-2 : tie.Need-place-of-requires-2 Inv-loop μ-loop
+place-of-requires-2 c κs = search needs
 
 covers-requires : tie.Need-covers-requires Inv-loop μ-loop
 covers-requires c κs = search needs
@@ -61,8 +55,15 @@ loop-less c = search needs
 
 loop-again : tie.Need-loop-again Inv-loop μ-loop
 loop-again c =
-    let s = c .before .before .before .before .before .before in
-    turning-more _ _ _ _ _ _ _ (s .loop .inv) _ _ (c .before .before .covers .ensures) (c .turned .ensures) (search needs) (search needs)
+    let d = c .before .before in
+    let s = d .before .before .before .before in
+    turning-more _ _ _ _ _ _ _ (s .loop .inv) _ _ _ _
+    (d .before .before .place-of .ensures)
+    (d .before .place-of2 .ensures)
+    (d .covers .ensures)
+    (c .turned .ensures)
+    (search needs)
+    (search needs)
 
 same-length : tie.Need-same-length Inv-loop μ-loop
 same-length c = search needs
@@ -81,11 +82,9 @@ turn-over-spec =
     mul-first
     sub-rows
     loop-holds
-    mul-t13
-    shared-slice-read-t15
-    add-t17
-    mul-t18
-    shared-slice-read-t20
+    place-of-requires
+    add-t16
+    place-of-requires-2
     covers-requires
     add-at
     slice-read-turned

@@ -1,5 +1,5 @@
 -- `outline::edges::straight` meets its contract. The invariant: no edge passed so far changes neither, and no turn is straight. Assumes nothing.
-use Prim.Native.Nat.{ℕ, _≤_, _<_, _-_}
+use Prim.Native.Nat.{ℕ, _<_, _-_}
 use mathlib.Core.Path.{_≡_, sym, _∙_}
 use mathlib.Core.Bool.{false}
 use borrow.Author.Count.{below-none, below-more}
@@ -13,15 +13,14 @@ use Rattle.outline.proofs.edges.straight.Tie as tie
 
 abbrev Inv-loop : tie.InvT-loop
 Inv-loop corners count turn₀ turn =
-    (turn ≤ count)
-    × ((k : ℕ) → k < turn → neither (edge corners k) ≡ false)
+    ((k : ℕ) → k < turn → neither (edge corners k) ≡ false)
     × ((k : ℕ) → k < turn → alike (step.turn corners k) ≡ false)
 
 abbrev μ-loop : tie.MeasureT-loop
 μ-loop corners count turn₀ turn = count - turn
 
 loop-holds : tie.Need-loop-holds Inv-loop μ-loop
-loop-holds c = (search needs, below-none _, below-none _)
+loop-holds c = (below-none _, below-none _)
 
 neither-requires : tie.Need-neither-requires Inv-loop μ-loop
 neither-requires c κs = search needs
@@ -43,13 +42,12 @@ loop-less c = search needs
 
 loop-again : tie.Need-loop-again Inv-loop μ-loop
 loop-again c = (
-  search needs,
-  below-more _ _ (c .before .before .before .before .before .loop .inv .1) (sym (c .before .before .before .neither .ensures) ∙ c .before .before .if1 .left),
-  below-more _ _ (c .before .before .before .before .before .loop .inv .2) (sym (c .before .alike .ensures) ∙ c .if2 .left),
+  below-more _ _ (c .before .before .before .before .before .loop .inv .0) (sym (c .before .before .before .neither .ensures) ∙ c .before .before .if1 .left),
+  below-more _ _ (c .before .before .before .before .before .loop .inv .1) (sym (c .before .alike .ensures) ∙ c .if2 .left),
 )
 
 returns-3 : tie.Need-returns-3 Inv-loop μ-loop
-returns-3 c = Corners.straight-none _ (λ k h. c .before .loop .inv .1 k (search needs)) (λ k h. c .before .loop .inv .2 k (search needs))
+returns-3 c = Corners.straight-none _ (λ k h. c .before .loop .inv .0 k (search needs)) (λ k h. c .before .loop .inv .1 k (search needs))
 
 pub straight-spec : {M : Type 1} → statement M
 straight-spec =
