@@ -1,5 +1,6 @@
 pub mod Across
 pub mod Delivered
+pub mod Drawing
 pub mod Emitted
 pub mod Judged
 pub mod Lengths
