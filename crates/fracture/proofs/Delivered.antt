@@ -116,7 +116,7 @@ module _ (g : Grid) (r : Rule) (t cs xs ys : List ℕ) (plan : Plan) (w : Walk g
 
   pub told-lacking : (list : List ℕ) {k : ℕ} → Short k ≡ roomOf (length list) (length (shots g r q))
       → told (Refused (because.List k)) t list ≡ delivered g r t list
-  unfolding delivered
+  unfolding delivered told reason
   told-lacking list {k} h =
       let s = short-says (length list) (length (shots g r q)) k h in
       let b : length list < 4 * length (all g r t list) = omega (arith, s .1, ap length same) in
@@ -128,7 +128,7 @@ module _ (g : Grid) (r : Rule) (t cs xs ys : List ℕ) (plan : Plan) (w : Walk g
       → at ≡ entryOf (plan .columns) (plan .rows) q
       → c ≡ getD t at 0
       → told (Done (a .shots) c (a .sliver)) t list′ ≡ delivered g r t list
-  unfolding delivered cost
+  unfolding delivered cost told
   told-listed list list′ a h v at-e c-e =
       let m = enough-says (length list) (length (shots g r q)) h in
       let b : 4 * length (all g r t list) ≤ length list = omega (arith, m, ap length same) in

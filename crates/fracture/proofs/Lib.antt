@@ -2,6 +2,7 @@ pub mod Across
 pub mod Delivered
 pub mod Drawing
 pub mod Emitted
+pub mod Gridded
 pub mod Judged
 pub mod Lengths
 pub mod Search

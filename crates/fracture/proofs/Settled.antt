@@ -76,7 +76,7 @@ answer : Outcome → Fractured
 answer o = cond (eqb (o .number) 0) (Done (o .shots) (o .cost) (o .sliver)) (Refused (back (o .number) (o .shots)))
 
 answer-told : (a : Fractured) (table list : List ℕ) → answer (told a table list) ≡ a
-unfolding answer back
+unfolding answer back told reason
 answer-told (Done s c n) table list = refl
 answer-told (Refused because.Rule) table list = refl
 answer-told (Refused because.Length) table list = refl
@@ -90,6 +90,7 @@ pub told-apart : (a b : Fractured) (t u l m : List ℕ) → told a t l ≡ told 
 told-apart a b t u l m e = sym (answer-told a t l) ∙ ap answer e ∙ answer-told b u m
 
 told-buffers : (a : Fractured) (t l : List ℕ) → (told a t l .table ≡ t) × (told a t l .list ≡ l)
+unfolding told
 told-buffers (Done s c n) t l = (refl, refl)
 told-buffers (Refused why) t l = (refl, refl)
 

@@ -2,15 +2,22 @@
 --
 --   roomOf n m               == whether n numbers have room for m shots
 --   Walkable ..              == what is lent speaks of some grid and rule
+--   Laid cs m                == m is how the grid of the outline with the corners cs lies in memory, and it is sound
+--   Fillable m r             == there is such an outline, and the weight of the rule r is within its limit
 --   delivered g r table list == the outcome of listing the shots of the grid g under the rule r, table being filled: 7, or a success
 --   settled g r table list   == the outcome with a table that is yet to be filled: 6, 7, or a success
-use Prim.Native.Nat.{ℕ, _*_}
+use Prim.Native.Nat.{ℕ, _*_, _≤_}
+use mathlib.Core.Path.{_≡_}
 use mathlib.Core.Bool.{cond}
 use mathlib.Core.List.{List}
 use lib.Dec.{ltb}
 use lib.ListN.{length}
 use Rattle.sum.specs.Sum.{sumOf}
-use Rattle.outline.specs.Grid.{Grid}
+use Rattle.outline.specs.declared.Grid as stored
+use Rattle.outline.specs.Corners.{Corner}
+use Rattle.outline.specs.Grid.{Grid, Sound}
+use Rattle.outline.specs.Inside.{grid}
+use Rattle.outline.specs.Promise.{laid}
 use Rattle.rule.specs.declared.Rule.{Rule}
 use Rattle.piece.specs.Piece.{Piece, frame, sliver, charge}
 use Rattle.piece.specs.Straight.{shots, numbers}
@@ -29,6 +36,15 @@ pub record Walkable (table cells xs ys : List ℕ) (plan : Plan) : Type 0 where
   pub grid : Grid
   pub rule : Rule
   pub walk : Walk grid rule table cells xs ys plan
+
+pub record Laid (cs : List Corner) (m : stored.Grid) : Type 0 where
+  pub sound : Sound (grid cs)
+  pub laid : m ≡ laid (grid cs)
+
+pub record Fillable (m : stored.Grid) (r : Rule) : Type 0 where
+  pub corners : List Corner
+  pub drawn : Laid corners m
+  pub weight : r .weight ≤ 1000
 
 module _ (g : Grid) (r : Rule) (table list : List ℕ) where
   -- the shots of the whole grid

@@ -11,7 +11,7 @@ use Rattle.fracture.specs.declared.Fractured.{Fractured}
 use Rattle.fracture.specs.declared.Fractured.the-variants.{Done, Refused}
 
 -- the number, and the shots beside it
-abbrev pub reason : refusal.Refusal → ℕ × ℕ
+unfoldable pub reason : refusal.Refusal → ℕ × ℕ
 reason because.Rule = (1, 0)
 reason because.Length = (2, 0)
 reason because.Slanted = (3, 0)
@@ -21,7 +21,7 @@ reason because.Table = (6, 0)
 reason (because.List shots) = (7, shots)
 
 -- 0 on success; a refusal has zeros for cost and sliver
-abbrev pub told : Fractured → List ℕ → List ℕ → Outcome
+unfoldable pub told : Fractured → List ℕ → List ℕ → Outcome
 told (Done shots cost sliver) table list =
     record { number = 0; shots = shots; cost = cost; sliver = sliver; table = table; list = list }
 told (Refused why) table list =

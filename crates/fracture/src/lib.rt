@@ -1,5 +1,17 @@
 // From an outline to its shots: the verdict of each piece, emission, and the two calls.
+use delivery::deliver;
+use outline::Grid;
 use outline::Line;
+use rule::Rule;
+use table::filling::fill;
+use table::numbering::entries;
+
+ghost use mathlib.Core.Path.{_≡_};
+ghost use mathlib.Core.List.{List};
+ghost use Rattle.outline.specs.Corners.{Corner};
+ghost use Rattle.outline.specs.Inside as inside;
+ghost use Rattle.fracture.specs.Delivery.{Laid, Fillable, settled};
+ghost use Rattle.fracture.specs.Told.{told};
 
 mod delivery;
 mod emission;
@@ -49,4 +61,27 @@ pub enum Refusal {
 pub enum Fractured {
     Done { shots: u32, cost: u32, sliver: u32 },
     Refused(Refusal),
+}
+
+// The fracture of the grid of an outline by a rule in range: 6, 7 or the shots.
+fn fracture_grid(grid: Grid, rule: Rule, table: &mut [u32], list: &mut [u16]) -> Fractured
+    requires { ⌜ Fillable grid rule ⌝ }
+    ensures { λ a. ⌜ ((cs : List Corner) → Laid cs grid → told a (now (table .exit)) (now (list .exit)) ≡ settled (inside.grid cs) rule (now (table .entry)) (now (list .entry))) ⌝ }
+{
+    let columns = grid.columns;
+    let rows = grid.rows;
+    if table.len() < entries(columns, rows) {
+        return Fractured::Refused(Refusal::Table);
+    }
+    let xs = grid.xs;
+    let ys = grid.ys;
+    let cells = grid.cells;
+    let threshold = rule.threshold;
+    fill(&xs, &ys, &cells, columns, rows, rule, table);
+    let plan = Plan {
+        columns,
+        rows,
+        threshold,
+    };
+    deliver(table, &cells, &xs, &ys, list, plan)
 }
