@@ -31,7 +31,7 @@ use Rattle.fracture.specs.declared.emission.Tally.{Tally}
 use Rattle.fracture.specs.Memory.{Filled}
 use Rattle.fracture.specs.Emission.{Written, Walk, Emittable}
 use Rattle.fracture.specs.Delivery.{roomOf, Walkable, all, listed, lacking, delivered}
-use Rattle.fracture.specs.Told.{told}
+use Rattle.fracture.specs.Told.{reason, told}
 use Rattle.fracture.proofs.Emitted.{count-cells}
 
 pub room-fits : (n : ℕ) {m l : ℕ} → m ≡ l → 4 * m ≤ n → Enough ≡ roomOf n l

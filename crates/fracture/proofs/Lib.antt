@@ -1,6 +1,5 @@
 pub mod Across
 pub mod Delivered
-pub mod Drawing
 pub mod Emitted
 pub mod Gridded
 pub mod Judged

@@ -1,6 +1,11 @@
 -- The outcome of a grid is the outcome that document 01 promises of its corners; and no two answers tell the same. Assumes nothing.
 --
---   outcome-settled     : of an accepted outline under a rule in range
+--   told-rule           : 1, of a rule that is not in range
+--   told-outline        : 2 to 5, of an outline that is refused
+--   laid-drawing        : the grid of an accepted drawing lies in memory as the fracture of a grid expects it
+--   outcome-settled     : its outcome is that of the outline
+--   rule-range, rule-outcome     : the rule that was made of two numbers is in range, and its outcome is that of the two numbers
+--   preset-range, preset-outcome : the default preset is in range, and its outcome is that of its two numbers
 --   told-apart          : answers that tell the same are the same
 --   fracture-unique     : two ways to satisfy a promise are one: the same answer, and the same in both buffers
 use Prim.Native.Nat.{ℕ, suc, _+_, _*_, _-_, _≤_, _<_}
@@ -13,18 +18,22 @@ use lib.Dec.{ltb, eqb}
 use lib.ListN.{length}
 use borrow.Author.Tests.{lt-ltb, le-ltb}
 use Rattle.sum.proofs.Sum.{le-or}
-use Rattle.rule.specs.Rules.{inRange}
-use Rattle.outline.specs.Promise.{refusal}
+use Rattle.rule.specs.declared.Rule.{Rule}
+use Rattle.rule.specs.Rules.{inRange, Told, given, refused as unknown, ruleTold, presetTold}
+use Rattle.rule.proofs.Rules.{rule-made}
+use Rattle.outline.specs.declared.Drawing.{Drawing}
+use Rattle.outline.specs.Promise.{refusal, Promise}
+use Rattle.outline.proofs.Memory.{drawing-columns, drawing-rows, drawing-drawn, drawing-stored}
 use Rattle.piece.specs.Piece.{frame}
 use Rattle.piece.specs.Straight.{shots}
 use Rattle.table.specs.Entry.{entryCount, costs}
 use Rattle.demands.specs.Promise.{drawn, rule, reportedShots, reportedCost, reportedSliver, reportedList, reportedTable, Outcome, written, accepted, short, refused, outcome}
-use Rattle.demands.proofs.Promise.{outcome-table, outcome-list, outcome-accepted}
+use Rattle.demands.proofs.Promise.{outcome-rule, outcome-outline, outcome-table, outcome-list, outcome-accepted}
 use Rattle.fracture.specs.declared.Refusal as refusals
 use Rattle.fracture.specs.declared.Refusal.the-variants as because
 use Rattle.fracture.specs.declared.Fractured.{Fractured}
 use Rattle.fracture.specs.declared.Fractured.the-variants.{Done, Refused}
-use Rattle.fracture.specs.Delivery.{all, listed, lacking, delivered, settled}
+use Rattle.fracture.specs.Delivery.{Laid, delivered, settled}
 use Rattle.fracture.specs.Told.{reason, told}
 
 module _ (l : List ℕ) (t w : ℕ) (table list : List ℕ) (e : inRange t w ≡ true) (h : refusal l ≡ 0) where
@@ -59,6 +68,56 @@ module _ (l : List ℕ) (t w : ℕ) (table list : List ℕ) (e : inRange t w ≡
           ap
           (λ c. cond c (refused l t w table list 6) (delivered (drawn l) (rule t w) (written (costs (drawn l) (rule t w)) table) list))
           q
+
+module _ (l : List ℕ) (t w : ℕ) (table list : List ℕ) where
+  pub told-rule : inRange t w ≡ false → told (Refused because.Rule) table list ≡ outcome l t w table list
+  unfolding told reason refused
+  told-rule e = sym (outcome-rule l t w table list e)
+
+  pub told-outline : inRange t w ≡ true → (why : refusals.Refusal) → refusal l ≡ reason why .0 → 0 < reason why .0 → reason why .1 ≡ 0
+      → told (Refused why) table list ≡ outcome l t w table list
+  unfolding told refused
+  told-outline e why h k z =
+      (λ i. record { number = reason why .0; shots = z i; cost = 0; sliver = 0; table = table; list = list })
+      ∙ sym (outcome-outline l t w table list e (reason why .0) h k)
+
+-- the drawing of an accepted outline
+pub laid-drawing : (l : List ℕ) (r : Drawing) → Promise l r → refusal l ≡ 0 → Laid (drawn l) (r .grid)
+unfolding drawn
+laid-drawing l r p h =
+    record {
+      sound = p .sound h;
+      columns = drawing-columns l r p h;
+      rows = drawing-rows l r p h;
+      drawn = drawing-drawn l r p h;
+      back = drawing-stored l r p h;
+    }
+
+-- the rule that was made of two numbers
+module _ (t w : ℕ) {r : Rule} (e : given r ≡ ruleTold t w) where
+  same-rule : (inRange t w ≡ true) × (r ≡ rule t w)
+  same-rule = rule-made t w e
+
+  pub rule-range : inRange (r .threshold) (r .weight) ≡ true
+  rule-range = ap (λ (s : Rule). inRange (s .threshold) (s .weight)) (same-rule .1) ∙ same-rule .0
+
+pub rule-outcome : (l : List ℕ) (t w : ℕ) (table list : List ℕ) {r : Rule} → given r ≡ ruleTold t w
+    → outcome l (r .threshold) (r .weight) table list ≡ outcome l t w table list
+rule-outcome l t w table list e = ap (λ (s : Rule). outcome l (s .threshold) (s .weight) table list) (rule-made t w e .1)
+
+-- the row of a preset, by its number
+module _ (l table list : List ℕ) {r : Rule} (e : given r ≡ presetTold 0) where
+  pub preset-range : inRange (r .threshold) (r .weight) ≡ true
+  unfolding presetTold inRange
+  preset-range = ap₂ inRange (ap (λ (t : Told). t .threshold) e) (ap (λ (t : Told). t .weight) e)
+
+  pub preset-outcome : outcome l (r .threshold) (r .weight) table list
+      ≡ outcome l (presetTold 0 .threshold) (presetTold 0 .weight) table list
+  preset-outcome = ap (λ (t : Told). outcome l (t .threshold) (t .weight) table list) e
+
+pub preset-known : unknown 15 ≡ presetTold 0 → ⊥
+unfolding presetTold
+preset-known e = let z : _≡_ {A = ℕ} 15 0 = ap (λ (t : Told). t .number) e in omega arith
 
 -- No two answers tell the same
 

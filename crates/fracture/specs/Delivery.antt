@@ -2,8 +2,8 @@
 --
 --   roomOf n m               == whether n numbers have room for m shots
 --   Walkable ..              == what is lent speaks of some grid and rule
---   Laid cs m                == m is how the grid of the outline with the corners cs lies in memory, and it is sound
---   Fillable m r             == there is such an outline, and the weight of the rule r is within its limit
+--   Laid g m                 == the sound grid g lies in memory as m, and is read back as itself
+--   Fillable m r             == there is such a grid, and the weight of the rule r is within its limit
 --   delivered g r table list == the outcome of listing the shots of the grid g under the rule r, table being filled: 7, or a success
 --   settled g r table list   == the outcome with a table that is yet to be filled: 6, 7, or a success
 use Prim.Native.Nat.{ℕ, _*_, _≤_}
@@ -13,11 +13,8 @@ use mathlib.Core.List.{List}
 use lib.Dec.{ltb}
 use lib.ListN.{length}
 use Rattle.sum.specs.Sum.{sumOf}
-use Rattle.outline.specs.declared.Grid as stored
-use Rattle.outline.specs.Corners.{Corner}
-use Rattle.outline.specs.Grid.{Grid, Sound}
-use Rattle.outline.specs.Inside.{grid}
-use Rattle.outline.specs.Promise.{laid}
+use Rattle.outline.specs.declared.Grid as memory
+use Rattle.outline.specs.Grid.{Grid, Sound, Drawn, stored}
 use Rattle.rule.specs.declared.Rule.{Rule}
 use Rattle.piece.specs.Piece.{Piece, frame, sliver, charge}
 use Rattle.piece.specs.Straight.{shots, numbers}
@@ -37,13 +34,16 @@ pub record Walkable (table cells xs ys : List ℕ) (plan : Plan) : Type 0 where
   pub rule : Rule
   pub walk : Walk grid rule table cells xs ys plan
 
-pub record Laid (cs : List Corner) (m : stored.Grid) : Type 0 where
-  pub sound : Sound (grid cs)
-  pub laid : m ≡ laid (grid cs)
+pub record Laid (g : Grid) (m : memory.Grid) : Type 0 where
+  pub sound : Sound g
+  pub columns : m .columns ≡ g .columns
+  pub rows : m .rows ≡ g .rows
+  pub drawn : Drawn g (m .xs) (m .ys) (m .cells)
+  pub back : stored (m .columns) (m .rows) (m .xs) (m .ys) (m .cells) ≡ g
 
-pub record Fillable (m : stored.Grid) (r : Rule) : Type 0 where
-  pub corners : List Corner
-  pub drawn : Laid corners m
+pub record Fillable (m : memory.Grid) (r : Rule) : Type 0 where
+  pub grid : Grid
+  pub laid : Laid grid m
   pub weight : r .weight ≤ 1000
 
 module _ (g : Grid) (r : Rule) (table list : List ℕ) where

@@ -1,15 +1,19 @@
 // From an outline to its shots: the verdict of each piece, emission, and the two calls.
 use delivery::deliver;
+use outline::Answer;
 use outline::Grid;
 use outline::Line;
+use outline::draw;
+use rule::Made;
+use rule::Preset;
 use rule::Rule;
 use table::filling::fill;
 use table::numbering::entries;
-
 ghost use mathlib.Core.Path.{_≡_};
-ghost use mathlib.Core.List.{List};
-ghost use Rattle.outline.specs.Corners.{Corner};
-ghost use Rattle.outline.specs.Inside as inside;
+ghost use mathlib.Core.Bool.{true};
+ghost use Rattle.rule.specs.Rules.{inRange, presetTold};
+ghost use Rattle.demands.specs.Promise.{outcome};
+ghost use Rattle.outline.specs.Grid as spec;
 ghost use Rattle.fracture.specs.Delivery.{Laid, Fillable, settled};
 ghost use Rattle.fracture.specs.Told.{told};
 
@@ -66,7 +70,7 @@ pub enum Fractured {
 // The fracture of the grid of an outline by a rule in range: 6, 7 or the shots.
 fn fracture_grid(grid: Grid, rule: Rule, table: &mut [u32], list: &mut [u16]) -> Fractured
     requires { ⌜ Fillable grid rule ⌝ }
-    ensures { λ a. ⌜ ((cs : List Corner) → Laid cs grid → told a (now (table .exit)) (now (list .exit)) ≡ settled (inside.grid cs) rule (now (table .entry)) (now (list .entry))) ⌝ }
+    ensures { λ a. ⌜ ((g : spec.Grid) → Laid g grid → told a (now (table .exit)) (now (list .exit)) ≡ settled g rule (now (table .entry)) (now (list .entry))) ⌝ }
 {
     let columns = grid.columns;
     let rows = grid.rows;
@@ -84,4 +88,47 @@ fn fracture_grid(grid: Grid, rule: Rule, table: &mut [u32], list: &mut [u16]) ->
         threshold,
     };
     deliver(table, &cells, &xs, &ys, list, plan)
+}
+
+// The fracture of an outline by a rule in range: 2 to 7 or the shots.
+fn fracture_by(corners: &[u16], rule: Rule, table: &mut [u32], list: &mut [u16]) -> Fractured
+    requires { ⌜ inRange (rule .threshold) (rule .weight) ≡ true ⌝ }
+    ensures { λ a. ⌜ told a (now (table .exit)) (now (list .exit)) ≡ outcome (now (corners .entry)) (rule .threshold) (rule .weight) (now (table .entry)) (now (list .entry)) ⌝ }
+{
+    let drawing = draw(corners);
+    let answer = drawing.answer;
+    match answer {
+        Answer::Accepted => fracture_grid(drawing.grid, rule, table, list),
+        Answer::Length => Fractured::Refused(Refusal::Length),
+        Answer::Slanted => Fractured::Refused(Refusal::Slanted),
+        Answer::Straight => Fractured::Refused(Refusal::Straight),
+        Answer::Empty => Fractured::Refused(Refusal::Empty),
+    }
+}
+
+// Fractures an outline, given as x, y, x, y, .. of its corners, by a threshold in nm and a weight in thousandths of a shot per nm. It
+// leaves the cost of every piece at the front of the table and the shots at the front of the list, and touches nothing beyond.
+pub fn fracture(
+    corners: &[u16],
+    threshold: u32,
+    weight: u32,
+    table: &mut [u32],
+    list: &mut [u16],
+) -> Fractured
+    ensures settled { λ a. ⌜ told a (now (table .exit)) (now (list .exit)) ≡ outcome (now (corners .entry)) threshold weight (now (table .entry)) (now (list .entry)) ⌝ }
+{
+    match Rule::new(threshold, weight) {
+        Made::Rule(rule) => fracture_by(corners, rule, table, list),
+        Made::Refused => Fractured::Refused(Refusal::Rule),
+    }
+}
+
+// The same by the default preset.
+pub fn fracture_default(corners: &[u16], table: &mut [u32], list: &mut [u16]) -> Fractured
+    ensures settled { λ a. ⌜ told a (now (table .exit)) (now (list .exit)) ≡ outcome (now (corners .entry)) (presetTold 0 .threshold) (presetTold 0 .weight) (now (table .entry)) (now (list .entry)) ⌝ }
+{
+    match Rule::preset(Rule::DEFAULT_PRESET) {
+        Preset::Row(rule) => fracture_by(corners, rule, table, list),
+        Preset::Unknown => Fractured::Refused(Refusal::Rule),
+    }
 }

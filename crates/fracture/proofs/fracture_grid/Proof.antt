@@ -3,7 +3,6 @@ use Prim.Native.Nat.{_≤_}
 use native.Mathlib.Omega.{arith}
 use borrow.Author.Needs.{needs}
 use lib.ListN.{length}
-use Rattle.outline.specs.Inside.{grid}
 use Rattle.table.specs.Entry.{entryCount}
 use Rattle.fracture.proofs.Gridded.{laid-few, laid-ready, laid-filled, laid-walk, settled-table, settled-delivered}
 use Rattle.fracture.proofs.fracture_grid.Statement.{statement}
@@ -15,10 +14,10 @@ use Rattle.table.proofs.filling.fill.Reads as fill-reads
 use Rattle.table.proofs.numbering.entries.Reads as entries-reads
 
 entries-requires : tie.Need-entries-requires
-entries-requires c κs = laid-few _ _ (c .before .before .pre .drawn)
+entries-requires c κs = laid-few _ _ (c .before .before .pre .laid)
 
 returns : tie.Need-returns
-returns c cs w = settled-table cs _ w _ _ _ (omega (arith, c .if1 .taken, c .before .entries .ensures))
+returns c g w = settled-table g _ w _ _ _ (omega (arith, c .if1 .taken, c .before .entries .ensures))
 
 slice-aggregate-fill : tie.Need-slice-aggregate-fill
 slice-aggregate-fill c = search needs
@@ -37,7 +36,7 @@ room c = omega (arith, c .if1 .left, c .before .entries .ensures)
 fill-requires : tie.Need-fill-requires
 fill-requires c κs =
     let w = c .before .before .before .before .before .before .before .before .before .before .before .pre in
-    laid-ready _ _ (w .drawn) _ _ (w .weight) (room (c .before .before .before .before .before .before .before))
+    laid-ready _ _ (w .laid) _ _ (w .weight) (room (c .before .before .before .before .before .before .before))
 
 slice-aggregate-deliver : tie.Need-slice-aggregate-deliver
 slice-aggregate-deliver c = search needs
@@ -53,9 +52,9 @@ deliver-requires c κs =
     let s = c .before .before .before .before .before .before .before .before .before .before .before .before .before .before .before .before .before .before .before in
     let w = s .pre in
     record {
-      grid = grid (w .corners);
+      grid = w .grid;
       rule = s .args .rule;
-      walk = laid-walk _ _ (w .drawn) _ _ (laid-filled _ _ (w .drawn) _ _ (c .before .before .before .before .before .before .before .fill .ensures)) (room (c .before .before .before .before .before .before .before .before .before .before .before .before .before .before .before)) (w .weight);
+      walk = laid-walk _ _ (w .laid) _ _ (laid-filled _ _ (w .laid) _ _ _ (w .laid .back) (c .before .before .before .before .before .before .before .fill .ensures)) (room (c .before .before .before .before .before .before .before .before .before .before .before .before .before .before .before)) (w .weight);
     }
 
 same-length : tie.Need-same-length
@@ -65,11 +64,11 @@ same-length-2 : tie.Need-same-length-2
 same-length-2 c = search needs
 
 returns-2 : tie.Need-returns-2
-returns-2 c cs w =
+returns-2 c g w =
     let s = c .before .before .before .before .before .before .before .before .before .before .before .before .before .before .before .before .before .before .before .before .before .before in
-    let e = laid-filled cs _ w _ _ (c .before .before .before .before .before .before .before .before .before .before .fill .ensures) in
+    let e = laid-filled g _ w _ _ _ (w .back) (c .before .before .before .before .before .before .before .before .before .before .fill .ensures) in
     let k = room (c .before .before .before .before .before .before .before .before .before .before .before .before .before .before .before .before .before .before) in
-    settled-delivered cs _ w _ _ e k _ _ _ (c .before .before .deliver .ensures _ _ (laid-walk cs _ w _ _ e k (s .pre .weight)))
+    settled-delivered g _ w _ _ e k _ _ _ (c .before .before .deliver .ensures _ _ (laid-walk g _ w _ _ e k (s .pre .weight)))
 
 pub fracture-grid-spec : {M : Type 1} → statement M
 fracture-grid-spec =

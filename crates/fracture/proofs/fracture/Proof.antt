@@ -1,0 +1,55 @@
+-- `fracture::fracture` meets its contract. Assumes nothing.
+use mathlib.Core.Path.{_≡_, sym, _∙_, ap}
+use borrow.Author.Needs.{needs}
+use Rattle.rule.specs.declared.Rule.{Rule}
+use Rattle.rule.specs.Rules.{madeTold, given, ruleTold}
+use Rattle.rule.proofs.Rules.{rule-made, rule-refused}
+use Rattle.demands.specs.Promise.{outcome}
+use Rattle.fracture.proofs.Settled.{told-rule, rule-range, rule-outcome}
+use Rattle.fracture.proofs.fracture.Statement.{statement}
+use Rattle.fracture.proofs.fracture.Tie as tie
+use Rattle.fracture.proofs.fracture.Reads as reads
+use Rattle.fracture.proofs.fracture.Lts as lts
+use Rattle.fracture.proofs.fracture_by.Reads as fracture-by-reads
+use Rattle.rule.proofs.Rule.new.Reads as new-reads
+
+-- the rule that was made is that of the two numbers
+made : (c : tie.After-rule) → given (c .rule .given .0 .0) ≡ ruleTold (c .before .before .before .before .before .before .args .threshold) (c .before .before .before .before .before .before .args .weight)
+made c = sym (ap madeTold (c .rule .given .1)) ∙ c .before .before .new .ensures
+
+new-requires : tie.Need-new-requires
+new-requires c κs = search needs
+
+enum-known-rule : tie.Need-enum-known-rule
+enum-known-rule c = search needs
+
+fracture-by-requires : tie.Need-fracture-by-requires
+fracture-by-requires c κs = rule-range _ _ (made (c .before .before .before))
+
+enum-told : tie.Need-enum-told
+enum-told c = search needs
+
+same-length : tie.Need-same-length
+same-length c = search needs
+
+same-length-2 : tie.Need-same-length-2
+same-length-2 c = search needs
+
+returns : tie.Need-returns
+returns c = c .before .before .before .before .fracture-by .ensures ∙ rule-outcome _ _ _ _ _ (made (c .before .before .before .before .before .before .before .before))
+
+returns-2 : tie.Need-returns-2
+returns-2 c = told-rule _ _ _ _ _ (rule-refused _ _ (sym (ap madeTold (c .enum-told .given .1)) ∙ c .before .before .new .ensures))
+
+pub fracture-spec : {M : Type 1} → statement M
+fracture-spec =
+    tie.close
+    (tie.spec
+    new-requires
+    enum-known-rule
+    fracture-by-requires
+    enum-told
+    same-length
+    same-length-2
+    returns
+    returns-2)
