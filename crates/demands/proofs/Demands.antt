@@ -12,7 +12,8 @@
 --   refusal-keeps        == beside 1 to 6: zeros, and both buffers as they came in
 --   short-keeps          == beside 7: the shots needed, zeros, the list as it came in, the table as on success
 --   accepted-fills       == on success: the costs at the front of the table, the shots at the front of the list, the rest as it came in
---   lengths-kept         == both buffers keep their lengths, whatever the outcome (proofs/Lengths.antt)
+--   lengths-kept         == both buffers keep their lengths, whatever the outcome (proofs/Room.antt)
+--   ample                == with 14,400 entries and room for 225 shots neither 6 nor 7 is given (proofs/Room.antt)
 --   no-influence         == what the buffers held before has no influence: with others of the same lengths the answer is the same, and
 --                           so is what is written
 --   outcome-unique       == two outcomes that are what was promised are equal (proofs/Outcome.antt)

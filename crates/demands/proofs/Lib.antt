@@ -5,6 +5,6 @@ pub mod Ways
 pub mod Figure
 pub mod Accepted
 pub mod Demands
-pub mod Lengths
+pub mod Room
 pub mod Promise
 pub mod Rows
