@@ -214,7 +214,7 @@ module _ (columns rows : ℕ) (xs ys cs : List ℕ) (r : Rule) (t : List ℕ) (r
 
   pub asks-column : (s : List ℕ) → Tallied G a (c - 1) s
       → ((length s ≡ 64) × ((length xs ≡ 16) × (length cs ≡ 256)))
-      × (((1 ≤ rows) × ((rows ≤ 15) × ((c - 1 ≤ 14) × (getD xs (c - 1) 0 ≤ getD xs (c - 1 + 1) 0)))) × ((j : ℕ) → j < rows → Spare s j))
+      × (((rows ≤ 15) × ((c - 1 ≤ 14) × (getD xs (c - 1) 0 ≤ getD xs (c - 1 + 1) 0))) × ((j : ℕ) → j < rows → Spare s j))
   unfolding stored
   asks-column s w =
       let e : c - 1 + 1 ≡ c = omega arith in
@@ -222,19 +222,16 @@ module _ (columns rows : ℕ) (xs ys cs : List ℕ) (r : Rule) (t : List ℕ) (r
         (w .long, (ready .drawn .xs-length, ready .drawn .cells-length)),
         (
           (
-            ready .sound .rows-some,
+            ready .sound .rows-most,
             (
-              ready .sound .rows-most,
-              (
-                omega (arith, ready .sound .columns-most),
-                omega (
-                  arith,
-                  ap (λ n. getD xs n 0) e,
-                  ready .drawn .x-at (c - 1) (omega arith),
-                  ready .drawn .x-at c k,
-                  ready .sound .x-up (c - 1),
-                  ap (G .x) z,
-                ),
+              omega (arith, ready .sound .columns-most),
+              omega (
+                arith,
+                ap (λ n. getD xs n 0) e,
+                ready .drawn .x-at (c - 1) (omega arith),
+                ready .drawn .x-at c k,
+                ready .sound .x-up (c - 1),
+                ap (G .x) z,
               ),
             ),
           ),

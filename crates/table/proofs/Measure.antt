@@ -24,7 +24,7 @@ use Rattle.piece.proofs.Cells.{cells-product, sum-horizontal}
 use Rattle.piece.proofs.Kind.{inside-most}
 use Rattle.table.specs.Run.{bare}
 use Rattle.table.specs.Strip.{countIn, flankIn, endsAt, shotCost, Measured}
-use Rattle.table.specs.Tally.{beforeAt, Spare, ColumnAdded, FlanksMeasured}
+use Rattle.table.specs.Tally.{belowAt, beforeAt, Spare, ColumnAdded, flankOf, FlanksMeasured}
 use Rattle.table.specs.Fill.{Tallied, Flanked}
 
 pub bare-only : (p q : Bool) (len : ℕ) → bare (only p 1) (only q 1) len ≡ only (p && not q) len
@@ -87,7 +87,7 @@ module _ (g : Grid) (xs ys cs : List ℕ) (sound : Sound g) (drawn : Drawn g xs 
     top-column b d = over-last a c (λ i. only (highSide (g .inside i) d) (width g i (suc i))) h
 
     pub tallied-more : (t u : List ℕ) → Tallied g a c t → ColumnAdded cs (16 * c) (getD xs (c + 1) 0 - getD xs c 0) (g .rows) t u → Tallied g a (suc c) u
-    unfolding lowSide highSide
+    unfolding lowSide highSide belowAt
     tallied-more t u w o =
         record { long = o .long ∙ w .long; counts = counts; bottoms = bottoms; tops = λ b d q. tops b d q }
       where
@@ -100,26 +100,24 @@ module _ (g : Grid) (xs ys cs : List ℕ) (sound : Sound g) (drawn : Drawn g xs 
             ∙ ap₂ _+_ (w .counts j q) (drawn .cell-at c j c16 (omega (arith, sound .rows-most)))
             ∙ sym (count-column j)
 
+        under : (b : ℕ) → b < g .rows
+            → bare (getD cs (16 * c + b) 0) (belowAt cs (16 * c) b) (getD xs (c + 1) 0 - getD xs c 0) ≡ only (lowSide (g .inside c) b) (width g c (suc c))
+        under zero q =
+            ap (λ n. bare n 0 (getD xs (c + 1) 0 - getD xs c 0)) (drawn .cell-at c 0 c16 (omega arith))
+            ∙ bare-only (g .inside c 0) false (getD xs (c + 1) 0 - getD xs c 0)
+            ∙ ap (only (g .inside c 0 && not false)) (width-at c k)
+        under (suc b) q =
+            stretch c (suc b) c b _ _ _ c16 (omega (arith, sound .rows-most)) c16 (omega (arith, sound .rows-most)) refl refl
+            ∙ ap (only (g .inside c (suc b) && not (g .inside c b))) (width-at c k)
+
         bottoms : (b d : ℕ) → b < g .rows → getD u (16 + b) 0 ≡ bottom g (box a (suc c) b d)
-        bottoms zero d q =
-            o .bottom
-            ∙ ap₂ _+_ (w .bottoms zero d q)
-            (alone c 0 c 15 (16 * c) (16 * c + 15) _ c16 (omega arith) c16 (omega arith) (omega arith) refl (sound .above-none c 15 (sound .rows-most))
-            ∙ ap (only (g .inside c 0 && not false)) (width-at c k))
-            ∙ sym (bottom-column zero d)
-        bottoms (suc b) d q =
-            ap (λ n. getD u n 0) (omega arith)
-            ∙ o .bottoms b q
-            ∙ ap₂ _+_ (ap (λ n. getD t n 0) (omega arith) ∙ w .bottoms (suc b) d q)
-            (stretch c (suc b) c b (16 * c + 1 + b) (16 * c + b) _ c16 (omega (arith, sound .rows-most)) c16 (omega (arith, sound .rows-most)) (omega arith) refl
-            ∙ ap (only (g .inside c (suc b) && not (g .inside c b))) (width-at c k))
-            ∙ sym (bottom-column (suc b) d)
+        bottoms b d q = o .bottoms b q ∙ ap₂ _+_ (w .bottoms b d q) (under b q) ∙ sym (bottom-column b d)
 
         tops : (b d : ℕ) → d < g .rows → getD u (32 + d) 0 ≡ top g (box a (suc c) b (suc d))
         tops b d q =
             o .tops d q
             ∙ ap₂ _+_ (w .tops b d q)
-            (stretch c d c (suc d) (16 * c + d) (16 * c + 1 + d) _ c16 (omega (arith, sound .rows-most)) c16 (omega (arith, sound .rows-most)) refl (omega arith)
+            (stretch c d c (suc d) (16 * c + d) (16 * c + d + 1) _ c16 (omega (arith, sound .rows-most)) c16 (omega (arith, sound .rows-most)) refl (omega arith)
             ∙ ap (only (g .inside c d && not (g .inside c (suc d)))) (width-at c k))
             ∙ sym (top-column b (suc d))
 
@@ -151,7 +149,7 @@ module _ (g : Grid) (xs ys cs : List ℕ) (sound : Sound g) (drawn : Drawn g xs 
         stretch c j (suc c) j _ _ len (omega arith) (omega (arith, sound .rows-most)) (omega arith) (omega (arith, sound .rows-most)) (omega arith) refl
 
     pub flanked : Flanked g r a c u
-    unfolding width left right
+    unfolding width left right flankOf
     flanked =
         record {
           flanks =

@@ -1,28 +1,25 @@
 -- Laws of the sums of a strip. Assumes nothing.
 --
---   bare-most                 == a stretch is no longer than it is
---   count-*, added-*, side-*  == one more row of a column: its cell counted, its exposed length added, its flank added
---   column-*                  == a column in four steps: counts, the lowest bottom, the other bottoms, tops
---   flanks-*                  == the flanks in up to three steps: cleared, left, right
---   before-*                  == the column before a line
+--   cell-added         == one cell more, by three stores
+--   Column, column-*   == a column, one row after the other
+--   flanks-*           == the flanks of a row, and of a strip that is narrow or wide
+--   before-*           == the column before a line
 use Prim.Native.Nat.{ℕ, zero, suc, _+_, _*_, _-_, _≤_, _<_}
 use mathlib.Core.Path.{_≡_, refl, sym, _∙_, ap, ap₂, subst}
 use mathlib.Core.Logic.{_⊎_, inl, inr}
 use mathlib.Core.Bool.{Bool, true, false, not, _&&_}
 use mathlib.Core.List.{List}
 use native.Mathlib.Omega.{arith}
-use native.Mathlib.Nat.{zero-add, add-zero}
+use native.Mathlib.Numerals.{add-one}
 use borrow.Author.Tests.{lt-ltb, le-ltb}
 use lib.Dec.{ltb, eqb}
-use lib.ListN.{length, getD, set}
+use lib.ListN.{length, getD, set, length-set}
+use lib.Seq.{getD-set-same, getD-set-other}
 use Rattle.sum.specs.Sum.{only}
-use Rattle.sum.proofs.Sum.{only-most}
+use Rattle.sum.proofs.Sum.{le-or}
 use Rattle.table.specs.Run.{Wrote, bare}
-use Rattle.table.specs.Tally.{counted, addedAt, flankAt, beforeAt, Spare, ColumnAdded, FlanksMeasured}
+use Rattle.table.specs.Tally.{belowAt, beforeAt, Spare, CellAdded, ColumnAdded, flankOf, FlanksMeasured}
 use Rattle.table.proofs.Run
-
-add-left : {m n : ℕ} (k : ℕ) → m ≡ n → m + k ≡ n + k
-add-left k e = ap (λ i. i + k) e
 
 only-off : (t : Bool) (n : ℕ) → t ≡ false → 0 ≡ only t n
 only-off t n e = sym (ap (λ b. only b n) e)
@@ -30,122 +27,152 @@ only-off t n e = sym (ap (λ b. only b n) e)
 only-on : (t : Bool) (n : ℕ) → t ≡ true → n ≡ only t n
 only-on t n e = sym (ap (λ b. only b n) e)
 
-pub bare-most : (near far len : ℕ) → bare near far len ≤ len
-unfolding bare
-bare-most near far len = only-most (not (eqb near 0) && eqb far 0) len
+-- three stores
+module _ (t : List ℕ) (j x y z : ℕ) (long : length t ≡ 64) (l : j < 16) where
+  stored : List ℕ
+  stored = set (set (set t j x) (16 + j) y) (32 + j) z
 
-module _ (t u cells : List ℕ) (near n i : ℕ) (h : i < n) (w : Wrote (counted t cells near) 0 i t u) where
-  pub count-ahead : getD u i 0 ≡ getD t i 0
-  count-ahead = w .kept i (inr (omega arith))
+  stored-long : length stored ≡ length t
+  unfolding stored
+  stored-long = simp length-set
 
-  pub count-more : (v e : ℕ) → n ≤ length t → e ≡ getD cells (near + i) 0 → v ≡ getD u i 0 + e → Wrote (counted t cells near) 0 (i + 1) t (set u i v)
-  unfolding counted
-  count-more v e room c q =
-      subst (λ k. Wrote (counted t cells near) 0 (i + 1) t (set u k v)) (zero-add i)
-      (Run.wrote-more (counted t cells near) 0 i t u v (omega (arith, w .long)) (q ∙ ap₂ _+_ count-ahead c) w)
+  first-at : getD stored j 0 ≡ x
+  unfolding stored
+  first-at =
+      getD-set-other (set (set t j x) (16 + j) y) (32 + j) j z 0 (λ e. omega arith)
+      ∙ getD-set-other (set t j x) (16 + j) j y 0 (λ e. omega arith)
+      ∙ getD-set-same t j x 0 (omega arith)
 
-module _ (t u cells : List ℕ) (at near far width n i : ℕ) (h : i < n) (w : Wrote (addedAt t at cells near far width) at i t u) where
-  pub added-ahead : getD u (at + i) 0 ≡ getD t (at + i) 0
-  added-ahead = w .kept (at + i) (inr (omega arith))
+  second-at : getD stored (16 + j) 0 ≡ y
+  unfolding stored
+  second-at =
+      getD-set-other (set (set t j x) (16 + j) y) (32 + j) (16 + j) z 0 (λ e. omega arith)
+      ∙ getD-set-same (set t j x) (16 + j) y 0 (simp length-set (omega arith))
 
-  pub added-more : (v e : ℕ) → at + n ≤ length t → e ≡ bare (getD cells (near + i) 0) (getD cells (far + i) 0) width → v ≡ getD u (at + i) 0 + e
-      → Wrote (addedAt t at cells near far width) at (i + 1) t (set u (at + i) v)
-  unfolding addedAt
-  added-more v e room c q = Run.wrote-more (addedAt t at cells near far width) at i t u v (omega (arith, w .long)) (q ∙ ap₂ _+_ added-ahead c) w
+  third-at : getD stored (32 + j) 0 ≡ z
+  unfolding stored
+  third-at = getD-set-same (set (set t j x) (16 + j) y) (32 + j) z 0 (simp length-set (omega arith))
 
-module _ (t u cells ys : List ℕ) (near far n i : ℕ) (h : i < n) (w : Wrote (flankAt t cells near far ys) 48 i t u) where
-  pub side-ahead : getD u (48 + i) 0 ≡ getD t (48 + i) 0
-  side-ahead = w .kept (48 + i) (inr (omega arith))
+  kept-at : (k : ℕ) → (k ≡ j → ⊥) → (k ≡ 16 + j → ⊥) → (k ≡ 32 + j → ⊥) → getD stored k 0 ≡ getD t k 0
+  unfolding stored
+  kept-at k p q r =
+      getD-set-other (set (set t j x) (16 + j) y) (32 + j) k z 0 r
+      ∙ getD-set-other (set t j x) (16 + j) k y 0 q
+      ∙ getD-set-other t j k x 0 p
 
-  pub side-more : (v e d : ℕ) → 48 + n ≤ length t → d ≡ getD ys (i + 1) 0 - getD ys i 0 → e ≡ bare (getD cells (near + i) 0) (getD cells (far + i) 0) d
-      → v ≡ getD u (48 + i) 0 + e
-      → Wrote (flankAt t cells near far ys) 48 (i + 1) t (set u (48 + i) v)
-  unfolding flankAt addedAt
-  side-more v e d room z c q =
-      Run.wrote-more (flankAt t cells near far ys) 48 i t u v (omega (arith, w .long))
-      (q ∙ ap₂ _+_ side-ahead (c ∙ ap (bare (getD cells (near + i) 0) (getD cells (far + i) 0)) z))
-      w
+  pub cell-added : (below cell above width : ℕ) → x ≡ getD t j 0 + cell → y ≡ getD t (16 + j) 0 + bare cell below width → z ≡ getD t (32 + j) 0 + bare cell above width
+      → CellAdded j below cell above width t (set (set (set t j x) (16 + j) y) (32 + j) z)
+  unfolding stored
+  cell-added below cell above width ex ey ez =
+      record { long = stored-long; count = first-at ∙ ex; bottom = second-at ∙ ey; top = third-at ∙ ez; kept = kept-at }
 
-pub spare-next : (t : List ℕ) (i : ℕ) → Spare t (i + 1) → getD t (17 + i) 0 ≤ 1000000
-spare-next t i s = (let e : 17 + i ≡ 16 + (i + 1) = omega arith in subst (λ n. getD t n 0 ≤ 1000000) (sym e) (s .bottom))
+-- the rows below j have their cell of the column
+pub record Column (cells : List ℕ) (near width j : ℕ) (t u : List ℕ) : Type 0 where
+  pub long : length u ≡ length t
+  pub counts : (i : ℕ) → i < j → getD u i 0 ≡ getD t i 0 + getD cells (near + i) 0
+  pub bottoms : (i : ℕ) → i < j → getD u (16 + i) 0 ≡ getD t (16 + i) 0 + bare (getD cells (near + i) 0) (belowAt cells near i) width
+  pub tops : (i : ℕ) → i < j → getD u (32 + i) 0 ≡ getD t (32 + i) 0 + bare (getD cells (near + i) 0) (getD cells (near + i + 1) 0) width
+  pub low : (i : ℕ) → j ≤ i → i < 16 → getD u i 0 ≡ getD t i 0
+  pub middle : (i : ℕ) → j ≤ i → i < 16 → getD u (16 + i) 0 ≡ getD t (16 + i) 0
+  pub high : (i : ℕ) → j ≤ i → i < 16 → getD u (32 + i) 0 ≡ getD t (32 + i) 0
 
--- a column in four steps: counts, the lowest bottom, the other bottoms, tops
-module _ (cells t t₁ : List ℕ) (near rows width : ℕ) (most : rows ≤ 15) (w₁ : Wrote (counted t cells near) 0 rows t t₁) where
-  pub column-1 : (k : ℕ) → 16 ≤ k → getD t₁ k 0 ≡ getD t k 0
-  column-1 k h = w₁ .kept k (inr (omega arith))
+pub column-none : (cells : List ℕ) (near width : ℕ) (t : List ℕ) → Column cells near width 0 t t
+column-none cells near width t =
+    record {
+      long = refl;
+      counts = λ i h. absurd (omega arith);
+      bottoms = λ i h. absurd (omega arith);
+      tops = λ i h. absurd (omega arith);
+      low = λ i h l. refl;
+      middle = λ i h l. refl;
+      high = λ i h l. refl;
+    }
 
-  module _ (t₂ : List ℕ) (w₂ : Wrote (addedAt t₁ 16 cells near (near + 15) width) 16 1 t₁ t₂) where
-    pub column-2 : (k : ℕ) → 17 ≤ k → getD t₂ k 0 ≡ getD t k 0
-    column-2 k h = w₂ .kept k (inr h) ∙ column-1 k (omega arith)
-
-    module _ (some : 1 ≤ rows) (t₃ : List ℕ) (w₃ : Wrote (addedAt t₂ 17 cells (near + 1) near width) 17 (rows - 1) t₂ t₃) where
-      pub column-3 : (k : ℕ) → 32 ≤ k → getD t₃ k 0 ≡ getD t k 0
-      column-3 k h = w₃ .kept k (inr (omega arith)) ∙ column-2 k (omega arith)
-
-      pub column-4 : (t₄ : List ℕ) (w : ℕ) → Wrote (addedAt t₃ 32 cells near (near + 1) width) 32 rows t₃ t₄ → width ≡ w → ColumnAdded cells near w rows t t₄
-      unfolding counted addedAt
-      column-4 t₄ w w₄ e =
-          subst (λ n. ColumnAdded cells near n rows t t₄) e
-          (record {
-            long = w₄ .long ∙ w₃ .long ∙ w₂ .long ∙ w₁ .long;
-            counts =
-                λ j h. w₄ .kept j (inl (omega arith))
-                ∙ w₃ .kept j (inl (omega arith))
-                ∙ w₂ .kept j (inl (omega arith))
-                ∙ ap (λ k. getD t₁ k 0) (sym (zero-add j))
-                ∙ w₁ .made j h;
-            bottom =
-                w₄ .kept 16 (inl (omega arith))
-                ∙ w₃ .kept 16 (inl (omega arith))
-                ∙ w₂ .made 0 (omega arith)
-                ∙ ap₂ _+_ (column-1 16 (omega arith))
-                (ap₂ (λ m n. bare (getD cells m 0) (getD cells n 0) width) (add-zero near) (add-zero (near + 15)));
-            bottoms = λ j h. w₄ .kept (17 + j) (inl (omega arith)) ∙ w₃ .made j (omega arith) ∙ add-left _ (column-2 (17 + j) (omega arith));
-            tops = λ j h. w₄ .made j h ∙ add-left _ (column-3 (32 + j) (omega arith));
-          })
-
--- the flanks in up to three steps: cleared, left, right
-module _ (t t₁ : List ℕ) (rows : ℕ) (w₁ : Wrote (λ i. 0) 48 rows t t₁) where
-  pub flanks-wide : (cells ys : List ℕ) (threshold left before right after v n : ℕ) → v ≡ n → threshold ≤ v
-      → FlanksMeasured cells ys (ltb n threshold) left before right after rows t t₁
-  flanks-wide cells ys threshold left before right after v n e h =
+module _ (cells : List ℕ) (near width j : ℕ) (t u : List ℕ) (l : j < 15) (w : Column cells near width j t u) where
+  pub column-spare : Spare t j → Spare u j
+  column-spare s =
       record {
-        long = w₁ .long;
-        flanks = λ j q. w₁ .made j q ∙ only-off _ _ (le-ltb n threshold (omega arith));
-        kept = λ k q. w₁ .kept k (inl q);
+        count = omega (arith, s .count, w .low j (omega arith) (omega arith));
+        bottom = omega (arith, s .bottom, w .middle j (omega arith) (omega arith));
+        top = omega (arith, s .top, w .high j (omega arith) (omega arith));
       }
 
-  module _ (cells ys : List ℕ) (left before : ℕ) (t₂ : List ℕ) (w₂ : Wrote (flankAt t₁ cells left before ys) 48 rows t₁ t₂) where
-    pub flanks-left : (j : ℕ) → j < rows → getD t₂ (48 + j) 0 ≡ bare (getD cells (left + j) 0) (getD cells (before + j) 0) (getD ys (j + 1) 0 - getD ys j 0)
-    unfolding flankAt addedAt
-    flanks-left j h = w₂ .made j h ∙ add-left _ (w₁ .made j h) ∙ zero-add _
+  pub column-more : (v : List ℕ) (below : ℕ) → below ≡ belowAt cells near j
+      → CellAdded j below (getD cells (near + j) 0) (getD cells (near + j + 1) 0) width u v
+      → Column cells near width (j + 1) t v
+  column-more v below e o =
+      record {
+        long = o .long ∙ w .long;
+        counts = λ i h. pick i h (λ i. getD v i 0 ≡ getD t i 0 + getD cells (near + i) 0)
+            (o .count ∙ ap (λ n. n + getD cells (near + j) 0) (w .low j (omega arith) (omega arith)))
+            (λ q. o .kept i (λ z. omega arith) (λ z. omega arith) (λ z. omega arith) ∙ w .counts i q);
+        bottoms = λ i h. pick i h (λ i. getD v (16 + i) 0 ≡ getD t (16 + i) 0 + bare (getD cells (near + i) 0) (belowAt cells near i) width)
+            (o .bottom ∙ ap₂ (λ n m. n + bare (getD cells (near + j) 0) m width) (w .middle j (omega arith) (omega arith)) e)
+            (λ q. o .kept (16 + i) (λ z. omega arith) (λ z. omega arith) (λ z. omega arith) ∙ w .bottoms i q);
+        tops = λ i h. pick i h (λ i. getD v (32 + i) 0 ≡ getD t (32 + i) 0 + bare (getD cells (near + i) 0) (getD cells (near + i + 1) 0) width)
+            (o .top ∙ ap (λ n. n + bare (getD cells (near + j) 0) (getD cells (near + j + 1) 0) width) (w .high j (omega arith) (omega arith)))
+            (λ q. o .kept (32 + i) (λ z. omega arith) (λ z. omega arith) (λ z. omega arith) ∙ w .tops i q);
+        low = λ i h q. o .kept i (λ z. omega arith) (λ z. omega arith) (λ z. omega arith) ∙ w .low i (omega arith) q;
+        middle = λ i h q. o .kept (16 + i) (λ z. omega arith) (λ z. omega arith) (λ z. omega arith) ∙ w .middle i (omega arith) q;
+        high = λ i h q. o .kept (32 + i) (λ z. omega arith) (λ z. omega arith) (λ z. omega arith) ∙ w .high i (omega arith) q;
+      }
+    where
+      pick : (i : ℕ) → i < j + 1 → (P : ℕ → Type 0) → P j → (i < j → P i) → P i
+      pick i h P here before = elim (le-or j i) [
+        | inl q ↦ (let z : j ≡ i = omega arith in subst P z here)
+        | inr q ↦ before q
+      ]
 
-    pub flanks-fit : ((i : ℕ) → i < 16 → getD ys i 0 ≤ 65535) → rows ≤ 15 → (j : ℕ) → j < rows → getD t₂ (48 + j) 0 ≤ 1000000
-    flanks-fit most l j h =
-        omega (
-          arith,
-          flanks-left j h,
-          bare-most (getD cells (left + j) 0) (getD cells (before + j) 0) (getD ys (j + 1) 0 - getD ys j 0),
-          most (j + 1) (omega arith),
-        )
+pub column-all : (cells : List ℕ) (near width w rows j : ℕ) (t u : List ℕ) → width ≡ w → j ≤ rows → rows ≤ j → Column cells near width j t u → ColumnAdded cells near w rows t u
+column-all cells near width w rows j t u e h k c =
+    subst (λ n. ColumnAdded cells near n rows t u) e
+    (record {
+      long = c .long;
+      counts = λ i q. c .counts i (omega arith);
+      bottoms = λ i q. c .bottoms i (omega arith);
+      tops = λ i q. c .tops i (omega arith);
+    })
 
-    pub flanks-narrow : (threshold right after v n l b r a : ℕ) (t₃ : List ℕ) → v ≡ n → v < threshold → left ≡ l → before ≡ b → right ≡ r → after ≡ a
-        → Wrote (flankAt t₂ cells right after ys) 48 rows t₂ t₃
-        → FlanksMeasured cells ys (ltb n threshold) l b r a rows t t₃
-    unfolding flankAt addedAt
-    flanks-narrow threshold right after v n l b r a t₃ e h el eb er ea w₃ =
-        subst (λ k. FlanksMeasured cells ys (ltb n threshold) k b r a rows t t₃) el
-        (subst (λ k. FlanksMeasured cells ys (ltb n threshold) left k r a rows t t₃) eb
-        (subst (λ k. FlanksMeasured cells ys (ltb n threshold) left before k a rows t t₃) er
-        (subst (λ k. FlanksMeasured cells ys (ltb n threshold) left before right k rows t t₃) ea
-        (record {
-          long = w₃ .long ∙ w₂ .long ∙ w₁ .long;
-          flanks =
-              λ j q. w₃ .made j q
-              ∙ ap (λ m. m + bare (getD cells (right + j) 0) (getD cells (after + j) 0) (getD ys (j + 1) 0 - getD ys j 0)) (flanks-left j q)
-              ∙ only-on _ _ (lt-ltb n threshold (omega arith));
-          kept = λ k q. w₃ .kept k (inl q) ∙ w₂ .kept k (inl q) ∙ w₁ .kept k (inl q);
-        }))))
+pub below-first : (cells : List ℕ) (near : ℕ) → 0 ≡ belowAt cells near 0
+unfolding belowAt
+below-first cells near = refl
+
+pub below-next : (cells : List ℕ) (near j : ℕ) → getD cells (near + j) 0 ≡ belowAt cells near (j + 1)
+unfolding belowAt
+below-next cells near j = sym (ap (belowAt cells near) (add-one j))
+
+-- the flanks
+pub flank-more : (cells ys : List ℕ) (left before right after i : ℕ) (t u : List ℕ) (v x y d : ℕ) → 48 + i < length u → d ≡ getD ys (i + 1) 0 - getD ys i 0
+    → x ≡ bare (getD cells (left + i) 0) (getD cells (before + i) 0) d
+    → y ≡ bare (getD cells (right + i) 0) (getD cells (after + i) 0) d
+    → v ≡ x + y
+    → Wrote (flankOf cells left before right after ys) 48 i t u
+    → Wrote (flankOf cells left before right after ys) 48 (i + 1) t (set u (48 + i) v)
+unfolding flankOf
+flank-more cells ys left before right after i t u v x y d room ed ex ey ev w =
+    Run.wrote-more (flankOf cells left before right after ys) 48 i t u v room
+    (ev
+    ∙ ap₂ _+_ (ex ∙ ap (bare (getD cells (left + i) 0) (getD cells (before + i) 0)) ed) (ey ∙ ap (bare (getD cells (right + i) 0) (getD cells (after + i) 0)) ed))
+    w
+
+module _ (cells ys : List ℕ) (threshold left before right after rows v n : ℕ) (t u : List ℕ) (e : v ≡ n) where
+  pub flanks-wide : threshold ≤ v → Wrote (λ i. 0) 48 rows t u → FlanksMeasured cells ys (ltb n threshold) left before right after rows t u
+  flanks-wide h w =
+      record {
+        long = w .long;
+        flanks = λ j q. w .made j q ∙ only-off _ _ (le-ltb n threshold (omega arith));
+        kept = λ k q. w .kept k (inl q);
+      }
+
+  pub flanks-narrow : (b : ℕ) → before ≡ b → v < threshold → Wrote (flankOf cells left before right after ys) 48 rows t u
+      → FlanksMeasured cells ys (ltb n threshold) left b right after rows t u
+  flanks-narrow b eb h w =
+      subst (λ k. FlanksMeasured cells ys (ltb n threshold) left k right after rows t u) eb
+      (record {
+        long = w .long;
+        flanks = λ j q. w .made j q ∙ only-on _ _ (lt-ltb n threshold (omega arith));
+        kept = λ k q. w .kept k (inl q);
+      })
 
 -- the column before a line
 pub before-first : (a : ℕ) → a ≡ 0 → (240 ≡ beforeAt a) × (240 ≤ 240)

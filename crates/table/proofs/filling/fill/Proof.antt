@@ -1,5 +1,5 @@
 -- `table::filling::fill` meets its contract: the strips that begin at the line a or above are filled. Assumes nothing.
-use Prim.Native.Nat.{ℕ, _+_, _-_, _≤_, _<_}
+use Prim.Native.Nat.{_+_, _-_, _≤_}
 use mathlib.Core.Path.{_≡_}
 use native.Mathlib.Omega.{arith}
 use Rattle.outline.specs.Grid.{stored}
@@ -10,10 +10,6 @@ use Rattle.table.proofs.Fill.{past-none, past-trans, ready-later, fill-
 use borrow.Author.Needs.{needs}
 use Rattle.table.proofs.filling.fill.Statement.{statement}
 use Rattle.table.proofs.filling.fill.Tie as tie
-use Rattle.table.proofs.filling.fill.Reads as reads
-use Rattle.table.proofs.filling.fill.Lts as lts
-use Rattle.table.proofs.filling.fill_from.Reads as fill-from-reads
-use Rattle.table.proofs.numbering.pair_count.Reads as pair-count-reads
 
 abbrev Inv-loop : tie.InvT-loop
 Inv-loop xs ys cells columns rows rule table₀ pairs first₀ a₀ table first a = (a ≤ columns) × ((first ≡ pairsBelow columns a) × (Filled (stored columns rows xs ys cells) rule table a (columns + 1) × Past (entryCount columns rows) table₀ table))

@@ -1,7 +1,7 @@
 -- `table::filling::fill_from` meets its contract: the strips that end below the line c are filled, and the sums are those of the last.
 -- Assumes nothing.
-use Prim.Native.Nat.{ℕ, _+_, _-_, _≤_, _<_}
-use mathlib.Core.Path.{_≡_, refl, _∙_}
+use Prim.Native.Nat.{_+_, _-_, _≤_, _<_}
+use mathlib.Core.Path.{refl}
 use native.Mathlib.Omega.{arith}
 use Rattle.outline.specs.Grid.{stored}
 use Rattle.table.specs.Entry.{entryCount}
@@ -10,9 +10,6 @@ use Rattle.table.proofs.Fill.{past-none, past-trans, ready-later, fille
 use borrow.Author.Needs.{needs}
 use Rattle.table.proofs.filling.fill_from.Statement.{statement}
 use Rattle.table.proofs.filling.fill_from.Tie as tie
-use Rattle.table.proofs.filling.fill_from.Reads as reads
-use Rattle.table.proofs.filling.fill_from.Lts as lts
-use Rattle.table.proofs.filling.fill_strip.Reads as fill-strip-reads
 
 abbrev Inv-loop : tie.InvT-loop
 Inv-loop xs ys cells columns rows rule a first pairs table₀ low sums₀ c₀ table sums c = (a .0 < c) × ((c ≤ columns + 1) × (Tallied (stored columns rows xs ys cells) (a .0) (c - 1) sums × (Filled (stored columns rows xs ys cells) rule table (a .0) c × Past (entryCount columns rows) table₀ table)))

@@ -5,18 +5,10 @@ use Rattle.table.proofs.Fill.{strip-limits, asks-column, told-column, a
 use borrow.Author.Needs.{needs}
 use Rattle.table.proofs.filling.fill_strip.Statement.{statement}
 use Rattle.table.proofs.filling.fill_strip.Tie as tie
-use Rattle.table.proofs.filling.fill_strip.Reads as reads
-use Rattle.table.proofs.filling.fill_strip.Lts as lts
-use Rattle.table.proofs.filling.settle_at.Reads as settle-at-reads
-use Rattle.table.proofs.tallying.add_column.Reads as add-column-reads
-use Rattle.table.proofs.tallying.measure_flanks.Reads as measure-flanks-reads
-use Rattle.table.proofs.weighing.weigh_vertical.Reads as weigh-vertical-reads
 
--- src/filling.rt:65:49
 sub-add-column : tie.Need-sub-add-column
 sub-add-column c = search needs
 
--- src/filling.rt:65:5
 add-column-requires : tie.Need-add-column-requires
 add-column-requires c κs =
     let s = c .before .before .before .before .before .before in
@@ -24,7 +16,6 @@ add-column-requires c κs =
     let k = s .pre .1 .0 .1 .0 in
     asks-column _ _ _ _ _ _ _ (s .pre .0) _ _ h k _ (s .pre .1 .1 .0)
 
--- src/filling.rt:66:5
 measure-flanks-requires : tie.Need-measure-flanks-requires
 measure-flanks-requires c κs =
     let s = c .before .before .before .before .before .before .before .before .before .before in
@@ -33,7 +24,6 @@ measure-flanks-requires c κs =
     let w₁ = told-column _ _ _ _ _ _ _ (s .pre .0) _ _ h k _ _ (s .pre .1 .1 .0) (c .before .before .before .add-column .ensures) in
     asks-flanks _ _ _ _ _ _ _ (s .pre .0) _ _ h k (c .before .before .before .add-column .last .0) (w₁ .long)
 
--- src/filling.rt:67:5
 weigh-vertical-requires : tie.Need-weigh-vertical-requires
 weigh-vertical-requires c κs =
     let s = c .before .before .before .before .before .before .before .before .before .before .before .before .before .before in
@@ -41,31 +31,25 @@ weigh-vertical-requires c κs =
     let k = s .pre .1 .0 .1 .0 in
     asks-vertical _ _ _ _ _ _ _ (s .pre .0) _ _ h k (s .pre .1 .1 .1) _ (s .pre .1 .0 .1 .1 .1) _ (s .pre .1 .0 .1 .1 .0)
 
--- src/filling.rt:68:17
 sub-wide : tie.Need-sub-wide
 sub-wide c = search needs
 
--- src/filling.rt:68:16
 cast-wide : tie.Need-cast-wide
 cast-wide c =
     let s = c .before .before .before .before .before .before .before .before .before .before .before .before .before .before .before .before .before in
     omega (arith, strip-limits _ _ _ _ _ _ _ (s .pre .0) _ _ (s .pre .1 .0 .0) (s .pre .1 .0 .1 .0))
 
--- src/filling.rt:69:66
 sub-settle-at : tie.Need-sub-settle-at
 sub-settle-at c = search needs
 
--- src/filling.rt:69:66
 sub-settle-at-2 : tie.Need-sub-settle-at-2
 sub-settle-at-2 c = search needs
 
--- src/filling.rt:69:57
 add-settle-at : tie.Need-add-settle-at
 add-settle-at c =
     let s = c .before .before .before .before .before .before .before .before .before .before .before .before .before .before .before .before .before .before .before in
     omega (arith, strip-limits _ _ _ _ _ _ _ (s .pre .0) _ _ (s .pre .1 .0 .0) (s .pre .1 .0 .1 .0), s .pre .1 .0)
 
--- src/filling.rt:69:5
 settle-at-requires : tie.Need-settle-at-requires
 settle-at-requires c κs =
     let s = c .before .before .before .before .before .before .before .before .before .before .before .before .before .before .before .before .before .before .before in
@@ -75,15 +59,12 @@ settle-at-requires c κs =
     let w₂ = told-flanks _ _ _ _ _ _ _ (s .pre .0) _ _ h k _ _ w₁ (c .before .before .before .before .before .before .before .before .measure-flanks .ensures) in
     asks-settle _ _ _ _ _ _ _ (s .pre .0) _ _ h k (s .pre .1 .1 .1) _ (s .pre .1 .0 .1 .1 .1) _ w₂ _ (c .before .before .before .before .weigh-vertical .ensures) _ (pair-here (s .args .columns) _ _ _ h (s .pre .1 .0 .1 .1 .0))
 
--- src/filling.rt:42:1
 same-length : tie.Need-same-length
 same-length c = search needs
 
--- src/filling.rt:42:1
 same-length-2 : tie.Need-same-length-2
 same-length-2 c = search needs
 
--- src/filling.rt:42:1
 returns : tie.Need-returns
 returns c =
     let s = c .before .before .before .before .before .before .before .before .before .before .before .before .before .before .before .before .before .before .before .before .before .before in

@@ -8,38 +8,27 @@ use Rattle.table.proofs.Vertical.{row-lent, row-length, row-back, row-b
 use borrow.Author.Needs.{needs}
 use Rattle.table.proofs.filling.settle_at.Statement.{statement}
 use Rattle.table.proofs.filling.settle_at.Tie as tie
-use Rattle.table.proofs.filling.settle_at.Reads as reads
-use Rattle.table.proofs.filling.settle_at.Lts as lts
-use Rattle.table.proofs.settling.settle_row.Reads as settle-row-reads
-use Rattle.table.proofs.weighing.row_start.Reads as row-start-reads
 
--- src/filling.rt:35:9
 row-start-requires : tie.Need-row-start-requires
 row-start-requires c κs =
     let s = c .before .before .before in
     omega (arith, count-most (s .args .rows) (s .pre .0 .rows-most))
 
--- src/filling.rt:36:15
 add-end : tie.Need-add-end
 add-end c = search needs
 
--- src/filling.rt:37:26
 mul-settle-row : tie.Need-mul-settle-row
 mul-settle-row c = search needs
 
--- src/filling.rt:37:26
 sub-settle-row : tie.Need-sub-settle-row
 sub-settle-row c = search needs
 
--- src/filling.rt:37:26
 part-settle-row-start : tie.Need-part-settle-row-start
 part-settle-row-start c = search needs
 
--- src/filling.rt:37:26
 part-settle-row-end : tie.Need-part-settle-row-end
 part-settle-row-end c = search needs
 
--- src/filling.rt:37:5
 settle-row-requires : tie.Need-settle-row-requires
 settle-row-requires c κs =
     let s = c .before .before .before .before .before in
@@ -53,11 +42,9 @@ settle-row-requires c κs =
       ),
     )
 
--- src/filling.rt:19:1
 same-length : tie.Need-same-length
 same-length c = search needs
 
--- src/filling.rt:19:1
 returns : tie.Need-returns
 returns c =
     let s = c .before .before .before .before .before .before .before .before in

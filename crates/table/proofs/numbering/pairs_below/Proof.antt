@@ -1,5 +1,5 @@
 -- `table::numbering::pairs_below` meets its contract: the loop has counted the pairs below the line `low`. Assumes nothing.
-use Prim.Native.Nat.{_+_, _*_, _-_, _≤_}
+use Prim.Native.Nat.{_*_, _-_, _≤_}
 use mathlib.Core.Path.{_≡_, _∙_, ap}
 use native.Mathlib.Omega.{arith}
 use Rattle.table.specs.Entry.{pairsBelow}

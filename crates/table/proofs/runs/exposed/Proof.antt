@@ -2,18 +2,13 @@
 use Rattle.table.proofs.Run.{bare-outside, bare-exposed, bare-covered}
 use Rattle.table.proofs.runs.exposed.Statement.{statement}
 use Rattle.table.proofs.runs.exposed.Tie as tie
-use Rattle.table.proofs.runs.exposed.Reads as reads
-use Rattle.table.proofs.runs.exposed.Lts as lts
 
--- src/runs.rt:19:9
 returns : tie.Need-returns
 returns c = bare-outside _ _ _ (c .if1 .taken)
 
--- src/runs.rt:15:1
 returns-2 : tie.Need-returns-2
 returns-2 c = bare-exposed _ _ _ (c .before .if1 .left) (c .if2 .taken)
 
--- src/runs.rt:15:1
 returns-3 : tie.Need-returns-3
 returns-3 c = bare-covered _ _ _ (c .before .if1 .left) (c .if2 .left)
 

@@ -1,15 +1,12 @@
 -- `table::runs::repeat` meets its contract. Assumes nothing.
-use Prim.Native.Nat.{ℕ, _+_, _-_, _≤_, _<_, min}
-use mathlib.Core.Path.{_≡_, refl, sym, _∙_, ap, ap₂, subst}
+use Prim.Native.Nat.{_-_, _≤_}
+use mathlib.Core.Path.{refl}
 use native.Mathlib.Omega.{arith}
-use lib.ListN.{length, getD}
-use Rattle.table.specs.Run.{Wrote, weighed, weighedAbove}
+use Rattle.table.specs.Run.{Wrote}
 use Rattle.table.proofs.Run.{wrote-none, wrote-more, wrote-end}
 use borrow.Author.Needs.{needs}
 use Rattle.table.proofs.runs.repeat.Statement.{statement}
 use Rattle.table.proofs.runs.repeat.Tie as tie
-use Rattle.table.proofs.runs.repeat.Reads as reads
-use Rattle.table.proofs.runs.repeat.Lts as lts
 
 abbrev Inv-loop : tie.InvT-loop
 Inv-loop list₀ at n value i₀ list i = (i ≤ n) × Wrote (λ k. value) at i list₀ list

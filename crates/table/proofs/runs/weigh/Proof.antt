@@ -1,16 +1,11 @@
 -- `table::runs::weigh` meets its contract: the pieces before the i-th have the cut weighed. Assumes nothing.
-use Prim.Native.Nat.{ℕ, _+_, _-_, _≤_, _<_, min}
-use mathlib.Core.Path.{_≡_, refl, sym, _∙_, ap, ap₂, subst}
+use Prim.Native.Nat.{_-_, _≤_}
 use native.Mathlib.Omega.{arith}
-use lib.ListN.{length, getD}
-use Rattle.table.specs.Run.{Wrote, weighed, weighedAbove}
+use Rattle.table.specs.Run.{Wrote, weighed}
 use Rattle.table.proofs.Run.{wrote-none, wrote-end, weigh-fits, weigh-more}
 use borrow.Author.Needs.{needs}
 use Rattle.table.proofs.runs.weigh.Statement.{statement}
 use Rattle.table.proofs.runs.weigh.Tie as tie
-use Rattle.table.proofs.runs.weigh.Reads as reads
-use Rattle.table.proofs.runs.weigh.Lts as lts
-use Rattle.table.proofs.runs.lesser.Reads as lesser-reads
 
 abbrev Inv-loop : tie.InvT-loop
 Inv-loop table₀ at low high n i₀ table i = (i ≤ n) × Wrote (weighed table₀ at low high) at i table₀ table

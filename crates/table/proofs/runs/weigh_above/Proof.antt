@@ -1,16 +1,11 @@
 -- `table::runs::weigh_above` meets its contract: the pieces before the i-th have the cut weighed. Assumes nothing.
-use Prim.Native.Nat.{ℕ, _+_, _-_, _≤_, _<_, min}
-use mathlib.Core.Path.{_≡_, refl, sym, _∙_, ap, ap₂, subst}
+use Prim.Native.Nat.{_-_, _≤_}
 use native.Mathlib.Omega.{arith}
-use lib.ListN.{length, getD}
 use Rattle.table.specs.Run.{Wrote, weighed, weighedAbove}
 use Rattle.table.proofs.Run.{wrote-none, wrote-end, above-fits, above-more}
 use borrow.Author.Needs.{needs}
 use Rattle.table.proofs.runs.weigh_above.Statement.{statement}
 use Rattle.table.proofs.runs.weigh_above.Tie as tie
-use Rattle.table.proofs.runs.weigh_above.Reads as reads
-use Rattle.table.proofs.runs.weigh_above.Lts as lts
-use Rattle.table.proofs.runs.lesser.Reads as lesser-reads
 
 abbrev Inv-loop : tie.InvT-loop
 Inv-loop row₀ at low high n i₀ row i = (i ≤ n) × Wrote (weighedAbove row₀ at low high) at i row₀ row

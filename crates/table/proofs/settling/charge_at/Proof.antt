@@ -6,74 +6,54 @@ use Rattle.table.proofs.Strip.{shot-at}
 use borrow.Author.Needs.{needs}
 use Rattle.table.proofs.settling.charge_at.Statement.{statement}
 use Rattle.table.proofs.settling.charge_at.Tie as tie
-use Rattle.table.proofs.settling.charge_at.Reads as reads
-use Rattle.table.proofs.settling.charge_at.Lts as lts
-use Rattle.table.proofs.settling.charge.Reads as charge-reads
-use Rattle.table.proofs.settling.wide.Reads as wide-reads
 
--- src/settling.rt:51:21
 add-ends : tie.Need-add-ends
 add-ends c = search needs
 
--- src/settling.rt:51:16
 mul-ends : tie.Need-mul-ends
 mul-ends c = search needs
 
--- src/settling.rt:51:16
 shared-slice-read-ends : tie.Need-shared-slice-read-ends
 shared-slice-read-ends c = search needs
 
--- src/settling.rt:51:38
 add-ends-2 : tie.Need-add-ends-2
 add-ends-2 c = search needs
 
--- src/settling.rt:51:33
 mul-ends-2 : tie.Need-mul-ends-2
 mul-ends-2 c = search needs
 
--- src/settling.rt:51:33
 shared-slice-read-ends-2 : tie.Need-shared-slice-read-ends-2
 shared-slice-read-ends-2 c = search needs
 
--- src/settling.rt:51:16
 add-ends-3 : tie.Need-add-ends-3
 unfolding endsAt
 add-ends-3 c = omega arith
 
--- src/settling.rt:52:23
 mul-wide : tie.Need-mul-wide
 mul-wide c = search needs
 
--- src/settling.rt:52:23
 shared-slice-read-wide : tie.Need-shared-slice-read-wide
 shared-slice-read-wide c = search needs
 
--- src/settling.rt:52:18
 wide-requires : tie.Need-wide-requires
 wide-requires c κs = search needs
 
--- src/settling.rt:52:40
 mul-wide-2 : tie.Need-mul-wide-2
 mul-wide-2 c = search needs
 
--- src/settling.rt:52:40
 shared-slice-read-wide-2 : tie.Need-shared-slice-read-wide-2
 shared-slice-read-wide-2 c = search needs
 
--- src/settling.rt:52:35
 wide-requires-2 : tie.Need-wide-requires-2
 wide-requires-2 c κs = search needs
 
--- src/settling.rt:52:18
 sub-height : tie.Need-sub-height
 sub-height c = search needs
 
--- src/settling.rt:53:5
 charge-requires : tie.Need-charge-requires
 unfolding endsAt
 charge-requires c κs = omega arith
 
--- src/settling.rt:43:1
 returns : tie.Need-returns
 returns c =
     let s = c .before .before .before .before .before .before .before .before .before in

@@ -1,19 +1,15 @@
 -- `table::settling::settle_from` meets its contract: the pieces that begin at b and end below d are settled, and each longer one has
 -- the least of its vertical cuts and of its horizontal cuts below d. Assumes nothing.
-use Prim.Native.Nat.{ℕ, _+_, _-_, _≤_, _<_}
-use mathlib.Core.Path.{_≡_, refl, sym, _∙_, ap, subst}
+use Prim.Native.Nat.{ℕ, _+_, _-_}
+use mathlib.Core.Path.{_≡_, refl, _∙_}
 use native.Mathlib.Omega.{arith}
-use lib.ListN.{length, getD, length-set}
+use lib.ListN.{length, length-set}
 use Rattle.table.specs.Strip.{Recurs}
 use Rattle.table.proofs.Entry.{below-most, count-most}
-use Rattle.table.proofs.Strip.{Running, running-none, Reached, reached, running-more, running-places, running-fits, running-along, Along, along-none, along-all}
+use Rattle.table.proofs.Strip.{Running, running-none, reached, running-more, running-places, running-fits, running-along, Along, along-none, along-all}
 use borrow.Author.Needs.{needs}
 use Rattle.table.proofs.settling.settle_from.Statement.{statement}
 use Rattle.table.proofs.settling.settle_from.Tie as tie
-use Rattle.table.proofs.settling.settle_from.Reads as reads
-use Rattle.table.proofs.settling.settle_from.Lts as lts
-use Rattle.table.proofs.runs.weigh_above.Reads as weigh-above-reads
-use Rattle.table.proofs.settling.settle_piece.Reads as settle-piece-reads
 
 abbrev Inv-loop : tie.InvT-loop
 Inv-loop row₀ ys sums rule rows wide b first low count₀ cells₀ flanks₀ at₀ next₀ d₀ row count cells flanks at next d =

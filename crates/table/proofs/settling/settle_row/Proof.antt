@@ -1,5 +1,5 @@
 -- `table::settling::settle_row` meets its contract: the pieces that begin at b or above are settled. Assumes nothing.
-use Prim.Native.Nat.{ℕ, _+_, _-_, _≤_, _<_}
+use Prim.Native.Nat.{ℕ, _-_, _≤_}
 use mathlib.Core.Path.{_≡_, refl, _∙_}
 use native.Mathlib.Omega.{arith}
 use lib.ListN.{length}
@@ -9,9 +9,6 @@ use Rattle.table.proofs.Strip.{recurs-back, recurs-end, first-all, firs
 use borrow.Author.Needs.{needs}
 use Rattle.table.proofs.settling.settle_row.Statement.{statement}
 use Rattle.table.proofs.settling.settle_row.Tie as tie
-use Rattle.table.proofs.settling.settle_row.Reads as reads
-use Rattle.table.proofs.settling.settle_row.Lts as lts
-use Rattle.table.proofs.settling.settle_from.Reads as settle-from-reads
 
 abbrev Inv-loop : tie.InvT-loop
 Inv-loop row₀ ys sums rule rows wide pairs first₀ b₀ row first b = (b ≤ rows) × ((first ≡ pairsBelow rows b) × ((length row ≡ length row₀) × ((s : ℕ → ℕ → ℕ) → Recurs s sums ys rule rows wide row₀ rows → Recurs s sums ys rule rows wide row b)))

@@ -4,18 +4,13 @@ use native.Mathlib.Nat.{mul-le-mul}
 use borrow.Author.Needs.{needs}
 use Rattle.table.proofs.settling.shot_cost.Statement.{statement}
 use Rattle.table.proofs.settling.shot_cost.Tie as tie
-use Rattle.table.proofs.settling.shot_cost.Reads as reads
-use Rattle.table.proofs.settling.shot_cost.Lts as lts
 
--- src/settling.rt:19:12
 mul-result : tie.Need-mul-result
 mul-result c = omega (arith, mul-le-mul (c .pre .1) (c .pre .0))
 
--- src/settling.rt:19:5
 add-result : tie.Need-add-result
 add-result c = omega (arith, mul-le-mul (c .pre .1) (c .pre .0))
 
--- src/settling.rt:15:1
 returns : tie.Need-returns
 returns c = search needs
 

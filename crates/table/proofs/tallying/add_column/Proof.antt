@@ -1,117 +1,95 @@
--- `table::tallying::add_column` meets its contract: each of its four steps leaves the sums of the others alone. Assumes nothing.
-use Prim.Native.Nat.{_+_}
+-- `table::tallying::add_column` meets its contract: the rows below j have their cell of the column. Assumes nothing.
+use Prim.Native.Nat.{_-_, _≤_}
+use mathlib.Core.Path.{_≡_}
 use native.Mathlib.Omega.{arith}
-use Rattle.table.proofs.Tally.{spare-next, column-1, column-2, column-3, column-4}
+use Rattle.table.specs.Tally.{belowAt}
+use Rattle.table.proofs.Tally.{Column, column-none, column-spare, column-more, column-all, below-first, below-next}
 use borrow.Author.Needs.{needs}
 use Rattle.table.proofs.tallying.add_column.Statement.{statement}
 use Rattle.table.proofs.tallying.add_column.Tie as tie
-use Rattle.table.proofs.tallying.add_column.Reads as reads
-use Rattle.table.proofs.tallying.add_column.Lts as lts
-use Rattle.table.proofs.tallying.add_exposed.Reads as add-exposed-reads
-use Rattle.table.proofs.tallying.count_inside.Reads as count-inside-reads
-use Rattle.table.proofs.tallying.span.Reads as span-reads
 
--- src/tallying.rt:77:16
-mul-near : tie.Need-mul-near
+abbrev Inv-loop : tie.InvT-loop
+Inv-loop sums₀ xs cells rows column near width below₀ j₀ sums below j = (j ≤ rows) × ((below ≡ belowAt cells near j) × Column cells near width j sums₀ sums)
+
+abbrev μ-loop : tie.MeasureT-loop
+μ-loop sums₀ xs cells rows column near width below₀ j₀ sums below j = rows - j
+
+mul-near : tie.Need-mul-near Inv-loop μ-loop
 mul-near c = search needs
 
--- src/tallying.rt:78:34
-add-span : tie.Need-add-span
+add-span : tie.Need-add-span Inv-loop μ-loop
 add-span c = search needs
 
--- src/tallying.rt:78:9
-span-requires : tie.Need-span-requires
+span-requires : tie.Need-span-requires Inv-loop μ-loop
 span-requires c κs = search needs
 
--- src/tallying.rt:79:5
-count-inside-requires : tie.Need-count-inside-requires
-count-inside-requires c κs =
-    let s = c .before .before .before .before .before in
-    (omega arith, λ i h. s .pre .1 .1 i h .count)
+loop-holds : tie.Need-loop-holds Inv-loop μ-loop
+loop-holds c = (omega arith, (below-first _ _, column-none _ _ _ _))
 
--- src/tallying.rt:80:40
-add-add-exposed : tie.Need-add-add-exposed
-add-add-exposed c = search needs
+add-cell : tie.Need-add-cell Inv-loop μ-loop
+add-cell c = search needs
 
--- src/tallying.rt:80:5
-add-exposed-requires : tie.Need-add-exposed-requires
-add-exposed-requires c κs =
+shared-slice-read-cell : tie.Need-shared-slice-read-cell Inv-loop μ-loop
+shared-slice-read-cell c = search needs
+
+add-add-cell : tie.Need-add-add-cell Inv-loop μ-loop
+add-add-cell c = search needs
+
+add-add-cell-2 : tie.Need-add-add-cell-2 Inv-loop μ-loop
+add-add-cell-2 c = search needs
+
+shared-slice-read-add-cell : tie.Need-shared-slice-read-add-cell Inv-loop μ-loop
+shared-slice-read-add-cell c = search needs
+
+add-cell-requires : tie.Need-add-cell-requires Inv-loop μ-loop
+add-cell-requires c κs =
     let s = c .before .before .before .before .before .before .before .before .before in
-    let w₁ = c .before .before .before .count-inside .ensures in (
-      omega (arith, w₁ .long),
-      (c .before .before .before .before .before .span .ensures .1, λ i h. omega (arith, column-1 _ _ _ _ _ 0 (s .pre .1 .0 .1 .0) w₁ (16 + i) (omega arith), s .pre .1 .1 i (omega arith) .bottom)),
+    let l = c .before .before .before .before .loop in
+    let t = c .before .before .before .loop-test .taken in
+    let w = l .inv .1 .1 in (
+      (omega (arith, w .long), (omega arith, c .before .before .before .before .before .span .ensures .1)),
+      column-spare _ _ _ _ _ _ (omega arith) w (s .pre .1 .1 (l .j) t),
     )
 
--- src/tallying.rt:81:34
-add-add-exposed-2 : tie.Need-add-add-exposed-2
-add-add-exposed-2 c = search needs
+add-j : tie.Need-add-j Inv-loop μ-loop
+add-j c = search needs
 
--- src/tallying.rt:81:50
-sub-add-exposed : tie.Need-sub-add-exposed
-sub-add-exposed c = search needs
+loop-less : tie.Need-loop-less Inv-loop μ-loop
+loop-less c = search needs
 
--- src/tallying.rt:81:5
-add-exposed-requires-2 : tie.Need-add-exposed-requires-2
-add-exposed-requires-2 c κs =
-    let s = c .before .before .before .before .before .before .before .before .before .before .before .before .before in
-    let w₁ = c .before .before .before .before .before .before .before .count-inside .ensures in
-    let w₂ = c .before .before .before .add-exposed .ensures in (
-      omega (arith, w₁ .long, w₂ .long),
-      (
-        c .before .before .before .before .before .before .before .before .before .span .ensures .1,
-        λ i h. omega (arith, column-2 _ _ _ _ _ _ (s .pre .1 .0 .1 .0) w₁ _ w₂ (17 + i) (omega arith), spare-next _ i (s .pre .1 .1 (i + 1) (omega arith))),
-      ),
-    )
+loop-again : tie.Need-loop-again Inv-loop μ-loop
+loop-again c =
+    let s = c .before .before .before .before .before .before .before .before .before .before .before .before in
+    let l = c .before .before .before .before .before .before .before .loop in
+    let t = c .before .before .before .before .before .before .loop-test .taken in
+    (omega arith, (below-next _ _ _, column-more _ _ _ _ _ _ (omega arith) (l .inv .1 .1) _ _ (l .inv .1 .0) (c .before .before .add-cell .ensures)))
 
--- src/tallying.rt:82:40
-add-add-exposed-3 : tie.Need-add-add-exposed-3
-add-add-exposed-3 c = search needs
+same-length : tie.Need-same-length Inv-loop μ-loop
+same-length c = c .before .loop .inv .1 .1 .long
 
--- src/tallying.rt:82:5
-add-exposed-requires-3 : tie.Need-add-exposed-requires-3
-add-exposed-requires-3 c κs =
-    let s = c .before .before .before .before .before .before .before .before .before .before .before .before .before .before .before .before .before in
-    let w₁ = c .before .before .before .before .before .before .before .before .before .before .before .count-inside .ensures in
-    let w₂ = c .before .before .before .before .before .before .before .add-exposed .ensures in
-    let w₃ = c .before .before .before .add-exposed2 .ensures in (
-      omega (arith, w₁ .long, w₂ .long, w₃ .long),
-      (
-        c .before .before .before .before .before .before .before .before .before .before .before .before .before .span .ensures .1,
-        λ i h. omega (
-          arith,
-          column-3 _ _ _ _ _ _ (s .pre .1 .0 .1 .0) w₁ _ w₂ (s .pre .1 .0 .0) _ w₃ (32 + i) (omega arith),
-          s .pre .1 .1 i h .top,
-        ),
-      ),
-    )
-
--- src/tallying.rt:71:1
-same-length : tie.Need-same-length
-same-length c = search needs
-
--- src/tallying.rt:71:1
-returns : tie.Need-returns
+returns : tie.Need-returns Inv-loop μ-loop
 returns c =
-    let s = c .before .before .before .before .before .before .before .before .before .before .before .before .before .before .before .before .before .before .before .before in
-    column-4 _ _ _ _ _ _ (s .pre .1 .0 .1 .0) (c .before .before .before .before .before .before .before .before .before .before .before .before .before .before .count-inside .ensures) _ (c .before .before .before .before .before .before .before .before .before .before .add-exposed .ensures) (s .pre .1 .0 .0) _ (c .before .before .before .before .before .before .add-exposed2 .ensures) _
-    _
-    (c .before .before .add-exposed3 .ensures)
-    (c .before .before .before .before .before .before .before .before .before .before .before .before .before .before .before .before .span .ensures .0)
+    let l = c .before .loop in
+    column-all _ _ _ _ _ _ _ _ (c .before .before .span .ensures .0) (l .inv .0) (c .loop-test .left) (l .inv .1 .1)
 
 pub add-column-spec : {M : Type 1} → statement M
 add-column-spec =
     tie.close
     (tie.spec
+    Inv-loop
+    μ-loop
     mul-near
     add-span
     span-requires
-    count-inside-requires
-    add-add-exposed
-    add-exposed-requires
-    add-add-exposed-2
-    sub-add-exposed
-    add-exposed-requires-2
-    add-add-exposed-3
-    add-exposed-requires-3
+    loop-holds
+    add-cell
+    shared-slice-read-cell
+    add-add-cell
+    add-add-cell-2
+    shared-slice-read-add-cell
+    add-cell-requires
+    add-j
+    loop-less
+    loop-again
     same-length
     returns)

@@ -3,22 +3,16 @@ use Rattle.table.proofs.Tally.{before-first, before-later}
 use borrow.Author.Needs.{needs}
 use Rattle.table.proofs.tallying.column_before.Statement.{statement}
 use Rattle.table.proofs.tallying.column_before.Tie as tie
-use Rattle.table.proofs.tallying.column_before.Reads as reads
-use Rattle.table.proofs.tallying.column_before.Lts as lts
 
--- src/tallying.rt:93:9
 returns : tie.Need-returns
 returns c = before-first _ (c .if1 .taken)
 
--- src/tallying.rt:95:11
 sub-result : tie.Need-sub-result
 sub-result c = search needs
 
--- src/tallying.rt:95:5
 mul-result : tie.Need-mul-result
 mul-result c = search needs
 
--- src/tallying.rt:87:1
 returns-2 : tie.Need-returns-2
 returns-2 c = before-later _ (c .before .pre) (c .if1 .left)
 

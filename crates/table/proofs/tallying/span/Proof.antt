@@ -4,38 +4,28 @@ use native.Mathlib.Omega.{arith}
 use borrow.Author.Needs.{needs}
 use Rattle.table.proofs.tallying.span.Statement.{statement}
 use Rattle.table.proofs.tallying.span.Tie as tie
-use Rattle.table.proofs.tallying.span.Reads as reads
-use Rattle.table.proofs.tallying.span.Lts as lts
 
--- src/tallying.rt:23:15
 mul-low : tie.Need-mul-low
 mul-low c = search needs
 
--- src/tallying.rt:23:15
 shared-slice-read-low : tie.Need-shared-slice-read-low
 shared-slice-read-low c = search needs
 
--- src/tallying.rt:23:15
 cast-low : tie.Need-cast-low
 cast-low c = omega (arith, c .shared-slice-known .given (c .before .args .from))
 
--- src/tallying.rt:24:16
 mul-high : tie.Need-mul-high
 mul-high c = search needs
 
--- src/tallying.rt:24:16
 shared-slice-read-high : tie.Need-shared-slice-read-high
 shared-slice-read-high c = search needs
 
--- src/tallying.rt:24:16
 cast-high : tie.Need-cast-high
 cast-high c = omega (arith, c .shared-slice-known2 .given (c .before .before .args .to))
 
--- src/tallying.rt:25:5
 sub-result : tie.Need-sub-result
 sub-result c = search needs
 
--- src/tallying.rt:19:1
 returns : tie.Need-returns
 returns c = (refl, omega (arith, c .shared-slice-known2 .given (c .before .before .args .to)))
 

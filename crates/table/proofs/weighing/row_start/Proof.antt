@@ -4,14 +4,10 @@ use native.Mathlib.Omega.{arith}
 use Rattle.table.proofs.Vertical.{row-most}
 use Rattle.table.proofs.weighing.row_start.Statement.{statement}
 use Rattle.table.proofs.weighing.row_start.Tie as tie
-use Rattle.table.proofs.weighing.row_start.Reads as reads
-use Rattle.table.proofs.weighing.row_start.Lts as lts
 
--- src/weighing.rt:16:5
 mul-result : tie.Need-mul-result
 mul-result c = omega (arith, row-most _ _ (c .pre .0) (c .pre .1))
 
--- src/weighing.rt:12:1
 returns : tie.Need-returns
 returns c = (refl, row-most _ _ (c .pre .0) (c .pre .1))
 

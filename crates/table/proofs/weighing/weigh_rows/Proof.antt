@@ -3,24 +3,16 @@ use Rattle.table.proofs.Vertical.{rows-apart, rows-fit, rows-wrote}
 use borrow.Author.Needs.{needs}
 use Rattle.table.proofs.weighing.weigh_rows.Statement.{statement}
 use Rattle.table.proofs.weighing.weigh_rows.Tie as tie
-use Rattle.table.proofs.weighing.weigh_rows.Reads as reads
-use Rattle.table.proofs.weighing.weigh_rows.Lts as lts
-use Rattle.table.proofs.runs.weigh.Reads as weigh-reads
-use Rattle.table.proofs.weighing.row_start.Reads as row-start-reads
 
--- src/weighing.rt:26:9
 row-start-requires : tie.Need-row-start-requires
 row-start-requires c κs = search needs
 
--- src/weighing.rt:27:9
 row-start-requires-2 : tie.Need-row-start-requires-2
 row-start-requires-2 c κs = search needs
 
--- src/weighing.rt:28:9
 row-start-requires-3 : tie.Need-row-start-requires-3
 row-start-requires-3 c κs = search needs
 
--- src/weighing.rt:29:5
 weigh-requires : tie.Need-weigh-requires
 weigh-requires c κs =
     let s = c .before .before .before .before .before in
@@ -30,11 +22,9 @@ weigh-requires c κs =
     let eh = c .before .row-start3 .ensures .0 in
     (rows-apart (s .args .table .now) _ _ _ _ _ _ _ ea el eh (p .0 .0) (p .0 .1 .0) (p .1 .0), rows-fit (s .args .table .now) _ _ _ _ _ _ _ ea el eh (p .1 .1))
 
--- src/weighing.rt:20:1
 same-length : tie.Need-same-length
 same-length c = search needs
 
--- src/weighing.rt:20:1
 returns : tie.Need-returns
 returns c =
     let b = c .before .before .before in

@@ -1,19 +1,13 @@
 -- `table::weighing::weigh_vertical` meets its contract: the cuts below the line j are weighed. Assumes nothing.
-use Prim.Native.Nat.{ℕ, _+_, _-_, _*_, _≤_, _<_}
-use mathlib.Core.Path.{_≡_, refl, _∙_, ap}
+use Prim.Native.Nat.{_+_, _-_, _*_, _≤_, _<_}
+use mathlib.Core.Path.{_≡_, _∙_, ap}
 use native.Mathlib.Omega.{arith}
-use lib.ListN.{length}
 use Rattle.table.specs.Entry.{pairsBelow, pairCount}
 use Rattle.table.proofs.Entry.{below-most, below-next, count-most, pair-below}
 use Rattle.table.proofs.Vertical.{row-before, pair-here, pairs-of, start-uncut, start-fits, To, to-none, to-fits, to-more, to-all}
 use borrow.Author.Needs.{needs}
 use Rattle.table.proofs.weighing.weigh_vertical.Statement.{statement}
 use Rattle.table.proofs.weighing.weigh_vertical.Tie as tie
-use Rattle.table.proofs.weighing.weigh_vertical.Reads as reads
-use Rattle.table.proofs.weighing.weigh_vertical.Lts as lts
-use Rattle.table.proofs.runs.repeat.Reads as repeat-reads
-use Rattle.table.proofs.weighing.row_start.Reads as row-start-reads
-use Rattle.table.proofs.weighing.weigh_rows.Reads as weigh-rows-reads
 
 abbrev Inv-loop : tie.InvT-loop
 Inv-loop table₀ columns pairs first low high whole ahead₀ j₀ table ahead j = (low < j) × ((j ≤ high) × ((ahead ≡ pairsBelow columns j) × To columns pairs low high table₀ j table))
