@@ -1,0 +1,224 @@
+// The newcomers' walk over drawing B, in numbers: its lines and cells, its shots, every piece with its entry and cost, and the
+// cuts of the frame as they are weighed. docs/WALK.md tells the walk; each number in it is printed here.
+use fracture::Fractured;
+use fracture::Refusal;
+
+// Drawing B of document 01: a block of 200 by 200 with a nose of 10 by 100 on its right.
+const B: [u16; 16] = [
+    0,
+    0,
+    200,
+    0,
+    200,
+    50,
+    210,
+    50,
+    210,
+    150,
+    200,
+    150,
+    200,
+    200,
+    0,
+    200,
+];
+
+fn text(words: &[u8]) {
+    io::write_all(1, words);
+}
+
+fn decimal(n: u64) {
+    io::print_decimal(1, n);
+}
+
+fn spaced(n: u64) {
+    text(b" ");
+    decimal(n);
+}
+
+fn wide(n: u16) -> u64 {
+    n as u64
+}
+
+// The first n numbers of a list, on one line.
+fn numbers(list: &[u16], n: usize) {
+    let mut i = 0;
+    while i < n {
+        if i < list.len() {
+            spaced(wide(list[i]));
+        }
+        i += 1;
+    }
+    text(b"\n");
+}
+
+// One row of cells, from left to right: 1 for inside.
+fn row(cells: &[u8], columns: usize, j: usize) {
+    text(b"cells of row ");
+    decimal(j as u64);
+    text(b":");
+    let mut i = 0;
+    while i < columns {
+        cell(cells, i, j);
+        i += 1;
+    }
+    text(b"\n");
+}
+
+fn cell(cells: &[u8], i: usize, j: usize) {
+    if i < 16 {
+        if j < 16 {
+            let at = 16 * i + j;
+            if at < cells.len() {
+                spaced(cells[at] as u64);
+            }
+        }
+    }
+}
+
+// The rows of cells, the highest first, as one sees the drawing.
+fn rows(cells: &[u8], columns: usize, count: usize) {
+    let mut j = count;
+    while 0 < j {
+        j -= 1;
+        row(cells, columns, j);
+    }
+}
+
+// The lines and cells of B.
+fn grid() {
+    let corners = B;
+    text(b"corners");
+    numbers(&corners, 16);
+    let drawing = outline::draw(&corners);
+    let grid = drawing.grid;
+    let xs = grid.xs;
+    let ys = grid.ys;
+    let cells = grid.cells;
+    if grid.columns < 16 {
+        text(b"x lines");
+        numbers(&xs, grid.columns + 1);
+    }
+    if grid.rows < 16 {
+        text(b"y lines");
+        numbers(&ys, grid.rows + 1);
+    }
+    rows(&cells, grid.columns, grid.rows);
+}
+
+// The shots of a list, one to a line.
+fn shots(list: &[u16], count: u32) {
+    let mut at: usize = 0;
+    let mut i = 0;
+    while i < count {
+        if at < list.len() {
+            if 4 <= list.len() - at {
+                let end = at + 4;
+                text(b"shot");
+                numbers(&list[at..end], 4);
+                at = end;
+            }
+        }
+        i += 1;
+    }
+}
+
+// Fractures B by a rule, and prints what the call answers.
+fn answer(threshold: u32, weight: u32, table: &mut [u32], list: &mut [u16]) {
+    let corners = B;
+    text(b"rule");
+    spaced(threshold as u64);
+    spaced(weight as u64);
+    match fracture::fracture(&corners, threshold, weight, table, list) {
+        Fractured::Done {
+            shots: count,
+            cost,
+            sliver,
+        } => {
+            text(b": shots");
+            spaced(count as u64);
+            text(b" cost");
+            spaced(cost as u64);
+            text(b" sliver");
+            spaced(sliver as u64);
+            text(b"\n");
+            shots(list, count);
+        }
+        Fractured::Refused(_) => {
+            text(b": refused\n");
+        }
+    }
+}
+
+// One piece of the table: its lines, its entry and its cost.
+fn piece(table: &[u32], entry: usize, a: u64, c: u64, b: u64, d: u64) {
+    if entry < table.len() {
+        text(b"piece x lines");
+        spaced(a);
+        spaced(c);
+        text(b" y lines");
+        spaced(b);
+        spaced(d);
+        text(b": entry");
+        spaced(entry as u64);
+        text(b" cost");
+        spaced(table[entry] as u64);
+        text(b"\n");
+    }
+}
+
+// The pieces of one pair of x lines of B, whose pairs of y lines are six: their entries follow one another.
+fn strip(table: &[u32], first: usize, a: u64, c: u64) {
+    if first < 100 {
+        piece(table, first, a, c, 0, 1);
+        piece(table, first + 1, a, c, 0, 2);
+        piece(table, first + 2, a, c, 0, 3);
+        piece(table, first + 3, a, c, 1, 2);
+        piece(table, first + 4, a, c, 1, 3);
+        piece(table, first + 5, a, c, 2, 3);
+    }
+}
+
+// Every piece of B: the pairs of x lines are (0, 1), (0, 2), (1, 2).
+fn pieces(table: &[u32]) {
+    strip(table, 0, 0, 1);
+    strip(table, 6, 0, 2);
+    strip(table, 12, 1, 2);
+}
+
+// One cut of the frame: the costs of its two parts, and together.
+fn cut(name: &[u8], table: &[u32], low: usize, high: usize) {
+    if low < table.len() {
+        if high < table.len() {
+            let first = table[low] as u64;
+            let second = table[high] as u64;
+            text(name);
+            spaced(first);
+            text(b" +");
+            spaced(second);
+            text(b" =");
+            spaced(first + second);
+            text(b"\n");
+        }
+    }
+}
+
+// The cuts of the frame of B in the tie order.
+fn cuts(table: &[u32]) {
+    cut(b"cut of the frame at x line 1:", table, 2, 14);
+    cut(b"cut of the frame at y line 1:", table, 6, 10);
+    cut(b"cut of the frame at y line 2:", table, 7, 11);
+}
+
+fn main() {
+    let mut table = [0u32; 18];
+    let mut list = [0u16; 24];
+    grid();
+    answer(25, 40, &mut table, &mut list);
+    pieces(&table);
+    cuts(&table);
+    answer(25, 10, &mut table, &mut list);
+    cuts(&table);
+    answer(25, 9, &mut table, &mut list);
+    cuts(&table);
+}
