@@ -1,7 +1,7 @@
 // The newcomers' walk over drawing B, in numbers: its lines and cells, its shots, every piece with its entry and cost, and the
 // cuts of the frame as they are weighed. docs/WALK.md tells the walk; each number in it is printed here.
 use fracture::Fractured;
-use fracture::Refusal;
+ghost use Prim.Native.Nat.{_≤_};
 
 // Drawing B of document 01: a block of 200 by 200 with a nose of 10 by 100 on its right.
 const B: [u16; 16] = [
@@ -40,6 +40,16 @@ fn wide(n: u16) -> u64 {
     n as u64
 }
 
+fn byte(n: u8) -> u64 {
+    n as u64
+}
+
+fn cost(n: u32) -> u64
+    ensures { λ r. ⌜ r ≤ 4294967295 ⌝ }
+{
+    n as u64
+}
+
 // The first n numbers of a list, on one line.
 fn numbers(list: &[u16], n: usize) {
     let mut i = 0;
@@ -49,19 +59,27 @@ fn numbers(list: &[u16], n: usize) {
         }
         i += 1;
     }
-    text(b"\n");
+    line_end();
+}
+
+fn row_name(j: u64) {
+    text(b"cells of row");
+    spaced(j);
+    text(b":");
 }
 
 // One row of cells, from left to right: 1 for inside.
 fn row(cells: &[u8], columns: usize, j: usize) {
-    text(b"cells of row ");
-    decimal(j as u64);
-    text(b":");
+    row_name(j as u64);
     let mut i = 0;
     while i < columns {
         cell(cells, i, j);
         i += 1;
     }
+    line_end();
+}
+
+fn line_end() {
     text(b"\n");
 }
 
@@ -70,7 +88,7 @@ fn cell(cells: &[u8], i: usize, j: usize) {
         if j < 16 {
             let at = 16 * i + j;
             if at < cells.len() {
-                spaced(cells[at] as u64);
+                spaced(byte(cells[at]));
             }
         }
     }
@@ -106,6 +124,11 @@ fn grid() {
     rows(&cells, grid.columns, grid.rows);
 }
 
+fn shot(list: &[u16]) {
+    text(b"shot");
+    numbers(list, 4);
+}
+
 // The shots of a list, one to a line.
 fn shots(list: &[u16], count: u32) {
     let mut at: usize = 0;
@@ -114,8 +137,7 @@ fn shots(list: &[u16], count: u32) {
         if at < list.len() {
             if 4 <= list.len() - at {
                 let end = at + 4;
-                text(b"shot");
-                numbers(&list[at..end], 4);
+                shot(&list[at..end]);
                 at = end;
             }
         }
@@ -162,7 +184,7 @@ fn piece(table: &[u32], entry: usize, a: u64, c: u64, b: u64, d: u64) {
         text(b": entry");
         spaced(entry as u64);
         text(b" cost");
-        spaced(table[entry] as u64);
+        spaced(cost(table[entry]));
         text(b"\n");
     }
 }
@@ -190,8 +212,8 @@ fn pieces(table: &[u32]) {
 fn cut(name: &[u8], table: &[u32], low: usize, high: usize) {
     if low < table.len() {
         if high < table.len() {
-            let first = table[low] as u64;
-            let second = table[high] as u64;
+            let first = cost(table[low]);
+            let second = cost(table[high]);
             text(name);
             spaced(first);
             text(b" +");

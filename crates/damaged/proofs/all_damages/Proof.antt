@@ -3,9 +3,6 @@ use borrow.Author.Needs.{needs}
 use Prim.Native.Nat.{_≤_, _-_}
 use Rattle.damaged.proofs.all_damages.Statement.{statement}
 use Rattle.damaged.proofs.all_damages.Tie as tie
-use Rattle.damaged.proofs.all_damages.Reads as reads
-use Rattle.damaged.proofs.all_damages.Lts as lts
-use Rattle.damaged.proofs.damages.Reads as damages-reads
 
 abbrev Inv-loop : tie.InvT-loop
 Inv-loop i₀ i = i ≤ 16

@@ -3,9 +3,6 @@ use borrow.Author.Needs.{needs}
 use Prim.Native.Nat.{_≤_, _-_}
 use Rattle.damaged.proofs.cuts.Statement.{statement}
 use Rattle.damaged.proofs.cuts.Tie as tie
-use Rattle.damaged.proofs.cuts.Reads as reads
-use Rattle.damaged.proofs.cuts.Lts as lts
-use Rattle.damaged.proofs.cut_short.Reads as cut-short-reads
 
 abbrev Inv-loop : tie.InvT-loop
 Inv-loop n₀ n = n ≤ 17

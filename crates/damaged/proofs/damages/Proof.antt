@@ -3,9 +3,6 @@ use borrow.Author.Needs.{needs}
 use Prim.Native.Nat.{_≤_, _-_}
 use Rattle.damaged.proofs.damages.Statement.{statement}
 use Rattle.damaged.proofs.damages.Tie as tie
-use Rattle.damaged.proofs.damages.Reads as reads
-use Rattle.damaged.proofs.damages.Lts as lts
-use Rattle.damaged.proofs.damage.Reads as damage-reads
 
 abbrev Inv-loop : tie.InvT-loop
 Inv-loop i k₀ k = k ≤ 6

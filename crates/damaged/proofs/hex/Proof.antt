@@ -4,9 +4,6 @@ use Prim.Native.Nat.{_≤_, _-_}
 use lib.ListN.{length}
 use Rattle.damaged.proofs.hex.Statement.{statement}
 use Rattle.damaged.proofs.hex.Tie as tie
-use Rattle.damaged.proofs.hex.Reads as reads
-use Rattle.damaged.proofs.hex.Lts as lts
-use Rattle.damaged.proofs.hex_byte.Reads as hex-byte-reads
 
 abbrev Inv-loop : tie.InvT-loop
 Inv-loop bytes i₀ i = i ≤ length bytes

@@ -5,9 +5,6 @@ use Rattle.job.proofs.Calls.{checked-fault, checked-read}
 use borrow.Author.Needs.{needs}
 use Rattle.job.proofs.read.check.Statement.{statement}
 use Rattle.job.proofs.read.check.Tie as tie
-use Rattle.job.proofs.read.check.Reads as reads
-use Rattle.job.proofs.read.check.Lts as lts
-use Rattle.job.proofs.read.whole.Reads as whole-reads
 
 whole-requires : tie.Need-whole-requires
 whole-requires c κs = search needs

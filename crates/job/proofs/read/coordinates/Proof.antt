@@ -10,9 +10,6 @@ use Rattle.number.proofs.Reading.{told-as, many-more-left, many-stop-left, many
 use Rattle.job.specs.Job.{coordinates}
 use Rattle.job.proofs.read.coordinates.Statement.{statement}
 use Rattle.job.proofs.read.coordinates.Tie as tie
-use Rattle.job.proofs.read.coordinates.Reads as reads
-use Rattle.job.proofs.read.coordinates.Lts as lts
-use Rattle.job.proofs.read.value.Reads as value-reads
 
 abbrev Inv-loop : tie.InvT-loop
 Inv-loop job n c₀ i₀ c i = (i ≤ n) × (past (coordinates job n (c₀ .at)) ≡ past (coordinates job (n - i) (c .at)))

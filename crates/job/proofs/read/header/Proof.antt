@@ -5,9 +5,6 @@ use Rattle.job.proofs.Job.{header-threshold, header-weight, header-coun
 use borrow.Author.Needs.{needs}
 use Rattle.job.proofs.read.header.Statement.{statement}
 use Rattle.job.proofs.read.header.Tie as tie
-use Rattle.job.proofs.read.header.Reads as reads
-use Rattle.job.proofs.read.header.Lts as lts
-use Rattle.job.proofs.read.value.Reads as value-reads
 
 value-requires : tie.Need-value-requires
 value-requires c κs = search needs

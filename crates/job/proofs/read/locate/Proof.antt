@@ -5,10 +5,6 @@ use Rattle.job.proofs.Calls.{located-before, located-fault, located-par
 use borrow.Author.Needs.{needs}
 use Rattle.job.proofs.read.locate.Statement.{statement}
 use Rattle.job.proofs.read.locate.Tie as tie
-use Rattle.job.proofs.read.locate.Reads as reads
-use Rattle.job.proofs.read.locate.Lts as lts
-use Rattle.job.proofs.read.outline.Reads as outline-reads
-use Rattle.job.proofs.read.outlines.Reads as outlines-reads
 
 outlines-requires : tie.Need-outlines-requires
 outlines-requires c κs = search needs

@@ -7,10 +7,6 @@ use Rattle.job.proofs.Job.{value-read, outline-fault, outline-go}
 use borrow.Author.Needs.{needs}
 use Rattle.job.proofs.read.outline.Statement.{statement}
 use Rattle.job.proofs.read.outline.Tie as tie
-use Rattle.job.proofs.read.outline.Reads as reads
-use Rattle.job.proofs.read.outline.Lts as lts
-use Rattle.job.proofs.read.coordinates.Reads as coordinates-reads
-use Rattle.job.proofs.read.value.Reads as value-reads
 
 value-requires : tie.Need-value-requires
 value-requires c κs = search needs

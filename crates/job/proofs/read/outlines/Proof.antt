@@ -11,9 +11,6 @@ use Rattle.job.specs.Steps.{pastTold}
 use Rattle.job.proofs.Job.{part-past}
 use Rattle.job.proofs.read.outlines.Statement.{statement}
 use Rattle.job.proofs.read.outlines.Tie as tie
-use Rattle.job.proofs.read.outlines.Reads as reads
-use Rattle.job.proofs.read.outlines.Lts as lts
-use Rattle.job.proofs.read.outline.Reads as outline-reads
 
 abbrev Inv-loop : tie.InvT-loop
 Inv-loop job k c₀ i₀ c i = (i ≤ k) × (past (outlines job k (c₀ .at)) ≡ past (outlines job (k - i) (c .at)))

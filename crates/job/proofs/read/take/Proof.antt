@@ -6,11 +6,6 @@ use Rattle.job.proofs.Calls.{located-within, taken-fault, taken-missing
 use borrow.Author.Needs.{needs}
 use Rattle.job.proofs.read.take.Statement.{statement}
 use Rattle.job.proofs.read.take.Tie as tie
-use Rattle.job.proofs.read.take.Reads as reads
-use Rattle.job.proofs.read.take.Lts as lts
-use Rattle.job.proofs.read.locate.Reads as locate-reads
-use Rattle.job.proofs.read.whole.Reads as whole-reads
-use Rattle.number.proofs.refusal_no.Reads as refusal-no-reads
 
 whole-requires : tie.Need-whole-requires
 whole-requires c κs = search needs

@@ -6,9 +6,6 @@ use Rattle.job.proofs.Job.{value-fault, value-under, value-over, value-
 use borrow.Author.Needs.{needs}
 use Rattle.job.proofs.read.value.Statement.{statement}
 use Rattle.job.proofs.read.value.Tie as tie
-use Rattle.job.proofs.read.value.Reads as reads
-use Rattle.job.proofs.read.value.Lts as lts
-use Rattle.number.proofs.Cursor.number.Reads as number-reads
 
 number-requires : tie.Need-number-requires
 number-requires c κs = search needs

@@ -7,10 +7,6 @@ use Rattle.job.proofs.Calls.{whole-fault, whole-read}
 use borrow.Author.Needs.{needs}
 use Rattle.job.proofs.read.whole.Statement.{statement}
 use Rattle.job.proofs.read.whole.Tie as tie
-use Rattle.job.proofs.read.whole.Reads as reads
-use Rattle.job.proofs.read.whole.Lts as lts
-use Rattle.job.proofs.read.header.Reads as header-reads
-use Rattle.job.proofs.read.outlines.Reads as outlines-reads
 
 returns : tie.Need-returns
 returns c = whole-fault _ (job-long _ (omega arith))

@@ -9,9 +9,6 @@ use Rattle.job.proofs.Job.{value-read}
 use Rattle.job.proofs.Unpacking.{Storing, storing-start, storing-more, storing-never, storing-done}
 use Rattle.job.proofs.unpack.store.Statement.{statement}
 use Rattle.job.proofs.unpack.store.Tie as tie
-use Rattle.job.proofs.unpack.store.Reads as reads
-use Rattle.job.proofs.unpack.store.Lts as lts
-use Rattle.job.proofs.read.value.Reads as value-reads
 
 abbrev Inv-loop : tie.InvT-loop
 Inv-loop part n list₀ c₀ i₀ list c i = Storing part n (c₀ .at) list₀ i (c .at) list

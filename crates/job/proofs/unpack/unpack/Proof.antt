@@ -9,11 +9,6 @@ use Rattle.job.proofs.Unpacking.{unpacked-V, unpacked-coordinates, unpa
 use borrow.Author.Needs.{needs}
 use Rattle.job.proofs.unpack.unpack.Statement.{statement}
 use Rattle.job.proofs.unpack.unpack.Tie as tie
-use Rattle.job.proofs.unpack.unpack.Reads as reads
-use Rattle.job.proofs.unpack.unpack.Lts as lts
-use Rattle.job.proofs.read.coordinates.Reads as coordinates-reads
-use Rattle.job.proofs.read.value.Reads as value-reads
-use Rattle.job.proofs.unpack.store.Reads as store-reads
 
 value-requires : tie.Need-value-requires
 value-requires c κs = search needs

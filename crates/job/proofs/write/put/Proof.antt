@@ -6,8 +6,6 @@ use Rattle.job.proofs.Writing.{size-two, size-three, put-one, put-two, 
 use borrow.Author.Needs.{needs}
 use Rattle.job.proofs.write.put.Statement.{statement}
 use Rattle.job.proofs.write.put.Tie as tie
-use Rattle.job.proofs.write.put.Reads as reads
-use Rattle.job.proofs.write.put.Lts as lts
 
 cast-out : tie.Need-cast-out
 cast-out c = search needs

@@ -9,10 +9,6 @@ use Rattle.job.specs.Bytes.{coordinateBytes}
 use Rattle.job.proofs.Writing.{put-more, put-room, put-done}
 use Rattle.job.proofs.write.put_all.Statement.{statement}
 use Rattle.job.proofs.write.put_all.Tie as tie
-use Rattle.job.proofs.write.put_all.Reads as reads
-use Rattle.job.proofs.write.put_all.Lts as lts
-use Rattle.job.proofs.write.put.Reads as put-reads
-use Rattle.job.proofs.write.wide.Reads as wide-reads
 
 abbrev Inv-loop : tie.InvT-loop
 Inv-loop corners out₀ from at₀ i₀ out at i = (i ≤ length corners) × (length out ≡ length out₀) × (at + length (coordinateBytes (drop i corners)) ≡ from + length (coordinateBytes corners)) × (sets out at (coordinateBytes (drop i corners)) ≡ sets out₀ from (coordinateBytes corners))

@@ -3,8 +3,6 @@ use native.Mathlib.Omega.{arith}
 use Rattle.job.proofs.Writing.{size-one, size-two, size-three}
 use Rattle.job.proofs.write.size.Statement.{statement}
 use Rattle.job.proofs.write.size.Tie as tie
-use Rattle.job.proofs.write.size.Reads as reads
-use Rattle.job.proofs.write.size.Lts as lts
 
 returns : tie.Need-returns
 returns c = (size-one _ (omega arith), omega arith)

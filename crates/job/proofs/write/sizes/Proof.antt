@@ -8,10 +8,6 @@ use Rattle.job.specs.Bytes.{coordinateBytes}
 use Rattle.job.proofs.Writing.{sizes-more, coordinates-done}
 use Rattle.job.proofs.write.sizes.Statement.{statement}
 use Rattle.job.proofs.write.sizes.Tie as tie
-use Rattle.job.proofs.write.sizes.Reads as reads
-use Rattle.job.proofs.write.sizes.Lts as lts
-use Rattle.job.proofs.write.size.Reads as size-reads
-use Rattle.job.proofs.write.wide.Reads as wide-reads
 
 abbrev Inv-loop : tie.InvT-loop
 Inv-loop corners total₀ i₀ total i = (i ≤ length corners) × (total + length (coordinateBytes (drop i corners)) ≡ length (coordinateBytes corners)) × (total ≤ 3 * i)

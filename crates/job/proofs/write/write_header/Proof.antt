@@ -10,11 +10,6 @@ use Rattle.job.proofs.Writing.{header-rule, header-many, header-room, h
 use borrow.Author.Needs.{needs}
 use Rattle.job.proofs.write.write_header.Statement.{statement}
 use Rattle.job.proofs.write.write_header.Tie as tie
-use Rattle.job.proofs.write.write_header.Reads as reads
-use Rattle.job.proofs.write.write_header.Lts as lts
-use Rattle.job.proofs.write.put.Reads as put-reads
-use Rattle.job.proofs.write.size.Reads as size-reads
-use Rattle.rule.proofs.Rule.new.Reads as new-reads
 
 new-requires : tie.Need-new-requires
 new-requires c κs = search needs

@@ -5,12 +5,6 @@ use Rattle.job.proofs.Writing.{outline-odd, outline-short, outline-long
 use borrow.Author.Needs.{needs}
 use Rattle.job.proofs.write.write_outline.Statement.{statement}
 use Rattle.job.proofs.write.write_outline.Tie as tie
-use Rattle.job.proofs.write.write_outline.Reads as reads
-use Rattle.job.proofs.write.write_outline.Lts as lts
-use Rattle.job.proofs.write.put.Reads as put-reads
-use Rattle.job.proofs.write.put_all.Reads as put-all-reads
-use Rattle.job.proofs.write.size.Reads as size-reads
-use Rattle.job.proofs.write.sizes.Reads as sizes-reads
 
 returns : tie.Need-returns
 returns c = outline-odd _ _ (omega arith)

@@ -4,10 +4,6 @@ use Rattle.number.proofs.Number.{number-none, number-one, number-ends-t
 use borrow.Author.Needs.{needs}
 use Rattle.number.proofs.Cursor.number.Statement.{statement}
 use Rattle.number.proofs.Cursor.number.Tie as tie
-use Rattle.number.proofs.Cursor.number.Reads as reads
-use Rattle.number.proofs.Cursor.number.Lts as lts
-use Rattle.number.proofs.three.Reads as three-reads
-use Rattle.number.proofs.two.Reads as two-reads
 
 returns : tie.Need-returns
 returns c = number-none _ _ (omega arith)
