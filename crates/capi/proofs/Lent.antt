@@ -1,6 +1,7 @@
 -- Laws of the promises said of lent numbers. Assumes nothing.
 --
 --   renumbered        == a refusal said by its number, where the number is known
+--   reason-lent       == the number of a refused fracture and the shots beside it, where its case is known
 --   outline-fault     == a job that is refused as a whole refuses outline k
 --   outline-missing   == 13, for k not below the count of a sound job
 --   outline-part      == where outline k of a sound job stands
@@ -11,6 +12,8 @@ use native.Mathlib.Omega.{arith}
 use lib.ListN.{length, getD}
 use borrow.Author.Tests.{le-ltb, lt-ltb}
 use Rattle.number.specs.declared.Refusal.{Refusal}
+use Rattle.fracture.specs.declared.Refusal as refused
+use Rattle.fracture.specs.Told.{reason}
 use Rattle.number.specs.Reading.{read, fault, refusalNo}
 use Rattle.job.specs.Job.{Header, Job, job}
 use Rattle.job.specs.Steps.{whole, located}
@@ -20,6 +23,9 @@ use Rattle.capi.specs.Lent.{OutlineSaid, outlineLent, jobPart, partSaid,
 
 pub renumbered : {A : Type 0} (said : ℕ → A) {n m : ℕ} {b : A} → n ≡ m → said m ≡ b → said n ≡ b
 renumbered said e f = ap said e ∙ f
+
+pub reason-lent : {why x : refused.Refusal} → why ≡ x → (reason x .0 ≡ reason why .0) × (reason x .1 ≡ reason why .1)
+reason-lent e = (ap (λ y. reason y .0) (sym e), ap (λ y. reason y .1) (sym e))
 
 module _ (s : List ℕ) (k : ℕ) where
   pub outline-fault : {r : Refusal} {p n : ℕ} → fault r p ≡ whole s → n ≡ refusalNo r → outlineLent n 0 0 p ≡ outlineSaid s k

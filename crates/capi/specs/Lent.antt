@@ -2,6 +2,7 @@
 -- by where it starts and how long it is.
 --
 --   presetLent n t w           == the number returned, and the threshold and weight lent
+--   fractureLent               == the number returned, the three numbers lent, and what the table and the list hold then
 --   NumberSaid, numberSaid     == what reading a number tells: document 01's number, the value, the place past it, the offset
 --   numberLent, checkLent, unpackLent, writeLent  == the number returned, the numbers lent, and what the slice lent holds then
 --   OutlineSaid, outlineSaid s k  == where outline k of the job s starts and how long it is, or the refusal and the offset
@@ -12,6 +13,7 @@ use mathlib.Core.Bool.{cond}
 use lib.Dec.{ltb}
 use lib.ListN.{length, getD}
 use Rattle.rule.specs.Rules.{Told}
+use Rattle.demands.specs.Promise.{Outcome}
 use Rattle.number.specs.Reading.{Reading, read, fault, refusalNo}
 use Rattle.number.specs.declared.Refusal.the-variants.{Missing}
 use Rattle.job.specs.Job.{Job, Part, job}
@@ -19,6 +21,10 @@ use Rattle.job.specs.Calls.{CheckSaid, UnpackSaid, WriteSaid, noPart}
 
 abbrev pub presetLent : ℕ → ℕ → ℕ → Told
 presetLent n t w = record { number = n; threshold = t; weight = w }
+
+abbrev pub fractureLent : ℕ → ℕ → ℕ → ℕ → List ℕ → List ℕ → Outcome
+fractureLent n shots cost sliver table list =
+    record { number = n; shots = shots; cost = cost; sliver = sliver; table = table; list = list }
 
 pub record NumberSaid : Type 0 where
   pub number : ℕ

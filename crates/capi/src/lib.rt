@@ -1,5 +1,7 @@
 // The C interface, as include/pinarewhemi.h declares it. Each function returns the refusal's number, 0 on success, and writes
 // every number that it is lent on every path; its promise is that of its call, said of these numbers.
+use fracture::Fractured;
+use fracture::Refusal;
 use job::read;
 use job::read::Checked;
 use job::read::Head;
@@ -15,10 +17,14 @@ use number::refusal_no;
 use rule::Preset;
 use rule::Rule;
 ghost use mathlib.Core.Path.{_≡_};
+ghost use mathlib.Core.List.{List};
+ghost use Prim.Native.Nat.{ℕ};
 ghost use Rattle.rule.specs.Rules.{presetTold};
+ghost use Rattle.demands.specs.Promise.{outcome};
+ghost use Rattle.fracture.specs.Told.{told, reason};
 ghost use Rattle.number.specs.Number.{number as readNumber};
 ghost use Rattle.job.specs.Calls.{checked, unpacked, headerWritten, outlineWritten, unwritableNo};
-ghost use Rattle.capi.specs.Lent.{presetLent, numberLent, numberSaid, checkLent, outlineLent, outlineSaid, unpackLent, writeLent};
+ghost use Rattle.capi.specs.Lent.{presetLent, numberLent, numberSaid, checkLent, outlineLent, outlineSaid, unpackLent, writeLent, fractureLent};
 
 // The rule of a preset, or 15.
 #[no_mangle]
@@ -37,6 +43,82 @@ pub extern "C" fn pw_preset(number: u32, threshold: &mut u32, weight: &mut u32) 
             15
         }
     }
+}
+
+// Document 01's number of a refused fracture; the shots needed are lent on.
+fn refuse(why: Refusal, shots: &mut u32) -> u32
+    ensures { λ r. ⌜ (r ≡ reason why .0) × (now (shots .exit) ≡ reason why .1) ⌝ }
+{
+    *shots = 0;
+    match why {
+        Refusal::Rule => 1,
+        Refusal::Length => 2,
+        Refusal::Slanted => 3,
+        Refusal::Straight => 4,
+        Refusal::Empty => 5,
+        Refusal::Table => 6,
+        Refusal::List(needed) => {
+            *shots = needed;
+            7
+        }
+    }
+}
+
+// Lends on what a fracture answers, whatever its buffers hold.
+fn lend(answer: Fractured, shots: &mut u32, cost: &mut u32, sliver: &mut u32) -> u32
+    ensures { λ r. ⌜ ((table list : List ℕ) → fractureLent r (now (shots .exit)) (now (cost .exit)) (now (sliver .exit)) table list ≡ told answer table list) ⌝ }
+{
+    match answer {
+        Fractured::Done {
+            shots: s,
+            cost: k,
+            sliver: v,
+        } => {
+            *shots = s;
+            *cost = k;
+            *sliver = v;
+            0
+        }
+        Fractured::Refused(why) => {
+            *cost = 0;
+            *sliver = 0;
+            refuse(why, shots)
+        }
+    }
+}
+
+// Shots, cost and sliver length, with the table and the list filled from their fronts; or 1 to 7.
+#[no_mangle]
+pub extern "C" fn pw_fracture(
+    corners: &[u16],
+    threshold: u32,
+    weight: u32,
+    table: &mut [u32],
+    list: &mut [u16],
+    shots: &mut u32,
+    cost: &mut u32,
+    sliver: &mut u32,
+) -> u32
+    ensures settled { λ r. ⌜ fractureLent r (now (shots .exit)) (now (cost .exit)) (now (sliver .exit)) (now (table .exit)) (now (list .exit)) ≡ outcome (now (corners .entry)) threshold weight (now (table .entry)) (now (list .entry)) ⌝ }
+{
+    let answer = fracture::fracture(corners, threshold, weight, table, list);
+    lend(answer, shots, cost, sliver)
+}
+
+// The same by the default preset; or 2 to 7.
+#[no_mangle]
+pub extern "C" fn pw_fracture_default(
+    corners: &[u16],
+    table: &mut [u32],
+    list: &mut [u16],
+    shots: &mut u32,
+    cost: &mut u32,
+    sliver: &mut u32,
+) -> u32
+    ensures settled { λ r. ⌜ fractureLent r (now (shots .exit)) (now (cost .exit)) (now (sliver .exit)) (now (table .exit)) (now (list .exit)) ≡ outcome (now (corners .entry)) (presetTold 0 .threshold) (presetTold 0 .weight) (now (table .entry)) (now (list .entry)) ⌝ }
+{
+    let answer = fracture::fracture_default(corners, table, list);
+    lend(answer, shots, cost, sliver)
 }
 
 // The number at a place of the bytes and the place past it; or 8, 9, 10 and the offset.
