@@ -9,23 +9,23 @@
 --   lines-up, lines-corners, corners-lines     == the lines rise strictly; each is a corner's coordinate; each corner's coordinate is one
 --   lines-unique                               == no other list has these three
 --   grid-sound                        == the grid of an outline that passes 2 to 4 is sound
-use Prim.Native.Nat.{ℕ, zero, suc, _+_, _*_, _-_, _%_, _/_, _≤_, _<_, min, max}
+use Prim.Native.Nat.{ℕ, suc, _+_, _-_, _%_, _≤_, _<_, min, max}
 use mathlib.Core.Path.{_≡_, refl, sym, _∙_, ap, ap₂, subst}
-use mathlib.Core.Bool.{Bool, true, false, not, cond, _&&_, and-false, true≢false}
+use mathlib.Core.Bool.{Bool, true, false, not, cond, _&&_, and-false}
 use mathlib.Core.List.{List, [], _∷_, _++_, map, List·Memᴰ as Member}
-use mathlib.Core.Logic.{_⊎_, inl, inr}
+use mathlib.Core.Logic.{inl, inr}
 use native.Mathlib.Omega.{arith}
 use lib.Dec.{leb, ltb, eqb}
 use lib.ListN.{length}
-use borrow.Author.Tests.{eqb-true, eqb-false, leb-true, leb-false, ltb-true, ltb-false, le-leb, lt-leb, lt-ltb, le-ltb, not-true, not-false}
-use Rattle.sum.specs.Sum.{over, only, sumOf, All, join}
+use borrow.Author.Tests.{eqb-true, le-leb, lt-leb, lt-ltb, le-ltb, not-false}
+use Rattle.sum.specs.Sum.{only, sumOf, All, join}
 use Rattle.sum.proofs.Sum.{le-or}
-use Rattle.sum.proofs.Lists.{sumOf-append, sumOf-same, All-imp, All-append, All-join, All-unmap, All-map, All-all}
+use Rattle.sum.proofs.Lists.{sumOf-append, sumOf-same, All-imp, All-join, All-unmap, All-map, All-all}
 use Rattle.outline.specs.declared.Axis.{Axis}
 use Rattle.outline.specs.declared.Axis.the-variants.{X, Y}
 use Rattle.outline.specs.Corners.{Corner, Link, coordinate, last, steps, around, edges, changes, both, slanted, straight, odd}
 use Rattle.outline.specs.Lines.{rising, lines, Up, place}
-use Rattle.outline.specs.Grid.{Grid, Sound}
+use Rattle.outline.specs.Grid.{Sound}
 use Rattle.outline.specs.Inside.{Wall, wall, walls, covers, count, within, gridOf, grid, insideAt}
 use Rattle.outline.proofs.Lines.{Beside, beside, rising-up, rising-all, rising-back, rising-lines, rising-values, rising-unique, lowest, highest, place-all, place-up, place-rises}
 use Rattle.outline.proofs.Turns.{any-all, All-both, around-all, lines-some, lines-most}

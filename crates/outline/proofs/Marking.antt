@@ -5,23 +5,23 @@
 --   marked-start, -flat, -wall       == no edge yet; one more that is no wall; one more that is
 --   marked-end                       == all edges
 --   marked-bits, marked-marks        == marks are bits
-use Prim.Native.Nat.{ℕ, zero, suc, _+_, _*_, _-_, _/_, _%_, _≤_, _<_, min, max}
+use Prim.Native.Nat.{ℕ, zero, suc, _+_, _-_, _/_, _%_, _≤_, _<_, min, max}
 use native.Mathlib.Numerals.{add-one}
 use mathlib.Core.Path.{_≡_, refl, sym, _∙_, ap, ap₂, subst}
-use mathlib.Core.Bool.{Bool, true, false, cond, _&&_, _||_, and-false, true≢false}
+use mathlib.Core.Bool.{Bool, true, false, _&&_, _||_, true≢false}
 use mathlib.Core.List.{List, [], _∷_, _++_, append-nil, List·Memᴰ as Member, List·Memᴰ·head, List·Memᴰ·tail}
-use mathlib.Core.Logic.{_⊎_, inl, inr}
+use mathlib.Core.Logic.{inl, inr}
 use native.Mathlib.Omega.{arith}
-use lib.Dec.{leb, ltb, eqb}
-use lib.ListN.{length, getD, take, set, replicate, length-replicate}
+use lib.Dec.{ltb, eqb}
+use lib.ListN.{length, getD, take, replicate}
 use lib.Seq.{take-suc}
-use borrow.Author.Tests.{le-leb, lt-leb, lt-ltb, le-ltb, eq-eqb, ne-eqb, ltb-true, ltb-false, eqb-true, eqb-false}
+use borrow.Author.Tests.{lt-ltb, le-ltb, eq-eqb, ne-eqb, ltb-false, eqb-true, eqb-false}
 use Rattle.sum.specs.Sum.{only, sumOf, All, join}
 use Rattle.sum.proofs.Sum.{le-or, only-most}
 use Rattle.sum.proofs.Lists.{All-at, join-append, sumOf-one}
 use Rattle.outline.specs.declared.Axis.{Axis}
 use Rattle.outline.specs.declared.Axis.the-variants.{X, Y}
-use Rattle.outline.specs.Corners.{Corner, Link, corners, coordinate, edges, changes, odd, badLength, slanted, straight}
+use Rattle.outline.specs.Corners.{Corner, Link, corners, coordinate, edges, changes, odd, badLength}
 use Rattle.outline.specs.Lines.{Up, lines, place}
 use Rattle.outline.specs.Inside.{Wall, wall, walls, count}
 use Rattle.outline.specs.Steps.{origin, still, corner, edge, before, Right, flip, span, stands, marks, Bits, Turned, Ruled, Marked, Marks}
@@ -29,7 +29,6 @@ use Rattle.outline.proofs.Corners.{length-corners, length-edges, edge-a
 use Rattle.outline.proofs.Lines.{place-at}
 use Rattle.outline.proofs.Turns.{lines-some, lines-most, edges-half}
 use Rattle.outline.proofs.Inside.{lines-up, count-append, corners-lines}
-use Rattle.outline.proofs.Turning.{flip-true, flip-false}
 
 -- what the length says
 pub length-good : (l : List ℕ) → badLength l ≡ false → (length l % 2 ≡ 0) × (8 ≤ length l) × (length l ≤ 64)
@@ -117,6 +116,16 @@ odd-more m true = go (eqb (m % 2) 1) refl
         other m d = elim (le-or 1 (m % 2)) [ inl q ↦ absurd (d (omega arith)) | inr q ↦ omega arith ]
 odd-more m false = let z : m + 0 ≡ m = omega arith in ap (λ n. only (eqb (n % 2) 1) 1) z
 
+-- the wall that an edge is, or none
+wall-none : (e : Link Corner) → changes X e ≡ true → wall e ≡ []
+unfolding wall
+wall-none e h = rw h
+
+wall-some : (e : Link Corner) → changes X e ≡ false
+    → wall e ≡ record { x = e .to .x; lo = min (e .from .y) (e .to .y); hi = max (e .from .y) (e .to .y) } ∷ []
+unfolding wall
+wall-some e h = rw h
+
 -- a list of one
 join-one : {A B : Type 0} (f : A → List B) (a : A) → join f (a ∷ []) ≡ f a
 unfolding join
@@ -135,7 +144,10 @@ module _ (l : List ℕ) (k n : ℕ) (h : k < length l / 2) where
   abbrev test : Wall → Bool
   test = stands (lines X (corners l)) (lines Y (corners l)) n
 
-  walls-more : walls (take (k + 1) (edges (corners l))) ≡ walls (take k (edges (corners l))) ++ wall (edge l k)
+  abbrev sofar : List Wall
+  sofar = walls (take k (edges (corners l)))
+
+  walls-more : walls (take (k + 1) (edges (corners l))) ≡ sofar ++ wall (edge l k)
   unfolding walls edge
   walls-more =
       ap (λ m. join wall (take m (edges (corners l)))) (add-one k)
@@ -145,14 +157,14 @@ module _ (l : List ℕ) (k n : ℕ) (h : k < length l / 2) where
 
   pub marks-flat : wall (edge l k) ≡ [] → marks (corners l) (k + 1) n ≡ marks (corners l) k n
   unfolding marks
-  marks-flat e = ap (λ ws. only (odd (count test ws)) 1) (walls-more ∙ ap (λ z. walls (take k (edges (corners l))) ++ z) e ∙ append-nil (walls (take k (edges (corners l)))))
+  marks-flat e = ap (λ ws. only (odd (count test ws)) 1) (walls-more ∙ ap (λ z. sofar ++ z) e ∙ append-nil sofar)
 
   pub marks-wall : (w : Wall) → wall (edge l k) ≡ w ∷ [] → marks (corners l) (k + 1) n ≡ flip (test w) (marks (corners l) k n)
   unfolding marks
   marks-wall w e =
-      ap (λ ws. only (odd (count test ws)) 1) (walls-more ∙ ap (λ z. walls (take k (edges (corners l))) ++ z) e)
-      ∙ ap (λ m. only (odd m) 1) (count-append test (walls (take k (edges (corners l)))) (w ∷ []) ∙ ap (λ m. count test (walls (take k (edges (corners l)))) + m) (count-one test w))
-      ∙ odd-more (count test (walls (take k (edges (corners l))))) (test w)
+      ap (λ ws. only (odd (count test ws)) 1) (walls-more ∙ ap (λ z. sofar ++ z) e)
+      ∙ ap (λ m. only (odd m) 1) (count-append test sofar (w ∷ []) ∙ ap (λ m. count test sofar + m) (count-one test w))
+      ∙ odd-more (count test sofar) (test w)
 
 -- what the search for a line says, and what it comes to at a corner's place
 abbrev pub Sought : List ℕ → ℕ → ℕ → Type 0
@@ -189,7 +201,7 @@ module _ (l xs ys cells : List ℕ) (k line x : ℕ) (h : k < length l / 2) (rul
       → b ≡ before k (length l / 2) → s ≡ coordinate Y (corner l b) → e ≡ coordinate Y (corner l k) → lo ≡ min s e → hi ≡ max s e
       → Turned cells ys line lo hi after → length after ≡ length cells
       → Marked l (k + 1) after
-  unfolding stands coordinate wall
+  unfolding stands coordinate
   marked-wall b s e lo hi t after et ef eb es ee elo ehi turned same =
       record {
         length-cells = same ∙ m .length-cells;
@@ -209,7 +221,7 @@ module _ (l xs ys cells : List ℕ) (k line x : ℕ) (h : k < length l / 2) (rul
 
       is-wall : wall (edge l k) ≡ w ∷ []
       is-wall =
-          ap (λ c. cond c [] (record { x = edge l k .to .x; lo = min (edge l k .from .y) (edge l k .to .y); hi = max (edge l k .from .y) (edge l k .to .y) } ∷ [])) (sym et ∙ ef)
+          wall-some (edge l k) (sym et ∙ ef)
           ∙ ap (λ z. record { x = z .to .x; lo = min (z .from .y) (z .to .y); hi = max (z .from .y) (z .to .y) } ∷ []) ends
           ∙ ap (λ z. record { x = z; lo = min (corner l b .y) (corner l k .y); hi = max (corner l b .y) (corner l k .y) } ∷ []) (sym at-corner)
           ∙ ap₂ (λ u v. record { x = x; lo = u; hi = v } ∷ []) (ap₂ min (sym es) (sym ee) ∙ sym elo) (ap₂ max (sym es) (sym ee) ∙ sym ehi)
@@ -217,11 +229,10 @@ module _ (l xs ys cells : List ℕ) (k line x : ℕ) (h : k < length l / 2) (rul
 -- an edge more that is no wall
 pub marked-flat : (l cells : List ℕ) (k : ℕ) (t : Bool) → k < length l / 2 → Marked l k cells → t ≡ changes X (edge l k) → t ≡ true
     → Marked l (k + 1) cells
-unfolding wall
 marked-flat l cells k t h m e f =
     record {
       length-cells = m .length-cells;
-      at = λ n. m .at n ∙ sym (marks-flat l k n h (ap (λ c. cond c [] (record { x = edge l k .to .x; lo = min (edge l k .from .y) (edge l k .to .y); hi = max (edge l k .from .y) (edge l k .to .y) } ∷ [])) (sym e ∙ f)));
+      at = λ n. m .at n ∙ sym (marks-flat l k n h (wall-none (edge l k) (sym e ∙ f)));
     }
 
 -- no edge yet

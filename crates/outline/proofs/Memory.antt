@@ -4,21 +4,21 @@
 --   laid-stored             == what lies there, read back, is the grid
 --   grid-repeats            == past the last line a place is the last line's
 --   drawing-drawn, drawing-stored, drawing-columns, drawing-rows   == the same of the drawing of an accepted outline
-use Prim.Native.Nat.{ℕ, suc, _+_, _*_, _-_, _/_, _%_, _≤_, _<_, min}
+use Prim.Native.Nat.{ℕ, _+_, _*_, _/_, _%_, _≤_, _<_, min}
 use mathlib.Core.Path.{_≡_, refl, sym, _∙_, ap, ap₂, subst}
 use mathlib.Core.Bool.{Bool, true, false, cond, _&&_, and-false}
 use mathlib.Core.List.{List}
 use mathlib.Core.Logic.{inl, inr}
 use native.Mathlib.Omega.{arith}
 use lib.Dec.{leb, ltb, eqb}
-use lib.ListN.{length, getD}
+use lib.ListN.{getD}
 use borrow.Author.Tests.{le-leb, lt-ltb, le-ltb, eq-eqb}
 use Rattle.sum.specs.Sum.{only}
 use Rattle.sum.proofs.Sum.{le-or}
 use Rattle.outline.specs.declared.Axis.the-variants.{X, Y}
 use Rattle.outline.specs.declared.Drawing.{Drawing}
 use Rattle.outline.specs.Corners.{Corner, corners}
-use Rattle.outline.specs.Lines.{lines, place}
+use Rattle.outline.specs.Lines.{lines}
 use Rattle.outline.specs.Grid.{Grid, Sound, Drawn, stored}
 use Rattle.outline.specs.Inside.{grid, gridOf}
 use Rattle.outline.specs.Promise.{refusal, table, laid, blank, Promise}

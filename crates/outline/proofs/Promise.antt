@@ -12,12 +12,12 @@
 --   promise-unique               == any two drawings that keep the promise are equal
 use Prim.Native.Nat.{ℕ, zero, suc, _+_, _*_, _-_, _/_, _%_, _≤_, _<_}
 use mathlib.Core.Path.{_≡_, refl, sym, _∙_, ap, ap₂, subst}
-use mathlib.Core.Bool.{Bool, true, false, not, cond, _&&_, _||_, true≢false}
+use mathlib.Core.Bool.{Bool, true, false, not, cond, true≢false}
 use mathlib.Core.List.{List, [], _∷_, _++_}
 use mathlib.Core.Logic.{_↔_, inl, inr}
 use native.Mathlib.Omega.{arith}
-use lib.Dec.{leb, ltb, eqb}
-use lib.ListN.{length, getD, take, drop, replicate, length-append, length-drop, List·getD-append, List·getD-eq-default}
+use lib.Dec.{leb, eqb}
+use lib.ListN.{length, getD, take, drop, replicate, length-append, length-drop, List·getD-append}
 use lib.Seq.{ext-getD, take-all, take-at, getD-append-add, getD-drop, getD-at}
 use borrow.Author.Tests.{le-leb, lt-leb, eqb-true, eq-eqb, ne-eqb, not-false}
 use Rattle.sum.specs.Sum.{only, over, All}
@@ -28,7 +28,7 @@ use Rattle.outline.specs.declared.Answer.{Answer}
 use Rattle.outline.specs.declared.Answer.the-variants.{Accepted, Length, Slanted, Straight, Empty}
 use Rattle.outline.specs.declared.Drawing.{Drawing}
 use Rattle.outline.specs.declared.Grid as stored
-use Rattle.outline.specs.Corners.{Corner, corners, coordinate, edges, odd, any, badLength, slanted, straight}
+use Rattle.outline.specs.Corners.{corners, coordinate, edges, odd, any, badLength, slanted, straight}
 use Rattle.outline.specs.Lines.{lines, place}
 use Rattle.outline.specs.Grid.{Grid, Sound}
 use Rattle.outline.specs.Inside.{walls, count, gridOf, grid, insideCells, empty}

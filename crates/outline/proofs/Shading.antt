@@ -6,24 +6,22 @@
 --   swept-inside            == that is where the cell is inside
 use Prim.Native.Nat.{ℕ, zero, suc, _+_, _*_, _-_, _/_, _%_, _≤_, _<_}
 use native.Mathlib.Numerals.{add-one}
-use mathlib.Core.Path.{_≡_, refl, sym, _∙_, ap, ap₂, subst}
-use mathlib.Core.Bool.{Bool, true, false, _&&_, and-false, true-and}
+use mathlib.Core.Path.{_≡_, refl, sym, _∙_, ap, ap₂}
+use mathlib.Core.Bool.{Bool, true, false, _&&_, and-false}
 use mathlib.Core.List.{List}
-use mathlib.Core.Logic.{_⊎_, inl, inr}
+use mathlib.Core.Logic.{inl, inr}
 use native.Mathlib.Omega.{arith}
 use lib.Dec.{leb, ltb, eqb}
-use lib.ListN.{length, getD, take}
-use lib.Seq.{take-all}
+use lib.ListN.{length, getD}
 use borrow.Author.Tests.{le-leb, lt-leb, lt-ltb, le-ltb, eq-eqb, ne-eqb, eqb-true, eqb-false}
-use Rattle.sum.specs.Sum.{only, sumOf, All}
+use Rattle.sum.specs.Sum.{only, All}
 use Rattle.sum.proofs.Sum.{le-or}
 use Rattle.sum.proofs.Lists.{All-imp, All-all, sumOf-same, sumOf-add}
 use Rattle.outline.specs.declared.Axis.the-variants.{X, Y}
-use Rattle.outline.specs.Corners.{Corner, corners, edges, odd, slanted}
+use Rattle.outline.specs.Corners.{Corner, edges, odd, slanted}
 use Rattle.outline.specs.Lines.{lines, place}
-use Rattle.outline.specs.Inside.{Wall, walls, covers, count, within, gridOf, grid}
-use Rattle.outline.specs.Steps.{covered, span, stands, marks, swept, Right, Marked, Marks}
-use Rattle.outline.proofs.Corners.{length-corners, length-edges}
+use Rattle.outline.specs.Inside.{Wall, walls, covers, count, within, grid}
+use Rattle.outline.specs.Steps.{covered, span, stands, swept}
 use Rattle.outline.proofs.Lines.{Beside, beside, lowest, highest, place-at, place-past, place-rises}
 use Rattle.outline.proofs.Inside.{walls-set, lines-up, count-same, count-none, even, passes, parity, grid-cell, grid-right, grid-above}
 
@@ -111,86 +109,95 @@ module _ (xs ys : List ℕ) where
           ]
 
 module _ (cs : List Corner) (some : 0 < length (lines X cs)) where
+  abbrev xs : List ℕ
+  xs = lines X cs
+
+  abbrev ys : List ℕ
+  ys = lines Y cs
+
+  abbrev ws : List Wall
+  ws = walls (edges cs)
+
   count-first : (j : ℕ) → j < 16
-      → count (stands (lines X cs) (lines Y cs) (16 * 0 + j)) (walls (edges cs)) ≡ count (reaches (lines X cs) (lines Y cs) 0 j) (walls (edges cs))
+      → count (stands xs ys (16 * 0 + j)) ws ≡ count (reaches xs ys 0 j) ws
   count-first j h =
-      count-same _ _ (walls (edges cs))
-      (All-imp (λ w s. reaches-first (lines X cs) (lines Y cs) j w h some (s .0)) (walls (edges cs))
-      (walls-set (λ v. place (lines X cs) 0 ≤ v) (λ v. Unit {0}) cs (lowest (lines X cs) (lines-up X cs)) (All-all (λ v. tt) (lines Y cs))))
+      count-same _ _ ws
+      (All-imp (λ w s. reaches-first xs ys j w h some (s .0)) ws
+      (walls-set (λ v. place xs 0 ≤ v) (λ v. Unit {0}) cs (lowest xs (lines-up X cs)) (All-all (λ v. tt) ys)))
 
   -- where there is a next line, no wall stands between it and this one
-  apart : (i : ℕ) → All (λ w. suc i < length (lines X cs) → Beside (place (lines X cs) i) (place (lines X cs) (suc i)) (w .x) × (place (lines X cs) i < place (lines X cs) (suc i))) (walls (edges cs))
-  apart i = elim (le-or (length (lines X cs)) (suc i)) [
-    | inl q ↦ All-all (λ w k. absurd (omega arith)) (walls (edges cs))
+  apart : (i : ℕ) → All (λ w. suc i < length xs → Beside (place xs i) (place xs (suc i)) (w .x) × (place xs i < place xs (suc i))) ws
+  apart i = elim (le-or (length xs) (suc i)) [
+    | inl q ↦ All-all (λ w k. absurd (omega arith)) ws
     | inr q ↦
-        All-imp (λ w s k. (s .0, place-rises (lines X cs) (lines-up X cs) i q)) (walls (edges cs))
-        (walls-set (Beside (place (lines X cs) i) (place (lines X cs) (suc i))) (λ v. Unit {0}) cs (beside (lines X cs) (lines-up X cs) i q) (All-all (λ v. tt) (lines Y cs)))
+        All-imp (λ w s k. (s .0, place-rises xs (lines-up X cs) i q)) ws
+        (walls-set (Beside (place xs i) (place xs (suc i))) (λ v. Unit {0}) cs (beside xs (lines-up X cs) i q) (All-all (λ v. tt) ys))
   ]
 
   count-next : (i j : ℕ) → j < 16
-      → count (reaches (lines X cs) (lines Y cs) i j) (walls (edges cs)) + count (stands (lines X cs) (lines Y cs) (16 * suc i + j)) (walls (edges cs))
-      ≡ count (reaches (lines X cs) (lines Y cs) (suc i) j) (walls (edges cs))
+      → count (reaches xs ys i j) ws + count (stands xs ys (16 * suc i + j)) ws
+      ≡ count (reaches xs ys (suc i) j) ws
   unfolding count
   count-next i j h =
-      sym (sumOf-add (λ w. only (reaches (lines X cs) (lines Y cs) i j w) 1) (λ w. only (stands (lines X cs) (lines Y cs) (16 * suc i + j) w) 1) (walls (edges cs)))
-      ∙ sumOf-same _ (λ w. only (reaches (lines X cs) (lines Y cs) (suc i) j w) 1) (walls (edges cs))
-      (All-imp (λ w f. reaches-next (lines X cs) (lines Y cs) i j w h f) (walls (edges cs)) (apart i))
+      sym (sumOf-add (λ w. only (reaches xs ys i j w) 1) (λ w. only (stands xs ys (16 * suc i + j) w) 1) ws)
+      ∙ sumOf-same _ (λ w. only (reaches xs ys (suc i) j w) 1) ws
+      (All-imp (λ w f. reaches-next xs ys i j w h f) ws (apart i))
 
   pub swept-count : (cells : List ℕ)
-      → ((n : ℕ) → getD cells n 0 ≡ only (odd (count (stands (lines X cs) (lines Y cs) n) (walls (edges cs)))) 1)
+      → ((n : ℕ) → getD cells n 0 ≡ only (odd (count (stands xs ys n) ws)) 1)
       → (i j : ℕ) → j < 16
-      → swept cells i j ≡ only (odd (count (reaches (lines X cs) (lines Y cs) i j) (walls (edges cs)))) 1
+      → swept cells i j ≡ only (odd (count (reaches xs ys i j) ws)) 1
   unfolding swept
   swept-count cells m zero j h =
       let z : j ≡ 16 * 0 + j = omega arith in
       ap (λ n. getD cells n 0) z ∙ m (16 * 0 + j) ∙ ap (λ n. only (odd n) 1) (count-first j h)
   swept-count cells m (suc i) j h =
       ap₂ (λ a b. (a + b) % 2) (swept-count cells m i j h) (m (16 * suc i + j))
-      ∙ odd-add (count (reaches (lines X cs) (lines Y cs) i j) (walls (edges cs))) (count (stands (lines X cs) (lines Y cs) (16 * suc i + j)) (walls (edges cs)))
+      ∙ odd-add (count (reaches xs ys i j) ws) (count (stands xs ys (16 * suc i + j)) ws)
       ∙ ap (λ n. only (odd n) 1) (count-next i j h)
 
   -- what reaches a cell covers it; beyond the frame that is nothing, or an even number
-  reaches-cell : (i j : ℕ) → suc j < length (lines Y cs) → (w : Wall)
-      → reaches (lines X cs) (lines Y cs) i j w ≡ covers (place (lines X cs) i) (place (lines Y cs) j) (place (lines Y cs) (suc j)) w
+  reaches-cell : (i j : ℕ) → suc j < length ys → (w : Wall)
+      → reaches xs ys i j w ≡ covers (place xs i) (place ys j) (place ys (suc j)) w
   unfolding reaches span covered covers
   reaches-cell i j q w =
-      ap (λ b. leb (w .x) (place (lines X cs) i) && (b && (leb (w .lo) (getD (lines Y cs) j 0) && leb (getD (lines Y cs) (j + 1) 0) (w .hi)))) (lt-ltb (j + 1) (length (lines Y cs)) (omega arith))
-      ∙ ap₂ (λ a b. leb (w .x) (place (lines X cs) i) && (leb (w .lo) a && leb b (w .hi)))
-      (sym (place-at (lines Y cs) j (omega arith)))
-      (ap (λ n. getD (lines Y cs) n 0) (add-one j) ∙ sym (place-at (lines Y cs) (suc j) q))
+      ap (λ b. leb (w .x) (place xs i) && (b && (leb (w .lo) (getD ys j 0) && leb (getD ys (j + 1) 0) (w .hi)))) (lt-ltb (j + 1) (length ys) (omega arith))
+      ∙ ap₂ (λ a b. leb (w .x) (place xs i) && (leb (w .lo) a && leb b (w .hi)))
+      (sym (place-at ys j (omega arith)))
+      (ap (λ n. getD ys n 0) (add-one j) ∙ sym (place-at ys (suc j) q))
 
-  reaches-above : (i j : ℕ) → length (lines Y cs) ≤ suc j → (w : Wall) → reaches (lines X cs) (lines Y cs) i j w ≡ false
+  reaches-above : (i j : ℕ) → length ys ≤ suc j → (w : Wall) → reaches xs ys i j w ≡ false
   unfolding reaches span
   reaches-above i j q w =
-      ap (λ b. leb (w .x) (place (lines X cs) i) && (b && covered (w .lo) (w .hi) (getD (lines Y cs) j 0) (getD (lines Y cs) (j + 1) 0))) (le-ltb (j + 1) (length (lines Y cs)) (omega arith))
-      ∙ and-false (leb (w .x) (place (lines X cs) i))
+      ap (λ b. leb (w .x) (place xs i) && (b && covered (w .lo) (w .hi) (getD ys j 0) (getD ys (j + 1) 0))) (le-ltb (j + 1) (length ys) (omega arith))
+      ∙ and-false (leb (w .x) (place xs i))
 
-  reaches-right : (i j : ℕ) → length (lines X cs) ≤ suc i → suc j < length (lines Y cs) → (w : Wall) → w .x ≤ place (lines X cs) (length (lines X cs) - 1)
-      → reaches (lines X cs) (lines Y cs) i j w ≡ passes (place (lines Y cs) j) (place (lines Y cs) (suc j)) w
+  reaches-right : (i j : ℕ) → length xs ≤ suc i → suc j < length ys → (w : Wall) → w .x ≤ place xs (length xs - 1)
+      → reaches xs ys i j w ≡ passes (place ys j) (place ys (suc j)) w
   unfolding covers passes
   reaches-right i j p q w h =
       reaches-cell i j q w
-      ∙ ap (λ b. b && (leb (w .lo) (place (lines Y cs) j) && leb (place (lines Y cs) (suc j)) (w .hi))) (le-leb (w .x) (place (lines X cs) i) (omega (arith, place-past (lines X cs) i p)))
+      ∙ ap (λ b. b && (leb (w .lo) (place ys j) && leb (place ys (suc j)) (w .hi))) (le-leb (w .x) (place xs i) (omega (arith, place-past xs i p)))
 
   pub reaches-inside : slanted cs ≡ false → (i j : ℕ)
-      → odd (count (reaches (lines X cs) (lines Y cs) i j) (walls (edges cs))) ≡ grid cs .inside i j
+      → odd (count (reaches xs ys i j) ws) ≡ grid cs .inside i j
   unfolding within
-  reaches-inside s i j = elim (le-or (length (lines Y cs)) (suc j)) [
+  reaches-inside s i j = elim (le-or (length ys) (suc j)) [
     | inl q ↦
-        ap odd (count-none _ (walls (edges cs)) (All-all (reaches-above i j q) (walls (edges cs))))
+        ap odd (count-none _ ws (All-all (reaches-above i j q) ws))
         ∙ even 0 refl
         ∙ sym (grid-above cs i j (omega arith))
     | inr q ↦
-        elim (le-or (length (lines X cs)) (suc i)) [
+        elim (le-or (length xs) (suc i)) [
           | inl r ↦
               ap odd
-              (count-same _ (passes (place (lines Y cs) j) (place (lines Y cs) (suc j))) (walls (edges cs))
-              (All-imp (λ w h. reaches-right i j r q w (h .0)) (walls (edges cs))
-              (walls-set (λ v. v ≤ place (lines X cs) (length (lines X cs) - 1)) (λ v. Unit {0}) cs (highest (lines X cs) (lines-up X cs)) (All-all (λ v. tt) (lines Y cs)))))
-              ∙ even _ (parity (place (lines Y cs) j) (place (lines Y cs) (suc j)) (place-rises (lines Y cs) (lines-up Y cs) j q) cs s (beside (lines Y cs) (lines-up Y cs) j q))
+              (count-same _ (passes (place ys j) (place ys (suc j))) ws
+              (All-imp (λ w h. reaches-right i j r q w (h .0)) ws
+              (walls-set (λ v. v ≤ place xs (length xs - 1)) (λ v. Unit {0}) cs (highest xs (lines-up X cs)) (All-all (λ v. tt) ys))))
+              ∙ even _ (parity (place ys j) (place ys (suc j)) (place-rises ys (lines-up Y cs) j q) cs s (beside ys (lines-up Y cs) j q))
               ∙ sym (grid-right cs i j (omega arith))
           | inr r ↦
-              ap odd (count-same _ _ (walls (edges cs)) (All-all (reaches-cell i j q) (walls (edges cs))))
+              ap odd (count-same _ _ ws (All-all (reaches-cell i j q) ws))
               ∙ sym (grid-cell cs i j (omega arith) (omega arith))
         ]
   ]

@@ -18,7 +18,7 @@
 --   slanted cs       == 3: an edge changes both coordinates
 --   straight cs      == 4: an edge changes neither, or two neighbours change the same one
 use Prim.Native.Nat.{ℕ, _%_}
-use mathlib.Core.Bool.{Bool, true, false, not, _&&_, _||_}
+use mathlib.Core.Bool.{Bool, false, not, _&&_, _||_}
 use mathlib.Core.List.{List, [], _∷_}
 use lib.Dec.{ltb, eqb}
 use lib.ListN.{length}

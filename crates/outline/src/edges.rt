@@ -1,6 +1,6 @@
 // The edges of an outline, and refusals 2, 3 and 4.
 ghost use mathlib.Core.Path.{_≡_};
-ghost use Prim.Native.Nat.{_*_, _+_, _/_, _<_};
+ghost use Prim.Native.Nat.{_/_, _<_};
 ghost use lib.ListN.{length};
 ghost use Rattle.outline.specs.Corners as corner;
 ghost use Rattle.outline.specs.Steps as step;

@@ -69,19 +69,33 @@ returns : tie.Need-returns
 returns c =
     let d = c .before .before in
     let s = d .before .before .before .before .before .before .before .before .before .before .before .before .before in
-    promise-empty _ (s .before .pre) (λ i. omega (arith, s .shared-slice-known .given i)) _ (d .before .before .before .shade .ensures) _ _ (d .any-inside .ensures) (not-true _ (c .before .if1 .taken)) (c .refused .ensures .0) (c .refused .ensures .1)
+    promise-empty _ (s .before .pre) (λ i. omega (arith, s .shared-slice-known .given i)) _ (d .before .before .before .shade .ensures) _ _
+    (d .any-inside .ensures)
+    (not-true _ (c .before .if1 .taken))
+    (c .refused .ensures .0)
+    (c .refused .ensures .1)
 
 sub-t25 : tie.Need-sub-t25
-sub-t25 c = omega (arith, c .before .before .before .before .before .before .before .before .before .before .before .before .gather .ensures .number, right-lines _ (c .before .before .before .before .before .before .before .before .before .before .before .before .before .before .before .pre) X .0)
+sub-t25 c =
+    let x = c .before .before .before .before .before .before .before .before .before .before .before .before in
+    omega (arith, x .gather .ensures .number, right-lines _ (x .before .before .before .pre) X .0)
 
 sub-t26 : tie.Need-sub-t26
-sub-t26 c = omega (arith, c .before .before .before .before .before .before .before .before .before .gather2 .ensures .number, right-lines _ (c .before .before .before .before .before .before .before .before .before .before .before .before .before .before .before .pre) Y .0)
+sub-t26 c =
+    let y = c .before .before .before .before .before .before .before .before .before in
+    omega (arith, y .gather2 .ensures .number, right-lines _ (y .before .before .before .before .before .before .pre) Y .0)
 
 returns-2 : tie.Need-returns-2
 returns-2 c =
     let d = c .before in
-    let s = d .before .before .before .before .before .before .before .before .before .before .before .before .before in
-    promise-accepted _ (s .before .pre) (λ i. omega (arith, s .shared-slice-known .given i)) _ (d .before .before .before .shade .ensures) _ _ _ _ _ (d .any-inside .ensures) (not-false _ (c .if1 .left)) (d .before .before .before .before .before .before .before .before .before .before .before .gather .ensures) (d .before .before .before .before .before .before .before .before .gather2 .ensures)
+    let y = d .before .before .before .before .before .before .before .before in
+    let x = y .before .before .before in
+    let s = x .before .before in
+    promise-accepted _ (s .before .pre) (λ i. omega (arith, s .shared-slice-known .given i)) _ (d .before .before .before .shade .ensures) _ _ _ _ _
+    (d .any-inside .ensures)
+    (not-false _ (c .if1 .left))
+    (x .gather .ensures)
+    (y .gather2 .ensures)
 
 pub plot-spec : {M : Type 1} → statement M
 plot-spec =
