@@ -1,5 +1,5 @@
 // The newcomers' walk over drawing B, in numbers: its lines and cells, its shots, every piece with its entry and cost, and the
-// cuts of the frame as they are weighed. docs/WALK.md tells the walk; each number in it is printed here.
+// cuts of the frame as they are weighed; then two squares that touch. docs/WALK.md tells the walk; each number in it is printed here.
 use fracture::Fractured;
 ghost use Prim.Native.Nat.{_≤_};
 
@@ -22,6 +22,9 @@ const B: [u16; 16] = [
     0,
     200,
 ];
+
+// Two squares of document 01 that touch in a corner, drawn as one outline.
+const TOUCHING: [u16; 12] = [0, 0, 10, 0, 10, 20, 20, 20, 20, 10, 0, 10];
 
 fn text(words: &[u8]) {
     io::write_all(1, words);
@@ -145,13 +148,12 @@ fn shots(list: &[u16], count: u32) {
     }
 }
 
-// Fractures B by a rule, and prints what the call answers.
-fn answer(threshold: u32, weight: u32, table: &mut [u32], list: &mut [u16]) {
-    let corners = B;
+// Fractures a drawing by a rule, and prints what the call answers.
+fn answer(corners: &[u16], threshold: u32, weight: u32, table: &mut [u32], list: &mut [u16]) {
     text(b"rule");
     spaced(threshold as u64);
     spaced(weight as u64);
-    match fracture::fracture(&corners, threshold, weight, table, list) {
+    match fracture::fracture(corners, threshold, weight, table, list) {
         Fractured::Done {
             shots: count,
             cost,
@@ -235,12 +237,15 @@ fn cuts(table: &[u32]) {
 fn main() {
     let mut table = [0u32; 18];
     let mut list = [0u16; 24];
+    let block = B;
+    let squares = TOUCHING;
     grid();
-    answer(25, 40, &mut table, &mut list);
+    answer(&block, 25, 40, &mut table, &mut list);
     pieces(&table);
     cuts(&table);
-    answer(25, 10, &mut table, &mut list);
+    answer(&block, 25, 10, &mut table, &mut list);
     cuts(&table);
-    answer(25, 9, &mut table, &mut list);
+    answer(&block, 25, 9, &mut table, &mut list);
     cuts(&table);
+    answer(&squares, 0, 40, &mut table, &mut list);
 }
