@@ -19,6 +19,7 @@ fn shot_cost(sliver: u32, weight: u32) -> u32
     1000 + weight * sliver
 }
 
+// A place, to reckon with.
 fn wide(place: u16) -> u32
     ensures { λ r. ⌜ r ≡ place ⌝ }
 {

@@ -8,13 +8,15 @@ ghost use lib.ListN.{length, getD};
 ghost use Rattle.table.specs.Run.{Wrote};
 ghost use Rattle.table.specs.Tally.{belowAt, beforeAt, Spare, CellAdded, ColumnAdded, flankOf, FlanksMeasured};
 
-// From one place to a higher one, in nm.
-fn span(lines: &[u16], from: usize, to: usize) -> u32
-    requires { ⌜ (from < length (now lines)) × ((to < length (now lines)) × (getD (now lines) from 0 ≤ getD (now lines) to 0)) ⌝ }
-    ensures { λ r. ⌜ (r ≡ getD (now (lines .entry)) to 0 - getD (now (lines .entry)) from 0) × (r ≤ 65535) ⌝ }
+// From the place of one line to that of a higher one, in nm.
+fn span(lines: &[u16], from: Line, to: Line) -> u32
+    requires { ⌜ (from .0 < length (now lines)) × ((to .0 < length (now lines)) × (getD (now lines) (from .0) 0 ≤ getD (now lines) (to .0) 0)) ⌝ }
+    ensures { λ r. ⌜ (r ≡ getD (now (lines .entry)) (to .0) 0 - getD (now (lines .entry)) (from .0) 0) × (r ≤ 65535) ⌝ }
 {
-    let low = lines[from] as u32;
-    let high = lines[to] as u32;
+    let first = from.0;
+    let last = to.0;
+    let low = lines[first] as u32;
+    let high = lines[last] as u32;
     high - low
 }
 
@@ -40,7 +42,8 @@ pub fn add_column(sums: &mut [u32], xs: &[u16], cells: &[u8], rows: usize, colum
     ensures { λ _. ⌜ ColumnAdded (now (cells .entry)) (16 * column) (getD (now (xs .entry)) (column + 1) 0 - getD (now (xs .entry)) column 0) rows (now (sums .entry)) (now (sums .exit)) ⌝ }
 {
     let near = 16 * column;
-    let width = span(xs, column, column + 1);
+    let next = column + 1;
+    let width = span(xs, Line(column), Line(next));
     let mut below: u8 = 0;
     let mut j: usize = 0;
     while j < rows {
@@ -82,7 +85,8 @@ fn expose_flanks(
 {
     let mut i: usize = 0;
     while i < n {
-        let height = span(ys, i, i + 1);
+        let next = i + 1;
+        let height = span(ys, Line(i), Line(next));
         let low = runs::exposed(cells[left + i], cells[before + i], height);
         let high = runs::exposed(cells[right + i], cells[after + i], height);
         sums[48 + i] = low + high;
@@ -108,7 +112,7 @@ pub fn measure_flanks(
 {
     let low = a.0;
     let high = c.0;
-    if span(xs, low, high) < threshold {
+    if span(xs, a, c) < threshold {
         expose_flanks(
             sums,
             ys,

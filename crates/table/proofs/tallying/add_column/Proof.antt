@@ -9,16 +9,16 @@ use Rattle.table.proofs.tallying.add_column.Statement.{statement}
 use Rattle.table.proofs.tallying.add_column.Tie as tie
 
 abbrev Inv-loop : tie.InvT-loop
-Inv-loop sums₀ xs cells rows column near width below₀ j₀ sums below j = (j ≤ rows) × ((below ≡ belowAt cells near j) × Column cells near width j sums₀ sums)
+Inv-loop sums₀ xs cells rows column near next width below₀ j₀ sums below j = (j ≤ rows) × ((below ≡ belowAt cells near j) × Column cells near width j sums₀ sums)
 
 abbrev μ-loop : tie.MeasureT-loop
-μ-loop sums₀ xs cells rows column near width below₀ j₀ sums below j = rows - j
+μ-loop sums₀ xs cells rows column near next width below₀ j₀ sums below j = rows - j
 
 mul-near : tie.Need-mul-near Inv-loop μ-loop
 mul-near c = search needs
 
-add-span : tie.Need-add-span Inv-loop μ-loop
-add-span c = search needs
+add-next : tie.Need-add-next Inv-loop μ-loop
+add-next c = search needs
 
 span-requires : tie.Need-span-requires Inv-loop μ-loop
 span-requires c κs = search needs
@@ -79,7 +79,7 @@ add-column-spec =
     Inv-loop
     μ-loop
     mul-near
-    add-span
+    add-next
     span-requires
     loop-holds
     add-cell

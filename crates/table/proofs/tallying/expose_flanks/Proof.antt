@@ -19,8 +19,8 @@ abbrev μ-loop : tie.MeasureT-loop
 loop-holds : tie.Need-loop-holds Inv-loop μ-loop
 loop-holds c = (omega arith, wrote-none _ _ _)
 
-add-span : tie.Need-add-span Inv-loop μ-loop
-add-span c = search needs
+add-next : tie.Need-add-next Inv-loop μ-loop
+add-next c = search needs
 
 span-requires : tie.Need-span-requires Inv-loop μ-loop
 span-requires c κs = (omega arith, (omega arith, c .before .before .before .before .before .pre .1 .1 (c .before .loop .i) (c .loop-test .taken)))
@@ -95,7 +95,7 @@ expose-flanks-spec =
     Inv-loop
     μ-loop
     loop-holds
-    add-span
+    add-next
     span-requires
     add-exposed
     shared-slice-read-exposed

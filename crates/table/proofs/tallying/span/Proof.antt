@@ -12,7 +12,7 @@ shared-slice-read-low : tie.Need-shared-slice-read-low
 shared-slice-read-low c = search needs
 
 cast-low : tie.Need-cast-low
-cast-low c = omega (arith, c .shared-slice-known .given (c .before .args .from))
+cast-low c = omega (arith, c .shared-slice-known .given (c .before .args .from .0))
 
 mul-high : tie.Need-mul-high
 mul-high c = search needs
@@ -21,13 +21,13 @@ shared-slice-read-high : tie.Need-shared-slice-read-high
 shared-slice-read-high c = search needs
 
 cast-high : tie.Need-cast-high
-cast-high c = omega (arith, c .shared-slice-known2 .given (c .before .before .args .to))
+cast-high c = omega (arith, c .shared-slice-known2 .given (c .before .before .args .to .0))
 
 sub-result : tie.Need-sub-result
 sub-result c = search needs
 
 returns : tie.Need-returns
-returns c = (refl, omega (arith, c .shared-slice-known2 .given (c .before .before .args .to)))
+returns c = (refl, omega (arith, c .shared-slice-known2 .given (c .before .before .args .to .0)))
 
 pub span-spec : {M : Type 1} → statement M
 span-spec =
