@@ -1,13 +1,14 @@
--- `fracture::judging::first_line` meets its contract. The loop's invariant: the two pair numbers are those of the parts at j, and no
--- line passed has parts that cost so much. Assumes nothing.
+-- `fracture::judging::first_line` meets its contract. The loop's invariant: the two pair numbers are those of the parts at j, and the
+-- search has found no line before the one it holds. Assumes nothing.
 use Prim.Native.Nat.{ℕ, _≤_, _<_, _+_, _*_, _-_}
 use mathlib.Core.Path.{_≡_, sym, _∙_}
+use mathlib.Core.Logic.{⊎-elim}
 use native.Mathlib.Omega.{arith}
 use borrow.Author.Needs.{needs}
 use lib.ListN.{length}
 use Rattle.fracture.specs.Search.{across}
 use Rattle.fracture.specs.declared.judging.Cuts.{Cuts}
-use Rattle.fracture.proofs.Search.{Passed, passed-none, passed-more, first-here, first-none}
+use Rattle.fracture.proofs.Search.{Sought, sought-none, sought-here, sought-past, sought-first}
 use Rattle.fracture.proofs.Across.{At, at-first, at-next, whole-few, whole-least, lower-few, upper-few, lower-within, upper-within, across-at, across-small}
 use Rattle.fracture.proofs.judging.first_line.Statement.{statement}
 use Rattle.fracture.proofs.judging.first_line.Tie as tie
@@ -19,12 +20,12 @@ whole-cuts last low high whole stride base =
     record { last = last; low = record { 0 = low }; high = record { 0 = high }; whole = whole; stride = stride; base = base }
 
 abbrev Inv-loop : tie.InvT-loop
-Inv-loop table cost last low high whole stride base j₀ lower₀ upper₀ j lower upper =
+Inv-loop table cost last low high whole stride base found₀ j₀ lower₀ upper₀ found j lower upper =
     At (whole-cuts last low high whole stride base) j lower upper
-    × Passed (λ k. across table (whole-cuts last low high whole stride base) k ≡ cost) (low + 1) j
+    × Sought (λ k. across table (whole-cuts last low high whole stride base) k ≡ cost) (low + 1) high found j
 
 abbrev μ-loop : tie.MeasureT-loop
-μ-loop table cost last low high whole stride base j₀ lower₀ upper₀ j lower upper = high - j
+μ-loop table cost last low high whole stride base found₀ j₀ lower₀ upper₀ found j lower upper = high - j
 
 add-j : tie.Need-add-j Inv-loop μ-loop
 add-j c = search needs
@@ -45,84 +46,88 @@ add-upper : tie.Need-add-upper Inv-loop μ-loop
 add-upper c = let f = whole-few _ _ (c .pre) in omega arith
 
 loop-holds : tie.Need-loop-holds Inv-loop μ-loop
-loop-holds c = (at-first _ _ (c .pre), passed-none _ _)
+loop-holds c = let w = c .pre in (at-first _ _ w, sought-none _ _ _ (omega (arith, w)))
+
+-- the line reached is one of those between
+between : (c : tie.In-loop Inv-loop μ-loop) → c .before .loop .j < c .before .before .args .cuts .high .0
+between c = let s = c .before .loop .inv .1 in omega (arith, s .most)
 
 -- the entries of both parts are the table's
 lower-at : (c : tie.In-loop Inv-loop μ-loop)
-    → c .before .before .args .cuts .base + c .before .before .args .cuts .stride * c .before .loop .lower < length (c .before .before .args .table .now)
-lower-at c = lower-within _ _ (c .before .before .pre) _ _ _ (c .before .loop .inv .0) (c .loop-test .taken)
+    → c .before .before .args .cuts .base + c .before .before .args .cuts .stride * c .before .loop .lower
+    < length (c .before .before .args .table .now)
+lower-at c = lower-within _ _ (c .before .before .pre) _ _ _ (c .before .loop .inv .0) (between c)
 
 upper-at : (c : tie.In-loop Inv-loop μ-loop)
-    → c .before .before .args .cuts .base + c .before .before .args .cuts .stride * c .before .loop .upper < length (c .before .before .args .table .now)
-upper-at c = upper-within _ _ (c .before .before .pre) _ _ _ (c .before .loop .inv .0) (c .loop-test .taken)
+    → c .before .before .args .cuts .base + c .before .before .args .cuts .stride * c .before .loop .upper
+    < length (c .before .before .args .table .now)
+upper-at c = upper-within _ _ (c .before .before .pre) _ _ _ (c .before .loop .inv .0) (between c)
 
-mul-parts : tie.Need-mul-parts Inv-loop μ-loop
-mul-parts c = omega (arith, lower-at c)
+mul-if1 : tie.Need-mul-if1 Inv-loop μ-loop
+mul-if1 c = omega (arith, lower-at c)
 
-add-parts : tie.Need-add-parts Inv-loop μ-loop
-add-parts c = omega (arith, lower-at c)
+add-if1 : tie.Need-add-if1 Inv-loop μ-loop
+add-if1 c = omega (arith, lower-at c)
 
-mul-parts-2 : tie.Need-mul-parts-2 Inv-loop μ-loop
-mul-parts-2 c = omega (arith, lower-at c)
+mul-if1-2 : tie.Need-mul-if1-2 Inv-loop μ-loop
+mul-if1-2 c = omega (arith, lower-at c)
 
-shared-slice-read-parts : tie.Need-shared-slice-read-parts Inv-loop μ-loop
-shared-slice-read-parts c = lower-at (c .before)
+shared-slice-read-if1 : tie.Need-shared-slice-read-if1 Inv-loop μ-loop
+shared-slice-read-if1 c = lower-at (c .before)
 
-mul-parts-3 : tie.Need-mul-parts-3 Inv-loop μ-loop
-mul-parts-3 c = omega (arith, upper-at (c .before))
+mul-if1-3 : tie.Need-mul-if1-3 Inv-loop μ-loop
+mul-if1-3 c = omega (arith, upper-at (c .before))
 
-add-parts-2 : tie.Need-add-parts-2 Inv-loop μ-loop
-add-parts-2 c = omega (arith, upper-at (c .before))
+add-if1-2 : tie.Need-add-if1-2 Inv-loop μ-loop
+add-if1-2 c = omega (arith, upper-at (c .before))
 
-mul-parts-4 : tie.Need-mul-parts-4 Inv-loop μ-loop
-mul-parts-4 c = omega (arith, upper-at (c .before))
+mul-if1-4 : tie.Need-mul-if1-4 Inv-loop μ-loop
+mul-if1-4 c = omega (arith, upper-at (c .before))
 
-shared-slice-read-parts-2 : tie.Need-shared-slice-read-parts-2 Inv-loop μ-loop
-shared-slice-read-parts-2 c = upper-at (c .before .before)
+shared-slice-read-if1-2 : tie.Need-shared-slice-read-if1-2 Inv-loop μ-loop
+shared-slice-read-if1-2 c = upper-at (c .before .before)
 
-add-parts-3 : tie.Need-add-parts-3 Inv-loop μ-loop
-add-parts-3 c = record {
-  fits = across-small _ _ (c .before .before .before .before .pre) _ _ _ (c .before .before .before .loop .inv .0) (c .before .before .loop-test .taken);
+add-if1-3 : tie.Need-add-if1-3 Inv-loop μ-loop
+add-if1-3 c = record {
+  fits = across-small _ _ (c .before .before .before .before .pre) _ _ _ (c .before .before .before .loop .inv .0) (between (c .before .before));
 }
 
-returns : tie.Need-returns Inv-loop μ-loop
-returns c =
-    let l = c .before .before .before .before .loop in
-    first-here _ _ _ _ (omega (arith, l .inv .0)) (omega arith) (l .inv .1)
-    (sym (across-at _ _ (c .before .before .before .before .before .pre) _ _ _ (l .inv .0) (c .before .before .before .loop-test .taken)) ∙ c .if1 .taken)
-
 add-lower : tie.Need-add-lower Inv-loop μ-loop
-add-lower c =
-    let l = c .before .before .before .before .loop in
-    omega (arith, lower-few _ _ (c .before .before .before .before .before .pre) _ _ _ (l .inv .0) (c .before .before .before .loop-test .taken))
+add-lower c = let l = c .before .before .before .before .loop in omega (arith, lower-few _ _ (c .before .before .before .before .before .pre) _ _ _ (l .inv .0) (between (c .before .before .before)))
 
 sub-upper-3 : tie.Need-sub-upper-3 Inv-loop μ-loop
 sub-upper-3 c = search needs
 
 sub-upper-4 : tie.Need-sub-upper-4 Inv-loop μ-loop
-sub-upper-4 c = search needs
+sub-upper-4 c = omega (arith, between (c .before .before .before), c .before .before .before .before .before .pre)
 
 add-upper-2 : tie.Need-add-upper-2 Inv-loop μ-loop
 add-upper-2 c =
     let l = c .before .before .before .before .loop in
-    let f = upper-few _ _ (c .before .before .before .before .before .pre) _ _ _ (l .inv .0) (c .before .before .before .loop-test .taken) in
+    let f = upper-few _ _ (c .before .before .before .before .before .pre) _ _ _ (l .inv .0) (between (c .before .before .before)) in
     omega (arith, c .before .before .before .before .before .pre)
 
 add-j-2 : tie.Need-add-j-2 Inv-loop μ-loop
-add-j-2 c = search needs
+add-j-2 c = omega (arith, between (c .before .before .before))
 
 loop-less : tie.Need-loop-less Inv-loop μ-loop
-loop-less c = search needs
+loop-less c = omega (arith, between (c .before .before .before))
 
 loop-again : tie.Need-loop-again Inv-loop μ-loop
 loop-again c =
     let l = c .before .before .before .before .loop in
     let w = c .before .before .before .before .before .pre in
-    let t = c .before .before .before .loop-test .taken in
-    (at-next _ _ w _ _ _ (l .inv .0) t, passed-more _ _ _ (l .inv .1) (λ e. c .if1 .left (across-at _ _ w _ _ _ (l .inv .0) t ∙ e)))
+    let t = between (c .before .before .before) in
+    let e = across-at _ _ w _ _ _ (l .inv .0) t in (
+      at-next _ _ w _ _ _ (l .inv .0) t,
+      ⊎-elim
+          (λ h. sought-here _ _ _ _ _ _ (l .inv .1) (omega (arith, l .inv .0)) (c .before .before .before .loop-test .taken) (sym e ∙ h .0 .taken) (h .1))
+          (λ h. sought-past _ _ _ _ _ _ (l .inv .1) (λ q. h .0 .left (e ∙ q)) (h .1))
+          (c .if1 .came),
+    )
 
-returns-2 : tie.Need-returns-2 Inv-loop μ-loop
-returns-2 c = first-none _ _ _ _ (omega (arith, c .before .loop .inv .0)) (omega (arith, c .before .loop .inv .0)) (omega arith) (c .before .loop .inv .1)
+returns : tie.Need-returns Inv-loop μ-loop
+returns c = sought-first _ _ _ _ _ (c .before .loop .inv .1) (c .loop-test .left)
 
 pub first-line-spec : {M : Type 1} → statement M
 first-line-spec =
@@ -137,16 +142,15 @@ first-line-spec =
     sub-upper-2
     add-upper
     loop-holds
-    mul-parts
-    add-parts
-    mul-parts-2
-    shared-slice-read-parts
-    mul-parts-3
-    add-parts-2
-    mul-parts-4
-    shared-slice-read-parts-2
-    add-parts-3
-    returns
+    mul-if1
+    add-if1
+    mul-if1-2
+    shared-slice-read-if1
+    mul-if1-3
+    add-if1-2
+    mul-if1-4
+    shared-slice-read-if1-2
+    add-if1-3
     add-lower
     sub-upper-3
     sub-upper-4
@@ -154,4 +158,4 @@ first-line-spec =
     add-j-2
     loop-less
     loop-again
-    returns-2)
+    returns)
