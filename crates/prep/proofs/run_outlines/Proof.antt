@@ -1,0 +1,56 @@
+-- `run_outlines` is safe and ends: the measure is what is left of its range, and lent memory keeps its length. Assumes nothing.
+use mathlib.Core.Path.{_≡_}
+use lib.ListN.{length}
+use borrow.Author.Needs.{needs}
+use Prim.Native.Nat.{_-_}
+use Rattle.prep.proofs.run_outlines.Statement.{statement}
+use Rattle.prep.proofs.run_outlines.Tie as tie
+
+abbrev Inv-loop : tie.InvT-loop
+Inv-loop job count threshold weight table₀ list₀ k₀ table list k = (length table ≡ length table₀) × (length list ≡ length list₀)
+
+abbrev μ-loop : tie.MeasureT-loop
+μ-loop job count threshold weight table₀ list₀ k₀ table list k = count - k
+
+loop-holds : tie.Need-loop-holds Inv-loop μ-loop
+loop-holds c = search needs
+
+cast-run-outline : tie.Need-cast-run-outline Inv-loop μ-loop
+cast-run-outline c = search needs
+
+run-outline-requires : tie.Need-run-outline-requires Inv-loop μ-loop
+run-outline-requires c κs = search needs
+
+add-k : tie.Need-add-k Inv-loop μ-loop
+add-k c = search needs
+
+loop-less : tie.Need-loop-less Inv-loop μ-loop
+loop-less c = search needs
+
+loop-again : tie.Need-loop-again Inv-loop μ-loop
+loop-again c = search needs
+
+same-length : tie.Need-same-length Inv-loop μ-loop
+same-length c = search needs
+
+same-length-2 : tie.Need-same-length-2 Inv-loop μ-loop
+same-length-2 c = search needs
+
+returns : tie.Need-returns Inv-loop μ-loop
+returns c = search needs
+
+pub run-outlines-spec : {M : Type 1} → statement M
+run-outlines-spec =
+    tie.close
+    (tie.spec
+    Inv-loop
+    μ-loop
+    loop-holds
+    cast-run-outline
+    run-outline-requires
+    add-k
+    loop-less
+    loop-again
+    same-length
+    same-length-2
+    returns)
