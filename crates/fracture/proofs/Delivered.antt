@@ -3,34 +3,33 @@
 --   area-few                      : a grid has at most 225 cells
 --   room-all, room-fits, room-short : a number for each of four for each cell; room for the count; and not
 --   told-lacking, told-listed     : the answer of a list that is too short, and of one that is not
-use Prim.Native.Nat.{ℕ, suc, _+_, _*_, _-_, _≤_, _<_}
+use Prim.Native.Nat.{ℕ, _*_, _-_, _≤_, _<_}
 use mathlib.Core.Path.{_≡_, refl, ap, ap₂, sym, _∙_, subst}
 use mathlib.Core.Bool.{Bool, true, false, cond}
-use mathlib.Core.List.{List, [], _∷_, _++_}
+use mathlib.Core.List.{List}
 use native.Mathlib.Omega.{arith}
 use native.Mathlib.Nat.{mul-le-mul, zero-add}
 use lib.Dec.{ltb}
-use lib.ListN.{length, getD, take, drop}
+use lib.ListN.{length, getD}
 use lib.Seq.{sets, sets-eq}
 use borrow.Author.Tests.{lt-ltb, le-ltb, ltb-true, ltb-false}
 use Rattle.sum.specs.Sum.{sumOf}
 use Rattle.outline.specs.Grid.{Grid}
 use Rattle.rule.specs.declared.Rule.{Rule}
-use Rattle.piece.specs.Piece.{Piece, box, frame, cells, sliver, charge}
+use Rattle.piece.specs.Piece.{Piece, box, frame, sliver, charge}
 use Rattle.piece.specs.Straight.{shots, cost, numbers}
 use Rattle.piece.proofs.Cells.{cells-product}
 use Rattle.piece.proofs.Choice.{numbers-length}
 use Rattle.table.specs.Entry.{Valid, entryOf}
-use Rattle.demands.specs.Promise.{Outcome, written}
+use Rattle.demands.specs.Promise.{written}
 use Rattle.fracture.specs.declared.Plan.{Plan}
 use Rattle.fracture.specs.declared.Refusal.the-variants as because
 use Rattle.fracture.specs.declared.Fractured.the-variants.{Done, Refused}
-use Rattle.fracture.specs.declared.delivery.Room.{Room}
 use Rattle.fracture.specs.declared.delivery.Room.the-variants.{Enough, Short}
 use Rattle.fracture.specs.declared.emission.Tally.{Tally}
 use Rattle.fracture.specs.Memory.{Filled}
 use Rattle.fracture.specs.Emission.{Written, Walk, Emittable}
-use Rattle.fracture.specs.Delivery.{roomOf, Walkable, all, listed, lacking, delivered}
+use Rattle.fracture.specs.Delivery.{roomOf, all, listed, lacking, delivered}
 use Rattle.fracture.specs.Told.{reason, told}
 use Rattle.fracture.proofs.Emitted.{count-cells}
 

@@ -9,7 +9,7 @@
 --   low-valid .. parts                   : the same of the parts as the code has made them
 --   shown-of, emit-low, emit-high        : what the parts of an emission ask
 --   count-cells, count-few, slivers-few  : how many shots, and how long their slivers, at most
-use Prim.Native.Nat.{ℕ, zero, suc, _+_, _*_, _-_, _≤_, _<_}
+use Prim.Native.Nat.{ℕ, suc, _+_, _*_, _≤_, _<_}
 use mathlib.Core.Path.{_≡_, refl, ap, ap₂, sym, _∙_, subst}
 use mathlib.Core.List.{List, [], _∷_, _++_}
 use native.Mathlib.Omega.{arith}
@@ -31,7 +31,6 @@ use Rattle.piece.proofs.Bound.{count-most, slivers-most}
 use Rattle.table.specs.Entry.{Valid}
 use Rattle.fracture.specs.declared.Plan.{Plan}
 use Rattle.fracture.specs.declared.Direction.{Direction}
-use Rattle.fracture.specs.declared.Direction.the-variants.{Vertical, Horizontal}
 use Rattle.fracture.specs.declared.Verdict.{Verdict}
 use Rattle.fracture.specs.declared.Verdict.the-variants as verdict
 use Rattle.fracture.specs.declared.emission.Tally.{Tally}

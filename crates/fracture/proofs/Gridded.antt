@@ -5,9 +5,9 @@
 --   laid-walk              : then the pieces may be walked
 --   settled-table          : the outcome with too few entries
 --   settled-delivered      : and with enough of them
-use Prim.Native.Nat.{ℕ, _+_, _*_, _≤_, _<_}
+use Prim.Native.Nat.{ℕ, _≤_, _<_}
 use mathlib.Core.Path.{_≡_, refl, ap, ap₂, sym, _∙_, subst}
-use mathlib.Core.Bool.{true, false, cond}
+use mathlib.Core.Bool.{cond}
 use mathlib.Core.List.{List, _++_}
 use native.Mathlib.Omega.{arith}
 use lib.ListN.{length, getD, drop}
@@ -20,12 +20,11 @@ use Rattle.piece.specs.Straight.{cost}
 use Rattle.table.specs.Entry.{Valid, entryCount, entryOf, costs}
 use Rattle.table.specs.Fill.{Ready}
 use Rattle.table.proofs.Entry.{costs-length, costs-at, entry-below}
-use Rattle.demands.specs.Promise.{Outcome, written}
+use Rattle.demands.specs.Promise.{written}
 use Rattle.demands.proofs.Outcome.{written-length, written-at}
-use Rattle.fracture.specs.declared.Plan.{Plan}
 use Rattle.fracture.specs.declared.Refusal.the-variants as because
 use Rattle.fracture.specs.declared.Fractured.{Fractured}
-use Rattle.fracture.specs.declared.Fractured.the-variants.{Done, Refused}
+use Rattle.fracture.specs.declared.Fractured.the-variants.{Refused}
 use Rattle.fracture.specs.Emission.{Walk}
 use Rattle.fracture.specs.Delivery.{Laid, delivered, settled}
 use Rattle.fracture.specs.Told.{reason, told}

@@ -4,11 +4,11 @@
 --   verdict-outside, verdict-shot       : a piece that costs nothing; a piece that is inside in all cells
 --   weighable-x, weighable-y            : its cuts in each direction are the table's
 --   verdict-vertical, verdict-horizontal : the first line whose parts cost what the piece costs
-use Prim.Native.Nat.{ℕ, suc, _+_, _*_, _-_, _≤_, _<_, _^_}
-use mathlib.Core.Path.{_≡_, refl, ap, ap₂, sym, _∙_, subst}
+use Prim.Native.Nat.{ℕ, _+_, _*_, _≤_, _<_}
+use mathlib.Core.Path.{_≡_, refl, ap, ap₂, sym, _∙_}
 use mathlib.Core.Bool.{Bool, true, false}
 use mathlib.Core.List.{List}
-use mathlib.Core.Logic.{_⊎_, inl, inr}
+use mathlib.Core.Logic.{inl, inr}
 use native.Mathlib.Omega.{arith}
 use native.Mathlib.Nat.{mul-comm, add-comm, one-mul}
 use lib.ListN.{length, getD}
@@ -16,10 +16,10 @@ use lib.Arith.{digits-lt}
 use Rattle.sum.specs.Sum.{only}
 use Rattle.sum.proofs.Sum.{le-or}
 use Rattle.recurrence.specs.Scheme.{Kind, outside, full, mixed}
-use Rattle.outline.specs.Grid.{Grid, Sound}
+use Rattle.outline.specs.Grid.{Grid}
 use Rattle.rule.specs.declared.Rule.{Rule}
 use Rattle.piece.specs.Piece.{Piece, box, kind, leftPart, rightPart, lowerPart, upperPart}
-use Rattle.piece.specs.Straight.{Cut, vertical, horizontal, cost, choice}
+use Rattle.piece.specs.Straight.{Cut, cost}
 use Rattle.piece.proofs.Cells as cell
 use Rattle.piece.proofs.Kind.{kind-all, full-cell}
 use Rattle.piece.proofs.Straight.{cost-zero, cost-outside}
@@ -30,7 +30,6 @@ use Rattle.table.proofs.Entry.{entry-below, pair-below}
 use Rattle.fracture.specs.declared.Piece as stored
 use Rattle.fracture.specs.declared.Plan.{Plan}
 use Rattle.fracture.specs.declared.Direction.the-variants.{Vertical, Horizontal}
-use Rattle.fracture.specs.declared.Verdict.{Verdict}
 use Rattle.fracture.specs.declared.Verdict.the-variants as verdict
 use Rattle.fracture.specs.declared.judging.Cuts.{Cuts}
 use Rattle.fracture.specs.Verdict.{meant, direction, verdictOf}

@@ -6,23 +6,20 @@
 --   banded-x, banded-y        : the two bands of a piece
 --   sliver-sides              : what both add is the sliver length
 use Prim.Native.Nat.{ℕ, zero, suc, _+_, _*_, _-_, _%_, _≤_, _<_}
-use mathlib.Core.Path.{_≡_, refl, ap, ap₂, sym, _∙_, subst}
+use mathlib.Core.Path.{_≡_, refl, ap, ap₂, sym, _∙_}
 use mathlib.Core.Bool.{Bool, true, false, _&&_, not}
 use mathlib.Core.List.{List}
-use mathlib.Core.Logic.{_⊎_, inl, inr}
 use native.Mathlib.Omega.{arith}
-use native.Mathlib.Nat.{one-mul, add-comm}
+use native.Mathlib.Nat.{one-mul}
 use native.Mathlib.Numerals.{add-one}
-use lib.Dec.{eqb, ltb}
-use lib.ListN.{length, getD}
+use lib.Dec.{ltb}
+use lib.ListN.{getD}
 use borrow.Author.Tests.{le-ltb, lt-ltb}
 use Rattle.sum.specs.Sum.{only, over}
 use Rattle.sum.proofs.Sum.{over-same, rise}
-use Rattle.outline.specs.Grid.{Grid, Sound, Drawn}
+use Rattle.outline.specs.Grid.{Grid}
 use Rattle.rule.specs.declared.Rule.{Rule}
-use Rattle.piece.specs.Piece.{Piece, before, lowSide, highSide, width, height, left, right, bottom, top, sliver}
-use Rattle.table.specs.Entry.{Valid}
-use Rattle.fracture.specs.declared.slivers.Side.{Side}
+use Rattle.piece.specs.Piece.{Piece, lowSide, highSide, width, height, left, right, bottom, top, sliver}
 use Rattle.fracture.specs.declared.slivers.Band.{Band}
 use Rattle.fracture.specs.Memory.{Shown}
 use Rattle.fracture.specs.Sides.{exposedAt, exposedIn, Lies, lowOf, highOf, narrowIn, Banded}

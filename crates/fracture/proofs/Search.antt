@@ -11,9 +11,9 @@
 --   inside-not      : a column with a hole
 --   inside-said    : by what a test says of the answer
 -- Assumes nothing.
-use Prim.Native.Nat.{ℕ, suc, _+_, _*_, _≤_, _<_}
+use Prim.Native.Nat.{ℕ, _+_, _*_, _≤_, _<_}
 use mathlib.Core.Path.{_≡_, refl, ap, sym, _∙_, subst}
-use mathlib.Core.Logic.{_⊎_, inl, inr}
+use mathlib.Core.Logic.{inl, inr}
 use native.Mathlib.Omega.{arith}
 use Rattle.sum.proofs.Sum.{le-or}
 use mathlib.Core.Bool.{Bool, true, false}
@@ -22,7 +22,7 @@ use lib.Dec.{eqb}
 use lib.ListN.{getD}
 use borrow.Author.Tests.{eqb-true, eqb-false}
 use Rattle.fracture.specs.declared.Piece.{Piece}
-use Rattle.fracture.specs.Search.{First, Within, AllInside}
+use Rattle.fracture.specs.Search.{First, AllInside}
 
 module _ (Q : ℕ → Type 0) (a : ℕ) where
   abbrev pub Passed : ℕ → Type 0

@@ -8,11 +8,11 @@
 --   preset-range, preset-outcome : the default preset is in range, and its outcome is that of its two numbers
 --   told-apart          : answers that tell the same are the same
 --   fracture-unique     : two ways to satisfy a promise are one: the same answer, and the same in both buffers
-use Prim.Native.Nat.{ℕ, suc, _+_, _*_, _-_, _≤_, _<_}
-use mathlib.Core.Path.{_≡_, refl, ap, ap₂, sym, _∙_, subst}
+use Prim.Native.Nat.{ℕ, _*_, _≤_, _<_}
+use mathlib.Core.Path.{_≡_, refl, ap, ap₂, sym, _∙_}
 use mathlib.Core.Bool.{Bool, true, false, cond}
 use mathlib.Core.List.{List}
-use mathlib.Core.Logic.{_⊎_, inl, inr}
+use mathlib.Core.Logic.{inl, inr}
 use native.Mathlib.Omega.{arith}
 use lib.Dec.{ltb, eqb}
 use lib.ListN.{length}
@@ -24,7 +24,6 @@ use Rattle.rule.proofs.Rules.{rule-made}
 use Rattle.outline.specs.declared.Drawing.{Drawing}
 use Rattle.outline.specs.Promise.{refusal, Promise}
 use Rattle.outline.proofs.Memory.{drawing-columns, drawing-rows, drawing-drawn, drawing-stored}
-use Rattle.piece.specs.Piece.{frame}
 use Rattle.piece.specs.Straight.{shots}
 use Rattle.table.specs.Entry.{entryCount, costs}
 use Rattle.demands.specs.Promise.{drawn, rule, reportedShots, reportedCost, reportedSliver, reportedList, reportedTable, Outcome, written, accepted, short, refused, outcome}

@@ -7,16 +7,13 @@
 --   exposed-more    : one stretch more
 --   exposed-all     : all stretches make the side
 -- Assumes nothing.
-use Prim.Native.Nat.{ℕ, suc, _+_, _*_, _-_, _≤_, _<_}
-use mathlib.Core.Path.{_≡_, refl, ap, sym, _∙_}
-use mathlib.Core.Bool.{Bool, true, false, _&&_}
+use Prim.Native.Nat.{ℕ, _+_, _*_, _-_, _≤_}
+use mathlib.Core.Path.{_≡_, ap, sym, _∙_}
 use mathlib.Core.List.{List}
 use native.Mathlib.Omega.{arith}
 use native.Mathlib.Numerals.{add-one}
-use lib.Dec.{eqb}
-use lib.ListN.{length, getD}
+use lib.ListN.{getD}
 use borrow.Author.Tests.{eq-eqb, ne-eqb}
-use Rattle.sum.specs.Sum.{only, over}
 use Rattle.sum.proofs.Sum.{over-none, over-last}
 use Rattle.fracture.specs.Sides.{exposedAt, exposedIn}
 use Rattle.fracture.specs.declared.slivers.Side.{Side}

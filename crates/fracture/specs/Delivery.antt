@@ -29,11 +29,13 @@ use Rattle.fracture.specs.Emission.{Walk}
 unfoldable pub roomOf : ℕ → ℕ → Room
 roomOf n m = cond (ltb n (4 * m)) (Short m) Enough
 
+-- all that the delivery asks for
 pub record Walkable (table cells xs ys : List ℕ) (plan : Plan) : Type 0 where
   pub grid : Grid
   pub rule : Rule
   pub walk : Walk grid rule table cells xs ys plan
 
+-- a grid in memory
 pub record Laid (g : Grid) (m : memory.Grid) : Type 0 where
   pub sound : Sound g
   pub columns : m .columns ≡ g .columns
@@ -41,6 +43,7 @@ pub record Laid (g : Grid) (m : memory.Grid) : Type 0 where
   pub drawn : Drawn g (m .xs) (m .ys) (m .cells)
   pub back : stored (m .columns) (m .rows) (m .xs) (m .ys) (m .cells) ≡ g
 
+-- all that the fracture of a grid asks for
 pub record Fillable (m : memory.Grid) (r : Rule) : Type 0 where
   pub grid : Grid
   pub laid : Laid grid m

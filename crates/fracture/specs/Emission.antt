@@ -20,22 +20,26 @@ use Rattle.fracture.specs.declared.Plan.{Plan}
 use Rattle.fracture.specs.declared.emission.Tally.{Tally}
 use Rattle.fracture.specs.Memory.{Filled}
 
+-- the places of all four lines can be read
 pub record InLists (xs ys : List ℕ) (p : stored.Piece) : Type 0 where
   pub a : p .a .0 < length xs
   pub c : p .c .0 < length xs
   pub b : p .b .0 < length ys
   pub d : p .d .0 < length ys
 
+-- count, sliver length and numbers of the same shots
 pub record Written (g : Grid) (r : Rule) (u v : List ℕ) (at : ℕ) (l : List Piece) (t : Tally) : Type 0 where
   pub count : t .shots ≡ length l
   pub slivers : t .sliver ≡ sumOf (sliver g r) l
   pub list : v ≡ sets u at (numbers g l)
 
+-- the table, the cells, the places and the threshold are those of one grid and one rule
 pub record Walk (g : Grid) (r : Rule) (table cells xs ys : List ℕ) (plan : Plan) : Type 0 where
   pub filled : Filled g r table cells plan
   pub drawn : Drawn g xs ys cells
   pub threshold : r .threshold ≡ plan .threshold
 
+-- four numbers for each shot of the piece, from the index at on
 pub record Emittable (table cells xs ys : List ℕ) (room : ℕ) (plan : Plan) (at : ℕ) (p : Piece) : Type 0 where
   pub grid : Grid
   pub rule : Rule

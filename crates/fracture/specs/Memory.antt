@@ -17,6 +17,7 @@ use Rattle.piece.specs.Straight.{cost}
 use Rattle.table.specs.Entry.{Valid, entryOf, entryCount}
 use Rattle.fracture.specs.declared.Plan.{Plan}
 
+-- a table that begins with every cost, and the cells it was filled from
 pub record Filled (g : Grid) (r : Rule) (table cells : List ℕ) (plan : Plan) : Type 0 where
   pub sound : Sound g
   pub weight : r .weight ≤ 1000
@@ -27,17 +28,20 @@ pub record Filled (g : Grid) (r : Rule) (table cells : List ℕ) (plan : Plan) :
   pub entries : entryCount (plan .columns) (plan .rows) ≤ length table
   pub cost-at : (p : Piece) → Valid (plan .columns) (plan .rows) p → getD table (entryOf (plan .columns) (plan .rows) p) 0 ≡ cost g r p
 
+-- all that the verdict of the piece p asks for
 pub record Ready (table cells : List ℕ) (plan : Plan) (p : Piece) : Type 0 where
   pub grid : Grid
   pub rule : Rule
   pub filled : Filled grid rule table cells plan
   pub valid : Valid (plan .columns) (plan .rows) p
 
+-- a grid as it lies in memory, and one of its pieces
 pub record Shown (g : Grid) (xs ys cells : List ℕ) (p : Piece) : Type 0 where
   pub sound : Sound g
   pub drawn : Drawn g xs ys cells
   pub valid : Valid (g .columns) (g .rows) p
 
+-- all that the sliver length of the piece p asks for
 pub record Seen (xs ys cells : List ℕ) (p : Piece) : Type 0 where
   pub grid : Grid
   pub shown : Shown grid xs ys cells p

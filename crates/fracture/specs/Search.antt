@@ -13,6 +13,7 @@ use Rattle.table.specs.Entry.{pairCount, pairNo}
 use Rattle.fracture.specs.declared.Piece.{Piece}
 use Rattle.fracture.specs.declared.judging.Cuts.{Cuts}
 
+-- the first with a property
 pub record First (Q : ℕ → Type 0) (a c r : ℕ) : Type 0 where
   pub least : a ≤ r
   pub most : r ≤ c
@@ -26,6 +27,7 @@ pub record Within (p : Piece) (i j : ℕ) : Type 0 where
   pub b : p .b .0 ≤ j
   pub d : j < p .d .0
 
+-- yes for every cell, or no for one of them
 abbrev pub AllInside : List ℕ → Piece → Bool → Type 0
 AllInside cells p true = (i j : ℕ) → Within p i j → getD cells (16 * i + j) 0 ≡ 1
 AllInside cells p false = (i : ℕ) × (j : ℕ) × Within p i j × (getD cells (16 * i + j) 0 ≡ 1 → ⊥)
@@ -34,9 +36,11 @@ AllInside cells p false = (i : ℕ) × (j : ℕ) × Within p i j × (getD cells 
 abbrev pub partAt : List ℕ → Cuts → ℕ → ℕ → ℕ
 partAt t s a c = getD t (s .base + s .stride * pairNo (s .last) a c) 0
 
+-- both parts together
 unfoldable pub across : List ℕ → Cuts → ℕ → ℕ
 across t s j = partAt t s (s .low .0) j + partAt t s j (s .high .0)
 
+-- what the search for a cut asks for
 pub record Weighable (t : List ℕ) (s : Cuts) : Type 0 where
   pub ordered : s .low .0 < s .high .0
   pub some : s .high .0 ≤ s .last

@@ -5,10 +5,8 @@
 --   verdictOf g r p   == outside where no cell of p is inside; a shot where all of them are; else a cut: of the cuts in the tie order
 --                        the first whose parts cost what p costs, which is the least
 --   lowPart p k, highPart p k == the two parts of the piece p at the cut k: left or bottom is low
-use Prim.Native.Nat.{ℕ}
 use Rattle.recurrence.specs.Scheme.{outside, full, mixed}
 use Rattle.outline.specs.Grid.{Grid}
-use Rattle.outline.specs.declared.Line.{Line}
 use Rattle.rule.specs.declared.Rule.{Rule}
 use Rattle.piece.specs.Piece.{Piece, box, kind, leftPart, rightPart, lowerPart, upperPart}
 use Rattle.piece.specs.Straight.{Cut, vertical, horizontal, choice}

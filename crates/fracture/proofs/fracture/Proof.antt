@@ -1,17 +1,11 @@
 -- `fracture::fracture` meets its contract. Assumes nothing.
 use mathlib.Core.Path.{_≡_, sym, _∙_, ap}
 use borrow.Author.Needs.{needs}
-use Rattle.rule.specs.declared.Rule.{Rule}
 use Rattle.rule.specs.Rules.{madeTold, given, ruleTold}
-use Rattle.rule.proofs.Rules.{rule-made, rule-refused}
-use Rattle.demands.specs.Promise.{outcome}
+use Rattle.rule.proofs.Rules.{rule-refused}
 use Rattle.fracture.proofs.Settled.{told-rule, rule-range, rule-outcome}
 use Rattle.fracture.proofs.fracture.Statement.{statement}
 use Rattle.fracture.proofs.fracture.Tie as tie
-use Rattle.fracture.proofs.fracture.Reads as reads
-use Rattle.fracture.proofs.fracture.Lts as lts
-use Rattle.fracture.proofs.fracture_by.Reads as fracture-by-reads
-use Rattle.rule.proofs.Rule.new.Reads as new-reads
 
 -- the rule that was made is that of the two numbers
 made : (c : tie.After-rule) → given (c .rule .given .0 .0) ≡ ruleTold (c .before .before .before .before .before .before .args .threshold) (c .before .before .before .before .before .before .args .weight)

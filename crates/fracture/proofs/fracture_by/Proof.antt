@@ -1,5 +1,4 @@
 -- `fracture::fracture_by` meets its contract. Assumes nothing.
-use Prim.Native.Nat.{ℕ}
 use mathlib.Core.Path.{_≡_, refl, sym, _∙_, ap}
 use native.Mathlib.Omega.{arith}
 use borrow.Author.Needs.{needs}
@@ -10,10 +9,6 @@ use Rattle.fracture.specs.Told.{reason}
 use Rattle.fracture.proofs.Settled.{told-outline, laid-drawing, outcome-settled}
 use Rattle.fracture.proofs.fracture_by.Statement.{statement}
 use Rattle.fracture.proofs.fracture_by.Tie as tie
-use Rattle.fracture.proofs.fracture_by.Reads as reads
-use Rattle.fracture.proofs.fracture_by.Lts as lts
-use Rattle.fracture.proofs.fracture_grid.Reads as fracture-grid-reads
-use Rattle.outline.proofs.draw.Reads as draw-reads
 
 -- the drawing is accepted, so there is no refusal
 accepted : (c : tie.After-enum-told) → refusal (c .before .before .before .before .before .before .args .corners .now) ≡ 0

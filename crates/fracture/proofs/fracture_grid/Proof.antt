@@ -7,11 +7,6 @@ use Rattle.table.specs.Entry.{entryCount}
 use Rattle.fracture.proofs.Gridded.{laid-few, laid-ready, laid-filled, laid-walk, settled-table, settled-delivered}
 use Rattle.fracture.proofs.fracture_grid.Statement.{statement}
 use Rattle.fracture.proofs.fracture_grid.Tie as tie
-use Rattle.fracture.proofs.fracture_grid.Reads as reads
-use Rattle.fracture.proofs.fracture_grid.Lts as lts
-use Rattle.fracture.proofs.delivery.deliver.Reads as deliver-reads
-use Rattle.table.proofs.filling.fill.Reads as fill-reads
-use Rattle.table.proofs.numbering.entries.Reads as entries-reads
 
 entries-requires : tie.Need-entries-requires
 entries-requires c κs = laid-few _ _ (c .before .before .pre .laid)

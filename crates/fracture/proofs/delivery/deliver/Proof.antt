@@ -4,17 +4,10 @@ use mathlib.Core.Path.{refl, sym, _∙_}
 use native.Mathlib.Omega.{arith}
 use borrow.Author.Needs.{needs}
 use lib.ListN.{length}
-use Rattle.table.proofs.Entry.{entry-below}
 use Rattle.fracture.proofs.Emitted.{count-few}
 use Rattle.fracture.proofs.Delivered.{whole-valid, whole-emittable, short-says, told-lacking, told-listed}
 use Rattle.fracture.proofs.delivery.deliver.Statement.{statement}
 use Rattle.fracture.proofs.delivery.deliver.Tie as tie
-use Rattle.fracture.proofs.delivery.deliver.Reads as reads
-use Rattle.fracture.proofs.delivery.deliver.Lts as lts
-use Rattle.fracture.proofs.delivery.room_for.Reads as room-for-reads
-use Rattle.fracture.proofs.delivery.whole.Reads as whole-reads
-use Rattle.fracture.proofs.emission.emit.Reads as emit-reads
-use Rattle.table.proofs.numbering.entry.Reads as entry-reads
 
 whole-requires : tie.Need-whole-requires
 whole-requires c κs = search needs

@@ -1,13 +1,12 @@
 -- `fracture::emission::count` meets its contract. The measure is the number of cells of the piece. Assumes nothing.
 use Prim.Native.Nat.{ℕ, _<_}
-use mathlib.Core.Path.{_≡_, sym, _∙_, ap}
+use mathlib.Core.Path.{sym, _∙_, ap}
 use native.Mathlib.Omega.{arith}
 use borrow.Author.Needs.{needs}
 use lib.ListN.{length}
 use Rattle.outline.specs.Grid.{Grid}
 use Rattle.rule.specs.declared.Rule.{Rule}
 use Rattle.piece.specs.Piece.{cells}
-use Rattle.piece.specs.Straight.{shots}
 use Rattle.fracture.specs.Verdict.{meant}
 use Rattle.fracture.specs.Memory.{Filled}
 use Rattle.fracture.proofs.Emitted.{Halves, halves, told-outside, told-shot, low-valid, high-valid, low-less, high-less, count-parts, count-few}

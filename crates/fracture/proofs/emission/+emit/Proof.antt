@@ -1,16 +1,14 @@
 -- `fracture::emission::emit` meets its contract. The measure is the number of cells of the piece. Assumes nothing.
 use Prim.Native.Nat.{ℕ, _<_}
-use mathlib.Core.Path.{_≡_, refl, sym, _∙_, ap}
+use mathlib.Core.Path.{refl, sym, _∙_, ap}
 use native.Mathlib.Omega.{arith}
 use borrow.Author.Needs.{needs}
 use lib.ListN.{length}
 use Rattle.outline.specs.Grid.{Grid}
 use Rattle.rule.specs.declared.Rule.{Rule}
 use Rattle.piece.specs.Piece.{cells}
-use Rattle.piece.specs.Straight.{shots}
 use Rattle.fracture.specs.Verdict.{meant}
 use Rattle.fracture.specs.Memory.{Filled}
-use Rattle.fracture.specs.Emission.{Written}
 use Rattle.fracture.proofs.Emitted.{Halves, halves, told-outside, told-shot, low-less, high-less, parts, count-parts, sliver-parts, count-few, slivers-few, shown-of, emit-low, emit-high, written-none, written-join, written-as}
 use borrow.Fn.Kinds.{In}
 use borrow.Fn.PlainCycle.{Measures, is, falls, and}

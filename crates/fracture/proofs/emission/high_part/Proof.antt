@@ -1,7 +1,7 @@
 -- `fracture::emission::high_part` meets its contract. Assumes nothing.
 use mathlib.Core.Path.{sym, ap}
 use borrow.Author.Needs.{needs}
-use Rattle.fracture.specs.Verdict.{meant, highPart}
+use Rattle.fracture.specs.Verdict.{highPart}
 use Rattle.fracture.proofs.emission.high_part.Statement.{statement}
 use Rattle.fracture.proofs.emission.high_part.Tie as tie
 

@@ -1,7 +1,7 @@
 -- `fracture::emission::low_part` meets its contract. Assumes nothing.
 use mathlib.Core.Path.{sym, ap}
 use borrow.Author.Needs.{needs}
-use Rattle.fracture.specs.Verdict.{meant, lowPart}
+use Rattle.fracture.specs.Verdict.{lowPart}
 use Rattle.fracture.proofs.emission.low_part.Statement.{statement}
 use Rattle.fracture.proofs.emission.low_part.Tie as tie
 

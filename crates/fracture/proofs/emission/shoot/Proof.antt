@@ -3,10 +3,6 @@ use borrow.Author.Needs.{needs}
 use Rattle.fracture.proofs.Emitted.{written-one}
 use Rattle.fracture.proofs.emission.shoot.Statement.{statement}
 use Rattle.fracture.proofs.emission.shoot.Tie as tie
-use Rattle.fracture.proofs.emission.shoot.Reads as reads
-use Rattle.fracture.proofs.emission.shoot.Lts as lts
-use Rattle.fracture.proofs.emission.write_shot.Reads as write-shot-reads
-use Rattle.fracture.proofs.slivers.sliver_of.Reads as sliver-of-reads
 
 write-shot-requires : tie.Need-write-shot-requires
 write-shot-requires c κs = search needs

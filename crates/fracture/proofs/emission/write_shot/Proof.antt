@@ -5,9 +5,6 @@ use lib.ListN.{length-set}
 use Rattle.fracture.proofs.Emitted.{sets-four}
 use Rattle.fracture.proofs.emission.write_shot.Statement.{statement}
 use Rattle.fracture.proofs.emission.write_shot.Tie as tie
-use Rattle.fracture.proofs.emission.write_shot.Reads as reads
-use Rattle.fracture.proofs.emission.write_shot.Lts as lts
-use Rattle.outline.proofs.place_of.Reads as place-of-reads
 
 place-of-requires : tie.Need-place-of-requires
 place-of-requires c κs = search needs

@@ -1,9 +1,9 @@
 -- `fracture::judging::first_hole` meets its contract. The loop's invariant: no cell passed is outside. Assumes nothing.
-use Prim.Native.Nat.{ℕ, _≤_, _<_, _+_, _*_, _-_}
+use Prim.Native.Nat.{_≤_, _+_, _*_, _-_}
 use mathlib.Core.Path.{_≡_}
 use native.Mathlib.Omega.{arith}
 use borrow.Author.Needs.{needs}
-use lib.ListN.{length, getD}
+use lib.ListN.{getD}
 use Rattle.fracture.proofs.Search.{Passed, passed-none, passed-more, first-here, first-none}
 use Rattle.fracture.proofs.judging.first_hole.Statement.{statement}
 use Rattle.fracture.proofs.judging.first_hole.Tie as tie

@@ -1,6 +1,6 @@
 -- `fracture::judging::first_line` meets its contract. The loop's invariant: the two pair numbers are those of the parts at j, and the
 -- search has found no line before the one it holds. Assumes nothing.
-use Prim.Native.Nat.{ℕ, _≤_, _<_, _+_, _*_, _-_}
+use Prim.Native.Nat.{ℕ, _<_, _+_, _*_, _-_}
 use mathlib.Core.Path.{_≡_, sym, _∙_}
 use mathlib.Core.Logic.{⊎-elim}
 use native.Mathlib.Omega.{arith}
@@ -12,8 +12,6 @@ use Rattle.fracture.proofs.Search.{Sought, sought-none, sought-here, so
 use Rattle.fracture.proofs.Across.{At, at-first, at-next, whole-few, whole-least, lower-few, upper-few, lower-within, upper-within, across-at, across-small}
 use Rattle.fracture.proofs.judging.first_line.Statement.{statement}
 use Rattle.fracture.proofs.judging.first_line.Tie as tie
-use Rattle.fracture.proofs.judging.first_line.Reads as reads
-use Rattle.fracture.proofs.judging.first_line.Lts as lts
 
 abbrev whole-cuts : ℕ → ℕ → ℕ → ℕ → ℕ → ℕ → Cuts
 whole-cuts last low high whole stride base =

@@ -1,6 +1,5 @@
 -- `fracture::judging::judge` meets its contract: each exit by one law of Judged. Assumes nothing.
 use Prim.Native.Nat.{_+_, _*_, _<_}
-use mathlib.Core.Path.{_≡_}
 use native.Mathlib.Omega.{arith}
 use borrow.Author.Needs.{needs}
 use lib.ListN.{length}
@@ -9,12 +8,6 @@ use Rattle.fracture.proofs.Search.{inside-said}
 use Rattle.fracture.proofs.Judged.{Numbered, entry-within, verdict-outside, verdict-shot, weighable-x, weighable-y, verdict-vertical, verdict-horizontal}
 use Rattle.fracture.proofs.judging.judge.Statement.{statement}
 use Rattle.fracture.proofs.judging.judge.Tie as tie
-use Rattle.fracture.proofs.judging.judge.Reads as reads
-use Rattle.fracture.proofs.judging.judge.Lts as lts
-use Rattle.fracture.proofs.judging.first_line.Reads as first-line-reads
-use Rattle.fracture.proofs.judging.all_inside.Reads as all-inside-reads
-use Rattle.table.proofs.numbering.pair_count.Reads as pair-count-reads
-use Rattle.table.proofs.numbering.pair_number.Reads as pair-number-reads
 
 -- the function's entry, from where the pair numbers are found
 abbrev entry : tie.After-pair-count → tie.Start

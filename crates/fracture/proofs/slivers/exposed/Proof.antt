@@ -1,10 +1,9 @@
 -- `fracture::slivers::exposed` meets its contract. The loop's invariant: the sum is the exposed length of the stretches passed.
 -- Assumes nothing.
-use Prim.Native.Nat.{_≤_, _<_, _*_, _-_, _+_}
+use Prim.Native.Nat.{_≤_, _*_, _-_}
 use mathlib.Core.Path.{_≡_}
 use native.Mathlib.Omega.{arith}
 use borrow.Author.Needs.{needs}
-use lib.ListN.{length}
 use Rattle.fracture.specs.Sides.{exposedIn}
 use Rattle.fracture.proofs.Sides.{exposed-none, exposed-more, exposed-all}
 use Rattle.fracture.proofs.slivers.exposed.Statement.{statement}

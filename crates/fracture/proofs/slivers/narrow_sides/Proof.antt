@@ -1,15 +1,10 @@
 -- `fracture::slivers::narrow_sides` meets its contract. Assumes nothing.
-use Prim.Native.Nat.{_+_, _*_, _-_, _%_, _<_}
+use Prim.Native.Nat.{_+_, _-_, _%_}
 use native.Mathlib.Omega.{arith}
 use borrow.Author.Needs.{needs}
-use lib.ListN.{length}
 use Rattle.fracture.proofs.Lengths.{lies-low, lies-high, narrow-none, narrow-both}
 use Rattle.fracture.proofs.slivers.narrow_sides.Statement.{statement}
 use Rattle.fracture.proofs.slivers.narrow_sides.Tie as tie
-use Rattle.fracture.proofs.slivers.narrow_sides.Reads as reads
-use Rattle.fracture.proofs.slivers.narrow_sides.Lts as lts
-use Rattle.fracture.proofs.slivers.exposed.Reads as exposed-reads
-use Rattle.outline.proofs.place_of.Reads as place-of-reads
 
 -- the function's entry
 abbrev entry : tie.After-to → tie.Start

@@ -1,12 +1,8 @@
 -- `fracture::slivers::sliver_of` meets its contract. Assumes nothing.
-use native.Mathlib.Omega.{arith}
 use borrow.Author.Needs.{needs}
 use Rattle.fracture.proofs.Lengths.{banded-x, banded-y, sliver-sides}
 use Rattle.fracture.proofs.slivers.sliver_of.Statement.{statement}
 use Rattle.fracture.proofs.slivers.sliver_of.Tie as tie
-use Rattle.fracture.proofs.slivers.sliver_of.Reads as reads
-use Rattle.fracture.proofs.slivers.sliver_of.Lts as lts
-use Rattle.fracture.proofs.slivers.narrow_sides.Reads as narrow-sides-reads
 
 narrow-sides-requires : tie.Need-narrow-sides-requires
 narrow-sides-requires c κs = banded-x _ _ _ _ _ (c .before .before .before .before .before .before .before .pre .shown)
