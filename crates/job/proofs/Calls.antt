@@ -2,23 +2,20 @@
 --
 --   whole-long, whole-fault, whole-header == what `whole` is, by what the job is
 --   checked-fault, checked-read == checking a job, by `whole`
-use Prim.Native.Nat.{ℕ, suc, _+_, _-_, _*_, _<_, _≤_}
-use mathlib.Core.Path.{_≡_, _∙_, refl, sym, ap, ap₂, subst}
-use mathlib.Core.List.{List, [], _∷_}
-use mathlib.Core.Bool.{Bool, true, false, cond, _&&_}
+use Prim.Native.Nat.{ℕ, _-_, _<_, _≤_}
+use mathlib.Core.Path.{_≡_, _∙_, refl, sym, ap, ap₂}
+use mathlib.Core.List.{List, []}
 use native.Mathlib.Omega.{arith}
-use lib.Dec.{leb, ltb}
 use lib.ListN.{length, getD, take, drop}
-use borrow.Author.Tests.{le-leb, lt-leb, lt-ltb, le-ltb, ltb-true, ltb-false}
+use borrow.Author.Tests.{lt-ltb, le-ltb}
 use Rattle.number.specs.declared.Refusal.{Refusal}
-use Rattle.number.specs.declared.Refusal.the-variants.{Range, Extra, Long}
-use Rattle.number.specs.Reading.{Reading, read, fault, andThen, many, past, refusalNo}
+use Rattle.number.specs.Reading.{Reading, read, fault, andThen, past, refusalNo}
 use Rattle.number.proofs.Number.{apart}
 use Rattle.number.proofs.Reading.{then-same, then-inv, past-fault, past-read, many-length, many-nth}
-use Rattle.job.specs.Job.{value, coordinates, outline, Part, part, outlines, header, Header, filled, body, job, Job}
+use Rattle.job.specs.Job.{outline, Part, part, outlines, header, Header, job, Job}
 use Rattle.job.specs.Steps.{whole, located}
-use Rattle.job.specs.Calls.{CheckSaid, jobSaid, checked, TakeSaid, told, partBytes, noPart, partTaken, taken}
-use Rattle.job.proofs.Job.{Whole, job-whole, part-read, outline-onward}
+use Rattle.job.specs.Calls.{CheckSaid, jobSaid, checked, told, partBytes, noPart, partTaken, taken}
+use Rattle.job.proofs.Job.{job-whole, part-read, outline-onward}
 
 module _ (s : List ℕ) where
   pub whole-fault : {r : Refusal} {p : ℕ} → job s ≡ fault r p → fault r p ≡ whole s

@@ -3,17 +3,17 @@
 --   value-fault, value-under, value-over, value-in == a number held to its range
 --   value-range       == a value that is read lies in its range
 --   outline-fault, outline-go == an outline, by its V
-use Prim.Native.Nat.{ℕ, suc, _+_, _-_, _*_, _<_, _≤_}
+use Prim.Native.Nat.{ℕ, _-_, _*_, _<_, _≤_}
 use mathlib.Core.Path.{_≡_, _∙_, refl, sym, ap, ap₂, subst}
-use mathlib.Core.List.{List, [], _∷_}
+use mathlib.Core.List.{List}
 use mathlib.Core.Bool.{Bool, true, false, cond, _&&_}
 use native.Mathlib.Omega.{arith}
 use lib.Dec.{leb, ltb}
 use lib.ListN.{length}
-use borrow.Author.Tests.{le-leb, lt-leb, leb-true, leb-false, lt-ltb, le-ltb, ltb-true, ltb-false}
+use borrow.Author.Tests.{le-leb, lt-leb, leb-true, lt-ltb, le-ltb, ltb-false}
 use Rattle.number.specs.declared.Refusal.{Refusal}
 use Rattle.number.specs.declared.Refusal.the-variants.{Range, Extra, Long}
-use Rattle.number.specs.Reading.{Reading, read, fault, andThen, many, past}
+use Rattle.number.specs.Reading.{Reading, read, fault, andThen, past}
 use Rattle.number.specs.Number.{number}
 use Rattle.number.proofs.Number.{apart}
 use Rattle.number.proofs.Bytes.{number-onward}

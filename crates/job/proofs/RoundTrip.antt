@@ -16,18 +16,18 @@ use mathlib.Core.List.{List, [], _∷_, _++_, map}
 use mathlib.Core.Bool.{cond}
 use native.Mathlib.Nat.{add-zero, add-assoc, le-of-suc-le-suc, not-suc-le-zero}
 use native.Mathlib.Omega.{arith}
-use lib.Dec.{ltb, leb}
+use lib.Dec.{ltb}
 use lib.ListN.{length, getD, take, drop, length-append, length-map}
 use lib.Seq.{take-all}
 use borrow.Author.Tests.{lt-ltb, le-ltb, le-leb}
 use Rattle.number.specs.declared.Refusal.the-variants.{Extra}
-use Rattle.number.specs.Reading.{Reading, read, fault, andThen, many}
+use Rattle.number.specs.Reading.{read, fault, andThen, many}
 use Rattle.number.specs.Number.{most, number, numberBytes}
 use Rattle.number.proofs.Bytes.{Stands, AllBytes, stands-join, stands-front, stands-back, stands-whole, number-back, number-only}
 use Rattle.number.proofs.Reading.{then-same, then-inv, many-first, many-length}
 use Rattle.job.specs.Bytes.{coordinateBytes, headerBytes, outlineBytes, outlinesBytes, jobBytes}
-use Rattle.job.specs.Job.{value, coordinates, outline, Part, part, outlines, Header, header, filled, body, Job, job}
-use Rattle.job.proofs.Job.{value-in, value-read, header-read, job-made, part-read, Whole, job-whole}
+use Rattle.job.specs.Job.{value, coordinates, outline, Part, part, outlines, Header, header, filled, Job, job}
+use Rattle.job.proofs.Job.{value-in, value-read, header-read, job-made, part-read, job-whole}
 use Rattle.job.specs.Calls.{noPart, partBytes, partTaken, taken, told, jobSaid, checked, partUnpacked, unpacked}
 
 -- a list that can be written as an outline

@@ -4,21 +4,20 @@
 --   Storing          == the state of the loop that stores coordinates: what is stored and what is still to be read give the whole
 --   storing-start, storing-more, storing-never, storing-done == the loop's ways
 --   unpacked-..      == the cases of `unpacked`
-use Prim.Native.Nat.{ℕ, zero, suc, _+_, _-_, _*_, _/_, _<_, _≤_}
+use Prim.Native.Nat.{ℕ, suc, _+_, _-_, _*_, _/_, _<_, _≤_}
 use mathlib.Core.Path.{_≡_, _∙_, refl, sym, ap, ap₂, subst}
 use mathlib.Core.List.{List, [], _∷_, _++_, append-assoc}
-use mathlib.Core.Bool.{Bool, true, false, cond}
+use mathlib.Core.Bool.{cond}
 use native.Mathlib.Nat.{sub-zero}
 use native.Mathlib.Numerals.{add-one}
 use native.Mathlib.Omega.{arith}
-use lib.Dec.{leb, ltb}
-use lib.ListN.{length, getD, take, drop, set, length-set, take-append-drop}
+use lib.Dec.{ltb}
+use lib.ListN.{length, take, drop, set, length-set, take-append-drop}
 use lib.Seq.{take-suc-set, drop-set-lt, drop-drop}
 use borrow.Author.Tests.{le-leb, lt-leb, lt-ltb, le-ltb}
 use Rattle.number.specs.declared.Refusal.{Refusal}
 use Rattle.number.specs.declared.Refusal.the-variants.{Extra}
 use Rattle.number.specs.Reading.{Reading, read, fault, andThen, many, past, refusalNo}
-use Rattle.number.proofs.Number.{apart}
 use Rattle.number.proofs.Reading.{then-same, many-length, past-read, past-fault}
 use Rattle.job.specs.Job.{value, coordinates, outline, filled}
 use Rattle.job.specs.Steps.{IsRead, valuesOf}

@@ -8,21 +8,19 @@
 --   sizes-more, put-room, put-more, put-done == the loops over the coordinates
 --   written-room, written-fits == bytes that do not fit the buffer, and bytes that do
 --   header-.., outline-.. == the cases of `headerWritten` and `outlineWritten`
-use Prim.Native.Nat.{ℕ, zero, suc, _+_, _-_, _*_, _/_, _%_, _<_, _≤_}
-use mathlib.Core.Path.{_≡_, _∙_, refl, sym, ap, ap₂, subst}
-use mathlib.Core.List.{List, [], _∷_, _++_, append-assoc}
-use mathlib.Core.Bool.{Bool, true, false, cond, _&&_, _||_, or-true}
+use Prim.Native.Nat.{ℕ, suc, _+_, _-_, _/_, _%_, _<_, _≤_}
+use mathlib.Core.Path.{_≡_, _∙_, refl, sym, ap, ap₂}
+use mathlib.Core.List.{List, [], _∷_, _++_}
+use mathlib.Core.Bool.{true, false, or-true}
 use native.Mathlib.Nat.{add-zero, add-suc, suc-add}
 use native.Mathlib.Numerals.{add-one}
 use native.Mathlib.Omega.{arith}
-use lib.Dec.{leb, ltb, eqb}
-use lib.ListN.{length, getD, take, drop, set, length-append, drop-of-length-le}
-use lib.Seq.{sets, sets-eq, length-sets, drop-cons}
-use borrow.Author.Tests.{le-leb, lt-leb, lt-ltb, le-ltb, leb-true, ltb-true, ltb-false, eq-eqb, ne-eqb}
-use Rattle.number.specs.Number.{numberBytes, most}
-use Rattle.number.proofs.Bytes.{bytes-one, bytes-two, bytes-three, bytes-length}
-use Rattle.rule.specs.Rules.{inRange, ruleTold, given, refused, Told}
-use Rattle.rule.specs.declared.Rule.{Rule}
+use lib.ListN.{length, getD, drop, set, length-append, drop-of-length-le}
+use lib.Seq.{sets, sets-eq, drop-cons}
+use borrow.Author.Tests.{le-leb, lt-leb, lt-ltb, le-ltb, eq-eqb, ne-eqb}
+use Rattle.number.specs.Number.{numberBytes}
+use Rattle.number.proofs.Bytes.{bytes-one, bytes-two, bytes-three}
+use Rattle.rule.specs.Rules.{inRange}
 use Rattle.job.specs.Bytes.{coordinateBytes, headerBytes, outlineBytes}
 use Rattle.job.specs.Calls.{WriteSaid, unwritten, writtenTo, headerWritten, outlineWritten}
 use Rattle.outline.specs.Corners.{badLength, odd}

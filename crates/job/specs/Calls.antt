@@ -12,7 +12,6 @@ use mathlib.Core.List.{List, [], _++_}
 use mathlib.Core.Bool.{cond}
 use lib.ListN.{length, getD, take, drop}
 use lib.Dec.{ltb, leb}
-use Rattle.number.specs.declared.Refusal.{Refusal}
 use Rattle.number.specs.declared.Refusal.the-variants.{Missing, Room}
 use Rattle.number.specs.Reading.{Reading, read, fault, refusalNo}
 use Rattle.rule.specs.Rules.{inRange}
@@ -30,6 +29,7 @@ use Rattle.job.specs.declared.write.Written.the-variants as write
 
 -- check a whole job
 
+-- document 01's number, the header's three numbers, and the offset
 pub record CheckSaid : Type 0 where
   pub number : ℕ
   pub threshold : ℕ
@@ -47,12 +47,14 @@ jobSaid (fault r at) = record { number = refusalNo r; threshold = 0; weight = 0;
 unfoldable pub checked : List ℕ → CheckSaid
 checked s = jobSaid (job s)
 
+-- each answer of the code
 abbrev pub checkTold : Checked → CheckSaid
 checkTold (check.Job t w k) = record { number = 0; threshold = t; weight = w; outlines = k; offset = 0 }
 checkTold (check.Refused r at) = record { number = refusalNo r; threshold = 0; weight = 0; outlines = 0; offset = at }
 
 -- take outline k
 
+-- the two numbers lent, and the part handed back
 pub record TakeSaid : Type 0 where
   pub number : ℕ
   pub offset : ℕ
@@ -66,6 +68,7 @@ told n at l = record { number = n; offset = at; part = l }
 abbrev pub partBytes : List ℕ → Part → List ℕ
 partBytes s p = take (p .end - p .start) (drop (p .start) s)
 
+-- what stands past the last part
 abbrev pub noPart : Part
 noPart = record { start = 0; end = 0; corners = [] }
 
@@ -83,6 +86,7 @@ taken s k = partTaken s k (job s)
 
 -- unpack a part
 
+-- document 01's number, V, the offset, and the list afterwards
 pub record UnpackSaid : Type 0 where
   pub number : ℕ
   pub corners : ℕ
@@ -101,12 +105,14 @@ partUnpacked l (fault r at) = record { number = refusalNo r; corners = 0; offset
 unfoldable pub unpacked : List ℕ → List ℕ → UnpackSaid
 unpacked p l = partUnpacked l (filled p (outline p 0))
 
+-- each answer of the code, with the list afterwards
 abbrev pub unpackTold : Unpacked → List ℕ → UnpackSaid
 unpackTold (unpack.Corners n) l = record { number = 0; corners = n; offset = 0; list = l }
 unpackTold (unpack.Refused r at) l = record { number = refusalNo r; corners = 0; offset = at; list = l }
 
 -- write
 
+-- document 01's number, the bytes written, and the buffer afterwards
 pub record WriteSaid : Type 0 where
   pub number : ℕ
   pub bytes : ℕ
@@ -132,12 +138,14 @@ headerWritten t w k out =
 unfoldable pub outlineWritten : List ℕ → List ℕ → WriteSaid
 outlineWritten l out = cond (badLength l) (unwritten 2 out) (writtenTo out (outlineBytes l))
 
+-- document 01's number of each refusal of a writer
 abbrev pub unwritableNo : Unwritable → ℕ
 unwritableNo unwritable.Rule = 1
 unwritableNo unwritable.Length = 2
 unwritableNo unwritable.Outlines = 10
 unwritableNo unwritable.Room = 14
 
+-- each answer of the code, with the buffer afterwards
 abbrev pub writeTold : Written → List ℕ → WriteSaid
 writeTold (write.Bytes n) out = record { number = 0; bytes = n; out = out }
 writeTold (write.Refused u) out = unwritten (unwritableNo u) out

@@ -44,6 +44,7 @@ part s at = andThen (outline s at) (λ l next. read (record { start = at; end = 
 unfoldable pub outlines : List ℕ → ℕ → ℕ → Reading (List Part)
 outlines s k at = many (part s) k at
 
+-- threshold, weight and K
 pub record Header : Type 0 where
   pub threshold : ℕ
   pub weight : ℕ
@@ -56,6 +57,7 @@ header s =
     (λ t p. andThen (value s 0 1000 p)
     (λ w q. andThen (value s 0 255 q) (λ k next. read (record { threshold = t; weight = w; count = k }) next)))
 
+-- threshold, weight and the outlines, with where they stand
 pub record Job : Type 0 where
   pub threshold : ℕ
   pub weight : ℕ

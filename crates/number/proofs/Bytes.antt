@@ -10,7 +10,7 @@
 --   number-back      == a number's bytes are read as that number, up to the place past them
 --   number-only      == what is read as a number is that number's bytes: it has one form
 --   number-onward    == a number that is read ends within the bytes, past its start
-use Prim.Native.Nat.{ℕ, zero, suc, _+_, _-_, _*_, _/_, _%_, _<_, _≤_, min}
+use Prim.Native.Nat.{ℕ, suc, _+_, _-_, _*_, _/_, _%_, _<_, _≤_}
 use mathlib.Core.Path.{_≡_, _∙_, refl, subst, ap, ap₂, sym}
 use mathlib.Core.List.{List, [], _∷_, _++_}
 use mathlib.Core.Bool.{Bool, true, false, cond, _&&_, false≢true}
@@ -20,9 +20,8 @@ use native.Mathlib.Omega.{arith}
 use lib.Dec.{ltb, leb, eqb}
 use lib.ListN.{length, getD, take, drop, length-take, length-drop, length-append}
 use lib.Seq.{drop-cons, getD-take, getD-drop, take-add, take-append-seam, drop-append-seam, take-take, take-length, drop-drop, drop-at}
-use borrow.Author.Tests.{ltb-true, ltb-false, leb-true, leb-false, eqb-false, eqb-true, lt-ltb, le-ltb}
-use Rattle.number.specs.declared.Refusal.{Refusal}
-use Rattle.number.specs.declared.Refusal.the-variants.{Ends, Padded, Range}
+use borrow.Author.Tests.{ltb-true, ltb-false, leb-true, leb-false, eqb-false, lt-ltb, le-ltb}
+use Rattle.number.specs.declared.Refusal.the-variants.{Ends, Padded}
 use Rattle.number.specs.Reading.{Reading, read, fault}
 use Rattle.number.specs.Number.{most, group, groups, number, numberBytes}
 use Rattle.number.proofs.Number.{number-one, number-two, number-three}

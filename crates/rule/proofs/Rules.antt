@@ -7,7 +7,7 @@
 --   preset-product   == weight times threshold is 1,000 in every row, by one test computed over the table
 --   made-one, row-one == two answers that tell the same are the same
 use Prim.Native.Nat.{ℕ, zero, suc, _*_, _<_, _≤_}
-use mathlib.Core.Path.{_≡_, refl, subst, sym, ap, _∙_}
+use mathlib.Core.Path.{_≡_, refl, ap}
 use mathlib.Core.List.{List, [], _∷_}
 use mathlib.Core.Bool.{Bool, true, false, cond, _&&_, false≢true}
 use native.Mathlib.Nat.{le-of-suc-le-suc, not-suc-le-zero}
