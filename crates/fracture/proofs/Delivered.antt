@@ -2,6 +2,7 @@
 --
 --   area-few                      : a grid has at most 225 cells
 --   room-all, room-fits, room-short : a number for each of four for each cell; room for the count; and not
+--   whole-aside, whole-emittable  : the frame's shots have room in 900 numbers, and in a list that has enough
 --   told-lacking, told-listed     : the answer of a list that is too short, and of one that is not
 use Prim.Native.Nat.{ℕ, _*_, _-_, _≤_, _<_}
 use mathlib.Core.Path.{_≡_, refl, ap, ap₂, sym, _∙_, subst}
@@ -31,7 +32,7 @@ use Rattle.fracture.specs.Memory.{Filled}
 use Rattle.fracture.specs.Emission.{Written, Walk, Emittable}
 use Rattle.fracture.specs.Delivery.{roomOf, all, listed, lacking, delivered}
 use Rattle.fracture.specs.Told.{reason, told}
-use Rattle.fracture.proofs.Emitted.{count-cells}
+use Rattle.fracture.proofs.Emitted.{count-cells, count-few}
 
 pub room-fits : (n : ℕ) {m l : ℕ} → m ≡ l → 4 * m ≤ n → Enough ≡ roomOf n l
 unfolding roomOf
@@ -103,15 +104,14 @@ module _ (g : Grid) (r : Rule) (t cs xs ys : List ℕ) (plan : Plan) (w : Walk g
   same : shots g r q ≡ shots g r (frame g)
   same = ap (shots g r) (e ∙ frame-is g r t cs plan (w .filled))
 
+  whole-fits : (n : ℕ) → 4 * length (shots g r q) ≤ n → Emittable t cs xs ys n plan 0 q
+  whole-fits n h = record { grid = g; rule = r; walk = w; valid = whole-valid; fits = omega arith }
+
+  pub whole-aside : Emittable t cs xs ys 900 plan 0 q
+  whole-aside = whole-fits 900 (omega (arith, count-few g r t cs plan (w .filled) q whole-valid))
+
   pub whole-emittable : {n : ℕ} → Enough ≡ roomOf n (length (shots g r q)) → Emittable t cs xs ys n plan 0 q
-  whole-emittable {n} h =
-      record {
-        grid = g;
-        rule = r;
-        walk = w;
-        valid = whole-valid;
-        fits = omega (arith, enough-says n (length (shots g r q)) h);
-      }
+  whole-emittable {n} h = whole-fits n (enough-says n (length (shots g r q)) h)
 
   pub told-lacking : (list : List ℕ) {k : ℕ} → Short k ≡ roomOf (length list) (length (shots g r q))
       → told (Refused (because.List k)) t list ≡ delivered g r t list

@@ -194,10 +194,10 @@ count-cells g r p =
 
 -- the parts, as the code has made them
 module _ (g : Grid) (r : Rule) (plan : Plan) (p : Piece) (k : Direction) (h : Halves g r plan p k) where
-  pub low-valid : {q₁ : Piece} → q₁ ≡ lowPart p k → Valid (plan .columns) (plan .rows) q₁
+  low-valid : {q₁ : Piece} → q₁ ≡ lowPart p k → Valid (plan .columns) (plan .rows) q₁
   low-valid a = subst (Valid (plan .columns) (plan .rows)) (sym a) (h .low)
 
-  pub high-valid : {q₂ : Piece} → q₂ ≡ highPart p k → Valid (plan .columns) (plan .rows) q₂
+  high-valid : {q₂ : Piece} → q₂ ≡ highPart p k → Valid (plan .columns) (plan .rows) q₂
   high-valid b = subst (Valid (plan .columns) (plan .rows)) (sym b) (h .high)
 
   pub low-less : {q₁ : Piece} {n : ℕ} → q₁ ≡ lowPart p k → cells p ≡ n → cells q₁ < n

@@ -3,7 +3,6 @@ use super::Fractured;
 use super::Piece;
 use super::Plan;
 use super::Refusal;
-use super::emission::count;
 use super::emission::emit;
 use outline::Line;
 use table::numbering::entry;
@@ -12,11 +11,10 @@ ghost use Prim.Native.Nat.{ℕ, _+_, _*_, _<_, _≤_};
 ghost use lib.ListN.{length};
 ghost use Rattle.outline.specs.Grid.{Grid};
 ghost use Rattle.rule.specs.declared.Rule.{Rule};
-ghost use Rattle.piece.specs.Piece.{box, frame};
+ghost use Rattle.piece.specs.Piece.{box};
 ghost use Rattle.piece.specs.Straight.{shots};
 ghost use Rattle.fracture.specs.Verdict.{meant};
-ghost use Rattle.fracture.specs.Memory.{Filled, Ready};
-ghost use Rattle.fracture.specs.Emission.{Walk};
+ghost use Rattle.fracture.specs.Emission.{Walk, Emittable};
 ghost use Rattle.fracture.specs.Delivery.{roomOf, Walkable, delivered};
 ghost use Rattle.fracture.specs.Told.{told};
 
@@ -40,17 +38,28 @@ fn whole(plan: Plan) -> Piece
     }
 }
 
-// Whether so many numbers have room for the shots of the frame. There are no more shots than cells, so most lists need no count.
-fn room_for(costs: &[u32], cells: &[u8], plan: Plan, frame: Piece, numbers: usize) -> Room
-    requires { ⌜ Ready (now costs) (now cells) plan (meant frame) ⌝ }
-    ensures { λ a. ⌜ ((g : Grid) (r : Rule) → Filled g r (now (costs .entry)) (now (cells .entry)) plan → a ≡ roomOf numbers (length (shots g r (meant frame)))) ⌝ }
+// Whether so many numbers have room for the shots of the frame. There are no more shots than cells, so most lists need no count; for
+// the others the shots are written aside, where 900 numbers are room for those of any grid.
+fn room_for(
+    costs: &[u32],
+    cells: &[u8],
+    xs: &[u16],
+    ys: &[u16],
+    plan: Plan,
+    frame: Piece,
+    numbers: usize,
+) -> Room
+    requires { ⌜ Emittable (now costs) (now cells) (now xs) (now ys) 900 plan 0 (meant frame) ⌝ }
+    ensures { λ a. ⌜ ((g : Grid) (r : Rule) → Walk g r (now (costs .entry)) (now (cells .entry)) (now (xs .entry)) (now (ys .entry)) plan → a ≡ roomOf numbers (length (shots g r (meant frame)))) ⌝ }
 {
     let columns = plan.columns;
     let rows = plan.rows;
     if 4 * (columns * rows) <= numbers {
         return Room::Enough;
     }
-    let needed = count(costs, cells, plan, frame);
+    let mut aside = [0u16; 900];
+    let tally = emit(costs, cells, xs, ys, &mut aside, plan, 0, frame);
+    let needed = tally.shots;
     if numbers < 4 * needed {
         Room::Short(needed)
     } else {
@@ -71,7 +80,7 @@ pub fn deliver(
     ensures { λ a. ⌜ ((g : Grid) (r : Rule) → Walk g r (now (costs .entry)) (now (cells .entry)) (now (xs .entry)) (now (ys .entry)) plan → told a (now (costs .entry)) (now (list .exit)) ≡ delivered g r (now (costs .entry)) (now (list .entry))) ⌝ }
 {
     let frame = whole(plan);
-    let room = room_for(costs, cells, plan, frame, list.len());
+    let room = room_for(costs, cells, xs, ys, plan, frame, list.len());
     match room {
         Room::Short(needed) => Fractured::Refused(Refusal::List(needed as u32)),
         Room::Enough => {

@@ -1,4 +1,4 @@
-// Emission: the shots of a piece, written in list order or counted.
+// Emission: the shots of a piece, written in list order.
 use super::Direction;
 use super::Piece;
 use super::Plan;
@@ -15,7 +15,7 @@ ghost use Rattle.outline.specs.Grid.{Grid};
 ghost use Rattle.rule.specs.declared.Rule.{Rule};
 ghost use Rattle.piece.specs.Straight.{shots};
 ghost use Rattle.fracture.specs.Verdict.{meant, lowPart, highPart};
-ghost use Rattle.fracture.specs.Memory.{Filled, Ready, Shown, Seen};
+ghost use Rattle.fracture.specs.Memory.{Shown, Seen};
 ghost use Rattle.fracture.specs.Emission.{InLists, Written, Walk, Emittable};
 
 // Shots that were written: how many, and their sliver length together, in nm.
@@ -110,22 +110,6 @@ pub fn emit(
                 shots: low.shots + high.shots,
                 sliver: low.sliver + high.sliver,
             }
-        }
-    }
-}
-
-// How many shots a piece is cut into; nothing is written.
-pub fn count(costs: &[u32], cells: &[u8], plan: Plan, p: Piece) -> usize
-    requires { ⌜ Ready (now costs) (now cells) plan (meant p) ⌝ }
-    ensures { λ n. ⌜ ((g : Grid) (r : Rule) → Filled g r (now (costs .entry)) (now (cells .entry)) plan → n ≡ length (shots g r (meant p))) ⌝ }
-{
-    let verdict = judge(costs, cells, plan, p);
-    match verdict {
-        Verdict::Outside => 0,
-        Verdict::Shot => 1,
-        Verdict::Cut(cut) => {
-            count(costs, cells, plan, low_part(p, cut))
-                + count(costs, cells, plan, high_part(p, cut))
         }
     }
 }

@@ -5,7 +5,7 @@ use native.Mathlib.Omega.{arith}
 use borrow.Author.Needs.{needs}
 use lib.ListN.{length}
 use Rattle.fracture.proofs.Emitted.{count-few}
-use Rattle.fracture.proofs.Delivered.{whole-valid, whole-emittable, short-says, told-lacking, told-listed}
+use Rattle.fracture.proofs.Delivered.{whole-valid, whole-aside, whole-emittable, short-says, told-lacking, told-listed}
 use Rattle.fracture.proofs.delivery.deliver.Statement.{statement}
 use Rattle.fracture.proofs.delivery.deliver.Tie as tie
 
@@ -14,13 +14,7 @@ whole-requires c κs = search needs
 
 room-for-requires : tie.Need-room-for-requires
 room-for-requires c κs =
-    let w = c .before .before .before .before .before .before .pre in
-    record {
-      grid = w .grid;
-      rule = w .rule;
-      filled = w .walk .filled;
-      valid = whole-valid _ _ _ _ _ _ _ (w .walk) _ (c .whole .ensures);
-    }
+    whole-aside _ _ _ _ _ _ _ (c .before .before .before .before .before .before .pre .walk) _ (c .whole .ensures)
 
 enum-known-room : tie.Need-enum-known-room
 enum-known-room c = search needs
@@ -28,7 +22,7 @@ enum-known-room c = search needs
 cast-t17 : tie.Need-cast-t17
 cast-t17 c =
     let w = c .before .before .before .before .before .before .before .before .before .before .pre in
-    let s = short-says _ _ _ (sym (c .before .room .given .1) ∙ c .before .before .before .room-for .ensures (w .grid) (w .rule) (w .walk .filled)) in
+    let s = short-says _ _ _ (sym (c .before .room .given .1) ∙ c .before .before .before .room-for .ensures (w .grid) (w .rule) (w .walk)) in
     omega (arith, s .0, count-few _ _ _ _ _ (w .walk .filled) _ (whole-valid _ _ _ _ _ _ _ (w .walk) _ (c .before .before .before .before .whole .ensures)))
 
 enum-told : tie.Need-enum-told
@@ -38,7 +32,7 @@ emit-requires : tie.Need-emit-requires
 emit-requires c κs =
     let w = c .before .before .before .before .before .before .before .before .before .before .pre in
     whole-emittable _ _ _ _ _ _ _ (w .walk) _ (c .before .before .before .before .whole .ensures)
-    (sym (c .before .enum-told .given .1) ∙ c .before .before .before .room-for .ensures (w .grid) (w .rule) (w .walk .filled))
+    (sym (c .before .enum-told .given .1) ∙ c .before .before .before .room-for .ensures (w .grid) (w .rule) (w .walk))
 
 entry-requires : tie.Need-entry-requires
 entry-requires c κs =
@@ -54,7 +48,8 @@ within : (c : tie.After-entry) → c .entry .result < length (c .before .before 
 within c = let f = c .before .before .before .before .before .before .before .before .before .before .before .before .before .before .pre .walk .filled in omega (arith, c .entry .ensures .1, f .entries)
 
 mul-cost : tie.Need-mul-cost
-mul-cost c = omega (arith, within c)
+mul-cost c =
+    omega (arith, within c, c .before .before .before .before .before .before .before .before .before .before .before .before .before .before .good .0)
 
 shared-slice-read-cost : tie.Need-shared-slice-read-cost
 shared-slice-read-cost c = within (c .before)
@@ -71,7 +66,7 @@ cast-t23 c =
 returns : tie.Need-returns
 returns c g r w =
     told-lacking _ _ _ _ _ _ _ w _ (c .before .before .before .before .whole .ensures) _
-    (sym (c .before .room .given .1) ∙ c .before .before .before .room-for .ensures g r (w .filled))
+    (sym (c .before .room .given .1) ∙ c .before .before .before .room-for .ensures g r w)
 
 same-length : tie.Need-same-length
 same-length c = search needs
@@ -79,7 +74,7 @@ same-length c = search needs
 returns-2 : tie.Need-returns-2
 returns-2 c g r w =
     told-listed _ _ _ _ _ _ _ w _ (c .before .before .before .before .before .before .before .before .before .before .whole .ensures) _ _ _
-    (sym (c .before .before .before .before .before .before .before .enum-told .given .1) ∙ c .before .before .before .before .before .before .before .before .before .room-for .ensures g r (w .filled))
+    (sym (c .before .before .before .before .before .before .before .enum-told .given .1) ∙ c .before .before .before .before .before .before .before .before .before .room-for .ensures g r w)
     (c .before .before .before .before .before .emit .ensures g r w)
     (c .before .before .entry .ensures .0)
     refl

@@ -7,27 +7,44 @@ use Rattle.fracture.proofs.delivery.room_for.Statement.{statement}
 use Rattle.fracture.proofs.delivery.room_for.Tie as tie
 
 mul-if1 : tie.Need-mul-if1
-mul-if1 c = omega (arith, area-few _ _ _ _ _ (c .before .before .pre .filled))
+mul-if1 c = omega (arith, area-few _ _ _ _ _ (c .before .before .before .before .pre .walk .filled))
 
 mul-if1-2 : tie.Need-mul-if1-2
-mul-if1-2 c = omega (arith, area-few _ _ _ _ _ (c .before .before .pre .filled))
+mul-if1-2 c = omega (arith, area-few _ _ _ _ _ (c .before .before .before .before .pre .walk .filled))
 
 returns : tie.Need-returns
-returns c g r f = room-all g r _ _ _ f _ (c .before .before .before .pre .valid) _ (c .if1 .taken)
+returns c g r w = room-all g r _ _ _ (w .filled) _ (c .before .before .before .before .before .pre .valid) _ (c .if1 .taken)
 
-count-requires : tie.Need-count-requires
-count-requires c κs = search needs
+slice-aggregate-emit : tie.Need-slice-aggregate-emit
+slice-aggregate-emit c = search needs
+
+emit-requires : tie.Need-emit-requires
+emit-requires c κs = search needs
 
 mul-if2 : tie.Need-mul-if2
 mul-if2 c =
-    let w = c .before .before .before .before .pre in
-    omega (arith, c .count .ensures (w .grid) (w .rule) (w .filled), count-few _ _ _ _ _ (w .filled) _ (w .valid))
+    let e = c .before .before .before .before .before .before .before .before .pre in
+    omega (
+      arith,
+      c .before .emit .ensures (e .grid) (e .rule) (e .walk) .count,
+      count-few _ _ _ _ _ (e .walk .filled) _ (e .valid),
+    )
 
 returns-2 : tie.Need-returns-2
-returns-2 c g r f = room-short _ (c .before .count .ensures g r f) (c .if2 .taken)
+returns-2 c g r w = room-short _ (c .before .before .emit .ensures g r w .count) (c .if2 .taken)
 
 returns-3 : tie.Need-returns-3
-returns-3 c g r f = room-fits _ (c .before .count .ensures g r f) (c .if2 .left)
+returns-3 c g r w = room-fits _ (c .before .before .emit .ensures g r w .count) (c .if2 .left)
 
 pub room-for-spec : {M : Type 1} → statement M
-room-for-spec = tie.close (tie.spec mul-if1 mul-if1-2 returns count-requires mul-if2 returns-2 returns-3)
+room-for-spec =
+    tie.close
+    (tie.spec
+    mul-if1
+    mul-if1-2
+    returns
+    slice-aggregate-emit
+    emit-requires
+    mul-if2
+    returns-2
+    returns-3)
