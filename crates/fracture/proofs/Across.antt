@@ -20,7 +20,6 @@ use Rattle.fracture.specs.declared.judging.Cuts.{Cuts}
 
 pub record At (s : Cuts) (j l u : ℕ) : Type 0 where
   pub above : s .low .0 < j
-  pub most : j ≤ s .high .0
   pub lower : l ≡ pairNo (s .last) (s .low .0) j
   pub upper : u + 1 ≡ pairsBelow (s .last) j + (s .high .0 - j)
 
@@ -44,7 +43,6 @@ module _ (t : List ℕ) (s : Cuts) (w : Weighable t s) where
   at-first =
       record {
         above = omega arith;
-        most = omega (arith, w .ordered);
         lower = omega (arith, w .ordered, w .whole);
         upper = omega (arith, w .ordered, w .some, w .whole, below-next (s .last) (s .low .0));
       }
@@ -55,7 +53,6 @@ module _ (t : List ℕ) (s : Cuts) (w : Weighable t s) where
     at-next =
         record {
           above = omega (arith, at .above);
-          most = omega arith;
           lower = omega (arith, at .above, at .lower);
           upper = omega (arith, at .upper, w .some, below-next (s .last) j);
         }

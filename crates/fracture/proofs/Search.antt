@@ -5,14 +5,13 @@
 --   passed-more   : one more that does not have it
 --   first-here    : the first that has it
 --   first-none    : none has it
---   Sought, sought-none, sought-here, sought-past, sought-first : a search that goes on until it has found one
 --   Clear         == every cell of the columns passed is inside
 --   clear-none, clear-more, inside-all : no column passed, one more, all of them
 --   inside-not      : a column with a hole
 --   inside-said    : by what a test says of the answer
 -- Assumes nothing.
 use Prim.Native.Nat.{ℕ, _+_, _*_, _≤_, _<_}
-use mathlib.Core.Path.{_≡_, refl, ap, sym, _∙_, subst}
+use mathlib.Core.Path.{_≡_, refl, ap, _∙_, subst}
 use mathlib.Core.Logic.{inl, inr}
 use native.Mathlib.Omega.{arith}
 use Rattle.sum.proofs.Sum.{le-or}
@@ -42,39 +41,6 @@ module _ (Q : ℕ → Type 0) (a : ℕ) where
 
   pub first-none : (j c : ℕ) → a ≤ j → j ≤ c → c ≤ j → Passed j → First Q a c j
   first-none j c h i k p = record { least = h; most = i; passed = p; found = λ w. absurd (omega arith) }
-
--- a search that goes on until it has found one: f is the first found so far, or c, and j is reached
-pub record Sought (Q : ℕ → Type 0) (a c f j : ℕ) : Type 0 where
-  pub least : a ≤ f
-  pub most : f ≤ c
-  pub passed : (k : ℕ) → a ≤ k → k < j → k < f → Q k → ⊥
-  pub hit : f < c → Q f
-
-module _ (Q : ℕ → Type 0) (a c : ℕ) where
-  pub sought-none : a ≤ c → Sought Q a c c a
-  sought-none h = record { least = h; most = omega arith; passed = λ k u v w q. omega arith; hit = λ w. absurd (omega arith) }
-
-  pub sought-here : (f j g : ℕ) → Sought Q a c f j → a ≤ j → j < f → Q j → g ≡ j → Sought Q a c g (j + 1)
-  sought-here f j g s h k q e =
-      record {
-        least = omega arith;
-        most = omega (arith, s .most);
-        passed = λ i u v w. s .passed i u (omega arith) (omega arith);
-        hit = λ w. subst Q (sym e) q;
-      }
-
-  pub sought-past : (f j g : ℕ) → Sought Q a c f j → (Q j → ⊥) → g ≡ f → Sought Q a c g (j + 1)
-  sought-past f j g s n e = subst (λ h. Sought Q a c h (j + 1)) (sym e) (record { least = s .least; most = s .most; passed = passed; hit = s .hit })
-    where
-      passed : (k : ℕ) → a ≤ k → k < j + 1 → k < f → Q k → ⊥
-      passed k u v w q = elim (le-or j k) [
-        | inl i ↦ n (subst Q (omega arith) q)
-        | inr i ↦ s .passed k u i w q
-      ]
-
-  pub sought-first : (f j : ℕ) → Sought Q a c f j → f ≤ j → First Q a c f
-  sought-first f j s h =
-      record { least = s .least; most = s .most; passed = λ k u v. s .passed k u (omega arith) v; found = s .hit }
 
 -- a number that is not other than another is that one
 same : (m n : ℕ) → ((m ≡ n → ⊥) → ⊥) → m ≡ n

@@ -72,19 +72,18 @@ fn first_line(table: &[u32], cuts: Cuts, cost: u32) -> Line
     let whole = cuts.whole;
     let stride = cuts.stride;
     let base = cuts.base;
-    let mut found = high;
     let mut j = low + 1;
     let mut lower = whole - (high - j);
     let mut upper = whole + (last - 1 - low);
-    while j < found {
+    while j < high {
         if table[base + stride * lower] + table[base + stride * upper] == cost {
-            found = j;
+            return Line(j);
         }
         lower += 1;
         upper += last - 1 - j;
         j += 1;
     }
-    Line(found)
+    Line(high)
 }
 
 // The verdict of a piece. What costs nothing is outside; what is inside in all cells is a shot; else the cut is the first, vertical ones first and
