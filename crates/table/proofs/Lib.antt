@@ -1,6 +1,7 @@
 pub mod Entry
 pub mod Run
 pub mod Strip
+pub mod Height
 pub mod Vertical
 pub mod Tally
 pub mod Measure

@@ -2,10 +2,13 @@
 --
 --   wrote-none, wrote-more   == a run that is written from the front, one store after the other
 --   wrote-end                == where the run is at its end
---   weigh-*, above-*         == weighing a cut of several pieces: the sums fit, and one piece more
+--   weigh-*, above-*, apart-more
+--                            == weighing a cut of several pieces: the sums fit, and one piece more
 --   bare-*                   == the three ways of a stretch: outside, exposed, covered
 --   lowest-none, lowest-more == the least so far, with no line weighed yet, and with one more
 --   lowest-same              == for equal values, the same least
+--   lowest-on                == the same least where the lines are numbered from b on
+--   lowest-min               == with the least of other cuts besides
 use Prim.Native.Nat.{ℕ, zero, suc, _+_, _-_, _≤_, _<_, _^_, min}
 use mathlib.Core.Path.{_≡_, refl, sym, _∙_, ap, subst}
 use mathlib.Core.Logic.{_⊎_, inl, inr}
@@ -17,7 +20,7 @@ use lib.ListN.{length, getD, set, length-set}
 use lib.Seq.{getD-set-same, getD-set-other}
 use borrow.Author.Tests.{eq-eqb, ne-eqb}
 use Rattle.sum.proofs.Sum.{le-or}
-use Rattle.table.specs.Run.{Wrote, bare, weighed, weighedAbove, Lowest}
+use Rattle.table.specs.Run.{Wrote, bare, weighed, weighedAbove, weighedApart, Lowest}
 
 pub wrote-none : (f : ℕ → ℕ) (at : ℕ) (t : List ℕ) → Wrote f at 0 t t
 wrote-none f at t = record { long = refl; made = λ i h. absurd (omega arith); kept = λ k h. refl }
@@ -79,6 +82,16 @@ module _ (t u : List ℕ) (at cost high n i : ℕ) where
       (omega (arith, w .kept (at + i) (inr (omega arith)), w .kept (high + i) (inr (omega arith))))
       w
 
+pub apart-more : (t side u : List ℕ) (low high n i r : ℕ) → n ≤ length t → i < n
+    → r ≡ min (getD u i 0) (getD side (low + i) 0 + getD side (high + i) 0)
+    → Wrote (weighedApart t side low high) 0 i t u
+    → Wrote (weighedApart t side low high) 0 (i + 1) t (set u i r)
+unfolding weighedApart
+apart-more t side u low high n i r m l e w =
+    let z : 0 + i ≡ i = omega arith in
+    subst (λ k. Wrote (weighedApart t side low high) 0 (i + 1) t (set u k r)) z
+    (wrote-more (weighedApart t side low high) 0 i t u r (omega (arith, w .long)) (omega (arith, w .kept i (inr (omega arith)))) w)
+
 -- the three ways of a stretch
 pub bare-outside : (near far len : ℕ) → near ≡ 0 → (0 ≡ bare near far len) × (0 ≤ len)
 unfolding bare
@@ -124,3 +137,31 @@ lowest-same f g a c m n r s h e z l =
     go : (r ≡ m) ⊎ ((j : ℕ) × (a < j) × (j < c) × (r ≡ f j)) → (s ≡ n) ⊎ ((j : ℕ) × (a < j) × (j < c) × (s ≡ g j))
     go (inl w) = inl (omega arith)
     go (inr w) = inr (w .0, w .1, w .2, omega (arith, w .3, h (w .0) (w .1) (w .2)))
+
+pub lowest-on : (f g : ℕ → ℕ) (b h m r : ℕ) → ((k : ℕ) → 0 < k → k < h → f k ≡ g (b + k)) → Lowest f 0 h m r → Lowest g b (b + h) m r
+lowest-on f g b h m r e l =
+    record {
+      first = l .first;
+      each =
+          λ j p q.
+          let z : b + (j - b) ≡ j = omega arith in
+          omega (arith, l .each (j - b) (omega arith) (omega arith), e (j - b) (omega arith) (omega arith), ap g z);
+      one = go (l .one);
+    }
+  where
+    go : (r ≡ m) ⊎ ((k : ℕ) × (0 < k) × (k < h) × (r ≡ f k)) → (r ≡ m) ⊎ ((j : ℕ) × (b < j) × (j < b + h) × (r ≡ g j))
+    go (inl z) = inl z
+    go (inr z) = inr (b + z .0, omega (arith, z .1), omega (arith, z .2), z .3 ∙ e (z .0) (z .1) (z .2))
+
+pub lowest-min : (f : ℕ → ℕ) (a c m n r : ℕ) → n ≤ m → Lowest f a c m r → Lowest f a c n (min n r)
+lowest-min f a c m n r h l =
+    record {
+      first = omega arith;
+      each = λ j p q. omega (arith, l .each j p q);
+      one = go (le-or n r) (l .one);
+    }
+  where
+    go : (n ≤ r) ⊎ (r < n) → (r ≡ m) ⊎ ((j : ℕ) × (a < j) × (j < c) × (r ≡ f j)) → (min n r ≡ n) ⊎ ((j : ℕ) × (a < j) × (j < c) × (min n r ≡ f j))
+    go (inl q) o = inl (omega arith)
+    go (inr q) (inl z) = absurd (omega arith)
+    go (inr q) (inr z) = inr (z .0, z .1, z .2, omega (arith, z .3))

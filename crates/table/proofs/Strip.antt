@@ -3,7 +3,7 @@
 --   charge-low, charge-high  == a shot whose height is below the threshold, and one whose is not
 --   shot-at                  == the charge by sums
 --   count-*, flank-*         == the sums between b and d, one row of cells after the other
---   judged-right             == a judged piece has its cost
+--   judged-cost, judged-right == a judged piece has its cost
 --   Along, along-*           == the pieces that begin at b, while those that end below d are settled
 use Prim.Native.Nat.{ℕ, zero, suc, _+_, _*_, _-_, _≤_, _<_, _^_, min}
 use mathlib.Core.Path.{_≡_, refl, sym, _∙_, ap, ap₂, subst}
@@ -71,8 +71,11 @@ cells-more b d wide n h e =
     let z : d - b ≡ suc (d - 1 - b) = omega arith in
     omega (arith, suc-mul (d - 1 - b) wide, ap (λ m. m * wide) z)
 
+pub cells-fit : (h wide : ℕ) → h ≤ 15 → wide ≤ 15 → h * wide ≤ 225
+cells-fit h wide k l = mul-le-mul {n₁ = h} {m₁ = wide} {n₂ = 15} {m₂ = 15} k l
+
 pub cells-most : (b d wide rows : ℕ) → d ≤ rows → rows ≤ 15 → wide ≤ 15 → (d - b) * wide ≤ 225
-cells-most b d wide rows h k l = mul-le-mul {n₁ = d - b} {m₁ = wide} {n₂ = 15} {m₂ = 15} (omega arith) l
+cells-most b d wide rows h k l = cells-fit (d - b) wide (omega arith) l
 
 -- where a piece stands in its row
 pub pair-at : (rows b d at : ℕ) → b < d → at ≡ pairsBelow rows b + (d - b - 1) → at ≡ pairNo rows b d
@@ -95,6 +98,21 @@ Dec-eq n m = go (eqb n m) refl
     go true e = inl (eqb-true n m e)
     go false e = inr (eqb-false n m e)
 
+-- a piece judged by the least of its cuts has its cost
+pub judged-cost : (s : ℕ → ℕ → ℕ) (sums ys : List ℕ) (r : Rule) (rows wide : ℕ) (row : List ℕ) (low : ℕ) → Recurs s sums ys r rows wide row low
+    → (b d n m v best : ℕ) → b < low → b < d → d ≤ rows → n ≡ countIn sums b d → m ≡ (d - b) * wide
+    → Lowest (λ k. s b k + s k d) b d (getD row (pairNo rows b d) 0) best
+    → Judged n m (shotCost sums ys r b d) best v
+    → v ≡ s b d
+judged-cost s sums ys r rows wide row low known b d n m v best l h k en em o j = go (le-or n 0) (Dec-eq n m)
+  where
+    go : (n ≤ 0) ⊎ (0 < n) → (n ≡ m) ⊎ (n ≡ m → ⊥) → v ≡ s b d
+    go (inl z) q =
+        let e : n ≡ 0 = omega arith in
+        j .none e ∙ sym (known .none b d h k (sym en ∙ e))
+    go (inr z) (inl q) = j .whole z q ∙ sym (known .whole b d h k (subst (λ i. 0 < i) en z) (sym en ∙ q ∙ em))
+    go (inr z) (inr q) = j .cut z q ∙ known .cut b d l h k (subst (λ i. 0 < i) en z) (λ e. q (en ∙ e ∙ sym em)) best o
+
 module _ (s : ℕ → ℕ → ℕ) (rows b : ℕ) where
   pub record Along (d : ℕ) (row₀ row : List ℕ) : Type 0 where
     pub low : (k : ℕ) → b < k → k < d → k ≤ rows → getD row (pairNo rows b k) 0 ≡ s b k
@@ -115,17 +133,10 @@ module _ (s : ℕ → ℕ → ℕ) (rows b : ℕ) where
         → Along d row₀ row
         → Judged n m (shotCost sums ys r b d) best v
         → v ≡ s b d
-    judged-right d n m v best h k en em eb a j = go (le-or n 0) (Dec-eq n m)
-      where
-        go : (n ≤ 0) ⊎ (0 < n) → (n ≡ m) ⊎ (n ≡ m → ⊥) → v ≡ s b d
-        go (inl z) q =
-            let e : n ≡ 0 = omega arith in
-            j .none e ∙ sym (known .none b d h k (sym en ∙ e))
-        go (inr z) (inl q) = j .whole z q ∙ sym (known .whole b d h k (subst (λ i. 0 < i) en z) (sym en ∙ q ∙ em))
-        go (inr z) (inr q) =
-            j .cut z q
-            ∙ eb
-            ∙ known .cut b d (omega arith) h k (subst (λ i. 0 < i) en z) (λ e. q (en ∙ e ∙ sym em)) (getD row (pairNo rows b d) 0) (a .high d h (omega arith) k)
+    judged-right d n m v best h k en em eb a j =
+        judged-cost s sums ys r rows wide row₀ (b + 1) known b d n m v best (omega arith) h k en em
+        (subst (Lowest (λ j. s b j + s j d) b d (getD row₀ (pairNo rows b d) 0)) (sym eb) (a .high d h (omega arith) k))
+        j
 
     pub along-more : (row₂ : List ℕ) (d at next n v : ℕ) → b < d → d ≤ rows → length row ≡ pairCount rows → at ≡ pairsBelow rows b + (d - b - 1) → next ≡ pairsBelow rows d
         → n ≡ rows - d

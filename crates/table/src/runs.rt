@@ -2,7 +2,7 @@
 ghost use mathlib.Core.Path.{_≡_};
 ghost use Prim.Native.Nat.{ℕ, _+_, _*_, _-_, _<_, _≤_, _^_, min};
 ghost use lib.ListN.{length, getD};
-ghost use Rattle.table.specs.Run.{Wrote, bare, weighed, weighedAbove};
+ghost use Rattle.table.specs.Run.{Wrote, bare, weighed, weighedAbove, weighedApart};
 
 // The lesser of two costs.
 pub fn lesser(a: u32, b: u32) -> u32
@@ -55,6 +55,19 @@ pub fn weigh_above(row: &mut [u32], at: usize, low: u32, high: usize, n: usize)
     let mut i: usize = 0;
     while i < n {
         row[at + i] = lesser(row[at + i], low + row[high + i]);
+        i += 1;
+    }
+}
+
+// Weighs one cut of n pieces that stand apart from their parts: those stand in `side`.
+pub fn weigh_apart(best: &mut [u32], side: &[u32], low: usize, high: usize, n: usize)
+    requires { ⌜ (n ≤ length (now best)) × ((low + n ≤ length (now side)) × (high + n ≤ length (now side))) ⌝ }
+    requires { ⌜ ((i : ℕ) → i < n → getD (now side) (low + i) 0 + getD (now side) (high + i) 0 < 2 ^ 32) ⌝ }
+    ensures { λ _. ⌜ Wrote (weighedApart (now (best .entry)) (now (side .entry)) low high) 0 n (now (best .entry)) (now (best .exit)) ⌝ }
+{
+    let mut i: usize = 0;
+    while i < n {
+        best[i] = lesser(best[i], side[low + i] + side[high + i]);
         i += 1;
     }
 }

@@ -1,4 +1,5 @@
 // Settling a row: the costs of the pieces of a strip, from the sums of its cells and the least of their vertical cuts.
+use crate::heights;
 use crate::runs;
 use outline::Line;
 use rule::Rule;
@@ -55,7 +56,7 @@ fn charge_at(ys: &[u16], sums: &[u32], rule: Rule, b: Line, d: Line, flanks: u32
 }
 
 // The cost of the piece between the y lines b and d, which has `count` inside cells of `cells` and whose best cut costs `best`.
-fn settle_piece(
+pub fn settle_piece(
     ys: &[u16],
     sums: &[u32],
     rule: Rule,
@@ -117,9 +118,8 @@ fn settle_from(
     }
 }
 
-// Settles a row: of each piece it has the least of the vertical cuts, and afterwards the cost. The highest lines come first, so that
-// the high part of each cut is settled before it is weighed.
-pub fn settle_row(
+// Settles a row line by line. The highest lines come first, so that the high part of each cut is settled before it is weighed.
+fn settle_lines(
     row: &mut [u32],
     ys: &[u16],
     sums: &[u32],
@@ -139,5 +139,28 @@ pub fn settle_row(
         b -= 1;
         first -= rows - b;
         settle_from(row, ys, sums, rule, rows, wide, Line(b), first);
+    }
+}
+
+// Settles a row: of each piece it has the least of the vertical cuts, and afterwards the cost. Height by height takes some setting up,
+// which pays from 8 rows of cells on.
+pub fn settle_row(
+    row: &mut [u32],
+    ys: &[u16],
+    sums: &[u32],
+    rule: Rule,
+    rows: usize,
+    wide: u32,
+    pairs: usize,
+)
+    requires { ⌜ Measured (now sums) (now ys) rule rows wide ⌝ }
+    requires { ⌜ (pairs ≡ pairCount rows) × (length (now row) ≡ pairCount rows) ⌝ }
+    requires { ⌜ Solvable (now sums) (now ys) rule rows wide (now row) rows ⌝ }
+    ensures { λ _. ⌜ ((s : ℕ → ℕ → ℕ) → Recurs s (now (sums .entry)) (now (ys .entry)) rule rows wide (now (row .entry)) rows → Recurs s (now (sums .entry)) (now (ys .entry)) rule rows wide (now (row .exit)) 0) ⌝ }
+{
+    if rows < 8 {
+        settle_lines(row, ys, sums, rule, rows, wide, pairs);
+    } else {
+        heights::settle_heights(row, ys, sums, rule, rows, wide);
     }
 }

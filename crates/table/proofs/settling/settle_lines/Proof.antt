@@ -1,4 +1,4 @@
--- `table::settling::settle_row` meets its contract: the pieces that begin at b or above are settled. Assumes nothing.
+-- `table::settling::settle_lines` meets its contract: the pieces that begin at b or above are settled. Assumes nothing.
 use Prim.Native.Nat.{ℕ, _-_, _≤_}
 use mathlib.Core.Path.{_≡_, refl, _∙_}
 use native.Mathlib.Omega.{arith}
@@ -7,8 +7,8 @@ use Rattle.table.specs.Entry.{pairsBelow}
 use Rattle.table.specs.Strip.{Recurs}
 use Rattle.table.proofs.Strip.{recurs-back, recurs-end, first-all, first-back, first-enough}
 use borrow.Author.Needs.{needs}
-use Rattle.table.proofs.settling.settle_row.Statement.{statement}
-use Rattle.table.proofs.settling.settle_row.Tie as tie
+use Rattle.table.proofs.settling.settle_lines.Statement.{statement}
+use Rattle.table.proofs.settling.settle_lines.Tie as tie
 
 abbrev Inv-loop : tie.InvT-loop
 Inv-loop row₀ ys sums rule rows wide pairs first₀ b₀ row first b = (b ≤ rows) × ((first ≡ pairsBelow rows b) × ((length row ≡ length row₀) × ((s : ℕ → ℕ → ℕ) → Recurs s sums ys rule rows wide row₀ rows → Recurs s sums ys rule rows wide row b)))
@@ -62,8 +62,8 @@ same-length c = c .before .loop .inv .1 .1 .0
 returns : tie.Need-returns Inv-loop μ-loop
 returns c = λ g k. recurs-end _ _ _ _ _ _ _ _ (c .loop-test .left) (c .before .loop .inv .1 .1 .1 g k)
 
-pub settle-row-spec : {M : Type 1} → statement M
-settle-row-spec =
+pub settle-lines-spec : {M : Type 1} → statement M
+settle-lines-spec =
     tie.close
     (tie.spec
     Inv-loop
