@@ -12,8 +12,7 @@ use mathlib.Core.List.{List, _++_}
 use native.Mathlib.Omega.{arith}
 use lib.ListN.{length, getD, drop}
 use borrow.Author.Tests.{lt-ltb, le-ltb}
-use Rattle.outline.specs.declared.Grid as memory
-use Rattle.outline.specs.Grid.{Grid, stored}
+use Rattle.outline.specs.Grid.{Grid, Memory, stored}
 use Rattle.rule.specs.declared.Rule.{Rule}
 use Rattle.piece.specs.Piece.{Piece}
 use Rattle.piece.specs.Straight.{cost}
@@ -29,7 +28,7 @@ use Rattle.fracture.specs.Emission.{Walk}
 use Rattle.fracture.specs.Delivery.{Laid, delivered, settled}
 use Rattle.fracture.specs.Told.{reason, told}
 
-module _ (g : Grid) (m : memory.Grid) (w : Laid g m) where
+module _ (g : Grid) (m : Memory) (w : Laid g m) where
   pub laid-few : (m .columns ≤ 15) × (m .rows ≤ 15)
   laid-few =
       let s = w .sound in

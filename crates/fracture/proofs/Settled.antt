@@ -2,6 +2,7 @@
 --
 --   told-rule           : 1, of a rule that is not in range
 --   told-outline        : 2 to 5, of an outline that is refused
+--   answered            : the refusal of an outline is the number of its drawing's answer
 --   laid-drawing        : the grid of an accepted drawing lies in memory as the fracture of a grid expects it
 --   outcome-settled     : its outcome is that of the outline
 --   rule-range, rule-outcome     : the rule that was made of two numbers is in range, and its outcome is that of the two numbers
@@ -21,8 +22,8 @@ use Rattle.sum.proofs.Sum.{le-or}
 use Rattle.rule.specs.declared.Rule.{Rule}
 use Rattle.rule.specs.Rules.{inRange, Told, given, refused as unknown, ruleTold, presetTold}
 use Rattle.rule.proofs.Rules.{rule-made}
-use Rattle.outline.specs.declared.Drawing.{Drawing}
-use Rattle.outline.specs.Promise.{refusal, Promise}
+use Rattle.outline.specs.declared.Answer.{Answer}
+use Rattle.outline.specs.Promise.{number, refusal, Sheet, Promise}
 use Rattle.outline.proofs.Memory.{drawing-columns, drawing-rows, drawing-drawn, drawing-stored}
 use Rattle.piece.specs.Straight.{shots}
 use Rattle.table.specs.Entry.{entryCount, costs}
@@ -80,8 +81,11 @@ module _ (l : List ℕ) (t w : ℕ) (table list : List ℕ) where
       (λ i. record { number = reason why .0; shots = z i; cost = 0; sliver = 0; table = table; list = list })
       ∙ sym (outcome-outline l t w table list e (reason why .0) h k)
 
+pub answered : (l : List ℕ) (s : Sheet) → Promise l s → (a : Answer) → s .answer ≡ a → refusal l ≡ number a
+answered l s p a e = sym (p .told) ∙ ap number e
+
 -- the drawing of an accepted outline
-pub laid-drawing : (l : List ℕ) (r : Drawing) → Promise l r → refusal l ≡ 0 → Laid (drawn l) (r .grid)
+pub laid-drawing : (l : List ℕ) (r : Sheet) → Promise l r → refusal l ≡ 0 → Laid (drawn l) (r .grid)
 unfolding drawn
 laid-drawing l r p h =
     record {

@@ -13,8 +13,7 @@ use mathlib.Core.List.{List}
 use lib.Dec.{ltb}
 use lib.ListN.{length}
 use Rattle.sum.specs.Sum.{sumOf}
-use Rattle.outline.specs.declared.Grid as memory
-use Rattle.outline.specs.Grid.{Grid, Sound, Drawn, stored}
+use Rattle.outline.specs.Grid.{Grid, Sound, Drawn, Memory, stored}
 use Rattle.rule.specs.declared.Rule.{Rule}
 use Rattle.piece.specs.Piece.{Piece, frame, sliver, charge}
 use Rattle.piece.specs.Straight.{shots, numbers}
@@ -36,7 +35,7 @@ pub record Walkable (table cells xs ys : List ℕ) (plan : Plan) : Type 0 where
   pub walk : Walk grid rule table cells xs ys plan
 
 -- a grid in memory
-pub record Laid (g : Grid) (m : memory.Grid) : Type 0 where
+pub record Laid (g : Grid) (m : Memory) : Type 0 where
   pub sound : Sound g
   pub columns : m .columns ≡ g .columns
   pub rows : m .rows ≡ g .rows
@@ -44,7 +43,7 @@ pub record Laid (g : Grid) (m : memory.Grid) : Type 0 where
   pub back : stored (m .columns) (m .rows) (m .xs) (m .ys) (m .cells) ≡ g
 
 -- all that the fracture of a grid asks for
-pub record Fillable (m : memory.Grid) (r : Rule) : Type 0 where
+pub record Fillable (m : Memory) (r : Rule) : Type 0 where
   pub grid : Grid
   pub laid : Laid grid m
   pub weight : r .weight ≤ 1000

@@ -1,7 +1,6 @@
 // From an outline to its shots: the verdict of each piece, emission, and the two calls.
 use delivery::deliver;
 use outline::Answer;
-use outline::Grid;
 use outline::Line;
 use outline::draw;
 use rule::Made;
@@ -13,7 +12,7 @@ ghost use mathlib.Core.Path.{_≡_};
 ghost use mathlib.Core.Bool.{true};
 ghost use Rattle.rule.specs.Rules.{inRange, presetTold};
 ghost use Rattle.demands.specs.Promise.{outcome};
-ghost use Rattle.outline.specs.Grid as spec;
+ghost use Rattle.outline.specs.Grid.{Grid, memory};
 ghost use Rattle.fracture.specs.Delivery.{Laid, Fillable, settled};
 ghost use Rattle.fracture.specs.Told.{told};
 
@@ -68,26 +67,30 @@ pub enum Fractured {
 }
 
 // The fracture of the grid of an outline by a rule in range: 6, 7 or the shots.
-fn fracture_grid(grid: Grid, rule: Rule, table: &mut [u32], list: &mut [u16]) -> Fractured
-    requires { ⌜ Fillable grid rule ⌝ }
-    ensures { λ a. ⌜ ((g : spec.Grid) → Laid g grid → told a (now (table .exit)) (now (list .exit)) ≡ settled g rule (now (table .entry)) (now (list .entry))) ⌝ }
+fn fracture_grid(
+    columns: usize,
+    rows: usize,
+    xs: &[u16],
+    ys: &[u16],
+    cells: &[u8],
+    rule: Rule,
+    table: &mut [u32],
+    list: &mut [u16],
+) -> Fractured
+    requires { ⌜ Fillable (memory columns rows (now xs) (now ys) (now cells)) rule ⌝ }
+    ensures { λ a. ⌜ ((g : Grid) → Laid g (memory columns rows (now (xs .entry)) (now (ys .entry)) (now (cells .entry))) → told a (now (table .exit)) (now (list .exit)) ≡ settled g rule (now (table .entry)) (now (list .entry))) ⌝ }
 {
-    let columns = grid.columns;
-    let rows = grid.rows;
     if table.len() < entries(columns, rows) {
         return Fractured::Refused(Refusal::Table);
     }
-    let xs = grid.xs;
-    let ys = grid.ys;
-    let cells = grid.cells;
     let threshold = rule.threshold;
-    fill(&xs, &ys, &cells, columns, rows, rule, table);
+    fill(xs, ys, cells, columns, rows, rule, table);
     let plan = Plan {
         columns,
         rows,
         threshold,
     };
-    deliver(table, &cells, &xs, &ys, list, plan)
+    deliver(table, cells, xs, ys, list, plan)
 }
 
 // The fracture of an outline by a rule in range: 2 to 7 or the shots.
@@ -95,10 +98,17 @@ fn fracture_by(corners: &[u16], rule: Rule, table: &mut [u32], list: &mut [u16])
     requires { ⌜ inRange (rule .threshold) (rule .weight) ≡ true ⌝ }
     ensures { λ a. ⌜ told a (now (table .exit)) (now (list .exit)) ≡ outcome (now (corners .entry)) (rule .threshold) (rule .weight) (now (table .entry)) (now (list .entry)) ⌝ }
 {
-    let drawing = draw(corners);
+    let mut xs = [0u16; 16];
+    let mut ys = [0u16; 16];
+    let mut cells = [0u8; 256];
+    let drawing = draw(corners, &mut xs, &mut ys, &mut cells);
     let answer = drawing.answer;
     match answer {
-        Answer::Accepted => fracture_grid(drawing.grid, rule, table, list),
+        Answer::Accepted => {
+            let columns = drawing.columns;
+            let rows = drawing.rows;
+            fracture_grid(columns, rows, &xs, &ys, &cells, rule, table, list)
+        }
         Answer::Length => Fractured::Refused(Refusal::Length),
         Answer::Slanted => Fractured::Refused(Refusal::Slanted),
         Answer::Straight => Fractured::Refused(Refusal::Straight),

@@ -4,6 +4,7 @@
 --   laid-stored             == what lies there, read back, is the grid
 --   grid-repeats            == past the last line a place is the last line's
 --   drawing-drawn, drawing-stored, drawing-columns, drawing-rows   == the same of the drawing of an accepted outline
+--   drawing-lengths         == the lists of every drawing that keeps its promise have their lengths
 use Prim.Native.Nat.{ℕ, _+_, _*_, _/_, _%_, _≤_, _<_, min}
 use mathlib.Core.Path.{_≡_, refl, sym, _∙_, ap, ap₂, subst}
 use mathlib.Core.Bool.{Bool, true, false, cond, _&&_, and-false}
@@ -11,17 +12,16 @@ use mathlib.Core.List.{List}
 use mathlib.Core.Logic.{inl, inr}
 use native.Mathlib.Omega.{arith}
 use lib.Dec.{leb, ltb, eqb}
-use lib.ListN.{getD}
+use lib.ListN.{length, getD}
 use borrow.Author.Tests.{le-leb, lt-ltb, le-ltb, eq-eqb}
 use Rattle.sum.specs.Sum.{only}
 use Rattle.sum.proofs.Sum.{le-or}
 use Rattle.outline.specs.declared.Axis.the-variants.{X, Y}
-use Rattle.outline.specs.declared.Drawing.{Drawing}
 use Rattle.outline.specs.Corners.{Corner, corners}
 use Rattle.outline.specs.Lines.{lines}
-use Rattle.outline.specs.Grid.{Grid, Sound, Drawn, stored}
+use Rattle.outline.specs.Grid.{Grid, Sound, Drawn, Memory, stored}
 use Rattle.outline.specs.Inside.{grid, gridOf}
-use Rattle.outline.specs.Promise.{refusal, table, laid, blank, Promise}
+use Rattle.outline.specs.Promise.{refusal, table, laid, blank, Sheet, Promise}
 use Rattle.outline.proofs.Lines.{place-past}
 use Rattle.outline.proofs.Promise.{length-table, table-at}
 
@@ -92,8 +92,8 @@ pub grid-repeats : (cs : List Corner) → ((i : ℕ) → grid cs .columns ≤ i 
 unfolding grid gridOf
 grid-repeats cs = ((λ i h. place-past (lines X cs) i (omega arith)), λ j h. place-past (lines Y cs) j (omega arith))
 
--- the drawing of an accepted outline
-module _ (l : List ℕ) (r : Drawing) (promise : Promise l r) (accepted : refusal l ≡ 0) where
+-- the sheet of an accepted outline
+module _ (l : List ℕ) (r : Sheet) (promise : Promise l r) (accepted : refusal l ≡ 0) where
   drawing-laid : r .grid ≡ laid (grid (corners l))
   drawing-laid = promise .drawn ∙ ap (λ b. cond b (laid (grid (corners l))) blank) (eq-eqb (refusal l) 0 accepted)
 
@@ -114,3 +114,25 @@ module _ (l : List ℕ) (r : Drawing) (promise : Promise l r) (accepted : refusa
   drawing-stored =
       ap (λ g. stored (g .columns) (g .rows) (g .xs) (g .ys) (g .cells)) drawing-laid
       ∙ laid-stored (grid (corners l)) (promise .sound accepted) (grid-repeats (corners l) .0) (grid-repeats (corners l) .1)
+
+-- the lists of every drawing
+pub record Lengths (s : Sheet) : Type 0 where
+  pub xs-length : length (s .grid .xs) ≡ 16
+  pub ys-length : length (s .grid .ys) ≡ 16
+  pub cells-length : length (s .grid .cells) ≡ 256
+
+pub drawing-lengths : (l : List ℕ) (s : Sheet) → Promise l s → Lengths s
+unfolding laid blank
+drawing-lengths l s p =
+    record {
+      xs-length = ap (λ (m : Memory). length (m .xs)) (p .drawn) ∙ along (eqb (refusal l) 0) .0;
+      ys-length = ap (λ (m : Memory). length (m .ys)) (p .drawn) ∙ along (eqb (refusal l) 0) .1;
+      cells-length = ap (λ (m : Memory). length (m .cells)) (p .drawn) ∙ along (eqb (refusal l) 0) .2;
+    }
+  where
+    along : (b : Bool)
+        → (length (cond b (laid (grid (corners l))) blank .xs) ≡ 16)
+        × (length (cond b (laid (grid (corners l))) blank .ys) ≡ 16)
+        × (length (cond b (laid (grid (corners l))) blank .cells) ≡ 256)
+    along true = (length-table 16 _, length-table 16 _, length-table 256 _)
+    along false = (refl, refl, refl)

@@ -3,13 +3,14 @@
 --   length-table, table-at       == a table has so many numbers, and each is the function's
 --   front-within, front-lines, front-length   == the lines at the front of a list
 --   lines-laid, cells-laid       == lines and cells as the code has them are those of the grid in memory
+--   sheet-whole, sheet-without   == and so is the whole sheet; cleared lists are the sheet of a refusal
 --   cells-shaded                 == the marks of all edges, swept, are the cells
 --   cells-empty, cells-some      == where no cell in memory is 1 no cell is inside, and the other way round
 --   refusal-2, -3, -4, -5, -0    == the refusal, by the tests in their order
 --   refusal-first, answer-first  == a refusal is given exactly when it is the first whose condition holds
 --   right-sound                  == the grid of an outline that passes 2 to 4 is sound
 --   promise-refused, promise-empty, promise-accepted   == each way a drawing ends keeps the promise
---   promise-unique               == any two drawings that keep the promise are equal
+--   promise-unique               == any two drawings that keep the promise are equal, and so is what they leave in the lent lists
 use Prim.Native.Nat.{ℕ, zero, suc, _+_, _*_, _-_, _/_, _%_, _≤_, _<_}
 use mathlib.Core.Path.{_≡_, refl, sym, _∙_, ap, ap₂, subst}
 use mathlib.Core.Bool.{Bool, true, false, not, cond, true≢false}
@@ -27,13 +28,12 @@ use Rattle.outline.specs.declared.Axis.the-variants.{X, Y}
 use Rattle.outline.specs.declared.Answer.{Answer}
 use Rattle.outline.specs.declared.Answer.the-variants.{Accepted, Length, Slanted, Straight, Empty}
 use Rattle.outline.specs.declared.Drawing.{Drawing}
-use Rattle.outline.specs.declared.Grid as stored
 use Rattle.outline.specs.Corners.{corners, coordinate, edges, odd, any, badLength, slanted, straight}
 use Rattle.outline.specs.Lines.{lines, place}
-use Rattle.outline.specs.Grid.{Grid, Sound}
+use Rattle.outline.specs.Grid.{Grid, Sound, Memory, memory}
 use Rattle.outline.specs.Inside.{walls, count, gridOf, grid, insideCells, empty}
-use Rattle.outline.specs.Promise.{number, refusal, table, laid, blank, Promise}
-use Rattle.outline.specs.Steps.{lit, stands, marks, Right, Gathered, Ruled, Marked, Swept}
+use Rattle.outline.specs.Promise.{number, refusal, table, laid, blank, Sheet, lent, Promise}
+use Rattle.outline.specs.Steps.{lit, stands, marks, Right, Gathered, Ruled, Marked, Swept, Clear, whole, without}
 use Rattle.outline.proofs.Corners.{length-edges, none-at, any-some}
 use Rattle.outline.proofs.Lines.{place-at}
 use Rattle.outline.proofs.Inside.{grid-sound}
@@ -96,6 +96,36 @@ lines-laid ls h k =
         ∙ getD-drop (length ls) (replicate 16 0) (i - length ls) 0
         ∙ zeros 16 (length ls + (i - length ls))
         ∙ ap (λ b. only b (place ls i)) (sym (lt-leb i (length ls - 1) (omega arith)))
+
+-- what was gathered into zeros
+gathered-laid : (a : Axis) (l ls : List ℕ) (n : ℕ) (after : List ℕ) → Right l → ls ≡ replicate 16 0 → Gathered a l ls n after
+    → after ≡ table 16 (λ i. only (leb i (length (lines a (corners l)) - 1)) (place (lines a (corners l)) i))
+gathered-laid a l ls n after right z h =
+    h .list
+    ∙ ap₂ (λ k m. lines a (corners l) ++ drop k m) (h .number) z
+    ∙ lines-laid (lines a (corners l)) (omega (arith, right-lines l right a)) (right-lines l right a .1)
+
+-- lines and cells together
+pub sheet-whole : (l xs ys cells : List ℕ) → Right l → Clear xs ys cells → (m n : ℕ) (xs′ ys′ cells′ : List ℕ)
+    → Gathered X l xs m xs′ → Gathered Y l ys n ys′ → cells′ ≡ laid (grid (corners l)) .cells
+    → lent (record { answer = Accepted; columns = m - 1; rows = n - 1 }) xs′ ys′ cells′ ≡ whole (grid (corners l))
+unfolding lent whole laid grid gridOf
+sheet-whole l xs ys cells right clear m n xs′ ys′ cells′ hx hy shaded i =
+    record {
+      answer = Accepted;
+      grid =
+          memory (ap (λ k. k - 1) (hx .number) i) (ap (λ k. k - 1) (hy .number) i)
+          (gathered-laid X l xs m xs′ right (clear .xs-clear) hx i)
+          (gathered-laid Y l ys n ys′ right (clear .ys-clear) hy i)
+          (shaded i);
+    }
+
+-- all cleared
+pub sheet-without : (a : Answer) (xs ys cells : List ℕ) → Clear xs ys cells
+    → lent (record { answer = a; columns = 0; rows = 0 }) xs ys cells ≡ without a
+unfolding lent without blank
+sheet-without a xs ys cells clear i =
+    record { answer = a; grid = memory 0 0 (clear .xs-clear i) (clear .ys-clear i) (clear .cells-clear i) }
 
 -- cells, column after column
 pub cells-laid : (g : Grid) (cells : List ℕ) → length cells ≡ 256
@@ -209,11 +239,12 @@ module _ (l : List ℕ) where
   refusal-0 r d = rw (r .length-good, r .slanted-none, r .straight-none, d)
 
   -- a refusal keeps the promise
-  pub promise-refused : (n : ℕ) (r : Drawing) (a : Answer) → refusal l ≡ suc n → r .answer ≡ a → number a ≡ suc n → r .grid ≡ blank → Promise l r
-  promise-refused n r a e f h g =
+  pub promise-refused : (n : ℕ) (s : Sheet) (a : Answer) → refusal l ≡ suc n → number a ≡ suc n → s ≡ without a → Promise l s
+  unfolding without
+  promise-refused n s a e h f =
       record {
-        told = ap number f ∙ h ∙ sym e;
-        drawn = g ∙ sym (ap (λ b. cond b (laid (grid (corners l))) blank) (ne-eqb (refusal l) 0 (λ z. omega arith)));
+        told = ap (λ (q : Sheet). number (q .answer)) f ∙ h ∙ sym e;
+        drawn = ap (λ (q : Sheet). q .grid) f ∙ sym (ap (λ b. cond b (laid (grid (corners l))) blank) (ne-eqb (refusal l) 0 (λ z. omega arith)));
         sound = λ z. absurd (omega arith);
       }
 
@@ -232,45 +263,31 @@ module _ (l : List ℕ) (right : Right l) (range : (i : ℕ) → getD l i 0 ≤ 
       let n = right-length l right in
       grid-sound (corners l) (right .slanted-none) (right .straight-none) (omega arith) (omega arith) (corners-range l range)
 
-  module _ (cells : List ℕ) (shaded : cells ≡ laid (grid (corners l)) .cells) where
-    pub promise-empty : (t : Bool) (r : Drawing) → t ≡ any lit cells → t ≡ false → r .answer ≡ Empty → r .grid ≡ blank → Promise l r
-    unfolding number
-    promise-empty t r e f a b =
-        promise-refused l 4 r Empty
-        (refusal-5 l right (cells-empty (grid (corners l)) right-sound (ap (any lit) (sym shaded) ∙ sym e ∙ f)))
-        a
-        refl
-        b
+  -- the whole sheet was drawn, and t tells whether a cell of it is 1
+  module _ (s : Sheet) (drawn : s ≡ whole (grid (corners l))) (t : Bool) (e : t ≡ any lit (s .grid .cells)) where
+    lit-cells : any lit (laid (grid (corners l)) .cells) ≡ t
+    unfolding whole
+    lit-cells = ap (λ (q : Sheet). any lit (q .grid .cells)) (sym drawn) ∙ sym e
 
-    pub promise-accepted : (t : Bool) (m n : ℕ) (xs ys : List ℕ) → t ≡ any lit cells → t ≡ true
-        → Gathered X l (replicate 16 0) m xs → Gathered Y l (replicate 16 0) n ys
-        → Promise l (record { answer = Accepted; grid = record { columns = m - 1; rows = n - 1; xs = xs; ys = ys; cells = cells } })
-    unfolding number laid grid gridOf
-    promise-accepted t m n xs ys e f hx hy =
+    pub promise-empty : t ≡ false → (q : Sheet) → q ≡ without Empty → Promise l q
+    unfolding number
+    promise-empty f q h =
+        promise-refused l 4 q Empty
+        (refusal-5 l right (cells-empty (grid (corners l)) right-sound (lit-cells ∙ f)))
+        refl
+        h
+
+    pub promise-accepted : t ≡ true → Promise l s
+    unfolding number whole
+    promise-accepted f =
         record {
-          told = sym none;
-          drawn = same ∙ sym (ap (λ z. cond (eqb z 0) (laid (grid (corners l))) blank) none);
+          told = ap (λ (q : Sheet). number (q .answer)) drawn ∙ sym none;
+          drawn = ap (λ (q : Sheet). q .grid) drawn ∙ sym (ap (λ z. cond (eqb z 0) (laid (grid (corners l))) blank) none);
           sound = λ z. right-sound;
         }
       where
-        laid-x : xs ≡ table 16 (λ i. only (leb i (length (lines X (corners l)) - 1)) (place (lines X (corners l)) i))
-        laid-x = hx .list ∙ ap (λ k. lines X (corners l) ++ drop k (replicate 16 0)) (hx .number) ∙ lines-laid (lines X (corners l)) (omega (arith, right-lines l right X)) (right-lines l right X .1)
-
-        laid-y : ys ≡ table 16 (λ i. only (leb i (length (lines Y (corners l)) - 1)) (place (lines Y (corners l)) i))
-        laid-y = hy .list ∙ ap (λ k. lines Y (corners l) ++ drop k (replicate 16 0)) (hy .number) ∙ lines-laid (lines Y (corners l)) (omega (arith, right-lines l right Y)) (right-lines l right Y .1)
-
-        same : _≡_ {A = stored.Grid} (record { columns = m - 1; rows = n - 1; xs = xs; ys = ys; cells = cells }) (laid (grid (corners l)))
-        same i =
-            record {
-              columns = ap (λ k. k - 1) (hx .number) i;
-              rows = ap (λ k. k - 1) (hy .number) i;
-              xs = laid-x i;
-              ys = laid-y i;
-              cells = shaded i;
-            }
-
         none : refusal l ≡ 0
-        none = refusal-0 l right (cells-some (grid (corners l)) right-sound (ap (any lit) (sym shaded) ∙ sym e ∙ f))
+        none = refusal-0 l right (cells-some (grid (corners l)) right-sound (lit-cells ∙ f))
 
 -- which of four tests is the first that holds
 pub record First (a b c d : Bool) (n : ℕ) : Type 0 where
@@ -328,9 +345,9 @@ unfolding refusal
 refusal-first l = first-of (badLength l) (slanted (corners l)) (straight (corners l)) (empty (grid (corners l)))
 
 -- and so does the answer of a drawing that keeps its promise
-pub answer-first : (l : List ℕ) (r : Drawing) → Promise l r
-    → First (badLength l) (slanted (corners l)) (straight (corners l)) (empty (grid (corners l))) (number (r .answer))
-answer-first l r p =
+pub answer-first : (l : List ℕ) (s : Sheet) → Promise l s
+    → First (badLength l) (slanted (corners l)) (straight (corners l)) (empty (grid (corners l))) (number (s .answer))
+answer-first l s p =
     subst (First (badLength l) (slanted (corners l)) (straight (corners l)) (empty (grid (corners l)))) (sym (p .told)) (refusal-first l)
 
 -- Any two drawings that keep the promise are equal: numbers tell the answers apart
@@ -348,9 +365,19 @@ number-back Empty = refl
 pub number-same : (a b : Answer) → number a ≡ number b → a ≡ b
 number-same a b e = sym (number-back a) ∙ ap answerOf e ∙ number-back b
 
-pub promise-unique : (l : List ℕ) (r s : Drawing) → Promise l r → Promise l s → r ≡ s
-promise-unique l r s p q i =
-    record {
-      answer = number-same (r .answer) (s .answer) (p .told ∙ sym (q .told)) i;
-      grid = (p .drawn ∙ sym (q .drawn)) i;
-    }
+pub promise-unique : (l : List ℕ) (r s : Drawing) (xs ys cells xs′ ys′ cells′ : List ℕ)
+    → Promise l (lent r xs ys cells) → Promise l (lent s xs′ ys′ cells′)
+    → (r ≡ s) × (xs ≡ xs′) × (ys ≡ ys′) × (cells ≡ cells′)
+unfolding lent
+promise-unique l r s xs ys cells xs′ ys′ cells′ p q =
+    let e = p .drawn ∙ sym (q .drawn) in (
+      (λ i.
+          record {
+            answer = number-same (r .answer) (s .answer) (p .told ∙ sym (q .told)) i;
+            columns = e i .columns;
+            rows = e i .rows;
+          }),
+      ap (λ (m : Memory). m .xs) e,
+      ap (λ (m : Memory). m .ys) e,
+      ap (λ (m : Memory). m .cells) e,
+    )

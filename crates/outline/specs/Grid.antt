@@ -6,6 +6,9 @@
 --                           (past the last line they repeat it); they are 16-bit numbers; no cell beyond the frame is inside
 --   Drawn g xs ys cells  == how a grid lies in memory: the places of the lines in 16 numbers each, and 16 x 16 bytes, 1 for an
 --                           inside cell, 0 beyond the frame, column after column
+--   Memory               == a grid in memory: its columns and rows, and the three lists
+--   memory columns rows xs ys cells
+--                        == the grid in memory that is made of these
 --   stored columns rows xs ys cells
 --                        == the grid that lies in memory so
 use Prim.Native.Nat.{ℕ, suc, _+_, _*_, _≤_, _<_, min}
@@ -44,6 +47,16 @@ pub record Drawn (g : Grid) (xs ys cells : List ℕ) : Type 0 where
   pub x-at : (i : ℕ) → i ≤ g .columns → getD xs i 0 ≡ g .x i
   pub y-at : (j : ℕ) → j ≤ g .rows → getD ys j 0 ≡ g .y j
   pub cell-at : (i j : ℕ) → i < 16 → j < 16 → getD cells (16 * i + j) 0 ≡ only (g .inside i j) 1
+
+pub record Memory : Type 0 where
+  pub columns : ℕ
+  pub rows : ℕ
+  pub xs : List ℕ
+  pub ys : List ℕ
+  pub cells : List ℕ
+
+abbrev pub memory : ℕ → ℕ → List ℕ → List ℕ → List ℕ → Memory
+memory columns rows xs ys cells = record { columns = columns; rows = rows; xs = xs; ys = ys; cells = cells }
 
 unfoldable pub stored : ℕ → ℕ → List ℕ → List ℕ → List ℕ → Grid
 stored columns rows xs ys cells =

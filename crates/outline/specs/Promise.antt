@@ -5,8 +5,11 @@
 --   table n f      == the list f 0, f 1, .. of n numbers
 --   laid g         == how the grid g lies in memory; 0 past the last line and beyond the frame
 --   blank          == the grid in memory beside a refusal: all zeros
---   Promise l r    == the answer r to the list l: its number is the refusal's; the grid is that of the outline, or blank beside
---                     a refusal; and the grid of an accepted outline is sound
+--   Sheet          == an answer with the grid in memory beside it
+--   lent r xs ys cells
+--                  == the sheet of the drawing r and the three lists that it was drawn into
+--   Promise l s    == the sheet s drawn of the list l: its answer's number is the refusal's; the grid is that of the outline, or
+--                     blank beside a refusal; and the grid of an accepted outline is sound
 use Prim.Native.Nat.{ℕ, zero, suc, _/_, _%_}
 use mathlib.Core.Path.{_≡_}
 use mathlib.Core.Bool.{cond}
@@ -17,8 +20,7 @@ use Rattle.sum.specs.Sum.{only}
 use Rattle.outline.specs.declared.Answer.{Answer}
 use Rattle.outline.specs.declared.Answer.the-variants.{Accepted, Length, Slanted, Straight, Empty}
 use Rattle.outline.specs.declared.Drawing.{Drawing}
-use Rattle.outline.specs.declared.Grid as stored
-use Rattle.outline.specs.Grid.{Grid, Sound}
+use Rattle.outline.specs.Grid.{Grid, Sound, Memory, memory}
 use Rattle.outline.specs.Corners.{corners, badLength, slanted, straight}
 use Rattle.outline.specs.Inside.{grid, empty}
 
@@ -41,7 +43,7 @@ unfoldable pub table : ℕ → (ℕ → ℕ) → List ℕ
 table zero f = []
 table (suc n) f = table n f ++ (f n ∷ [])
 
-unfoldable pub laid : Grid → stored.Grid
+unfoldable pub laid : Grid → Memory
 laid g =
     record {
       columns = g .columns;
@@ -51,10 +53,17 @@ laid g =
       cells = table 256 (λ k. only (g .inside (k / 16) (k % 16)) 1);
     }
 
-unfoldable pub blank : stored.Grid
-blank = record { columns = 0; rows = 0; xs = replicate 16 0; ys = replicate 16 0; cells = replicate 256 0 }
+unfoldable pub blank : Memory
+blank = memory 0 0 (replicate 16 0) (replicate 16 0) (replicate 256 0)
 
-pub record Promise (l : List ℕ) (r : Drawing) : Type 0 where
-  pub told : number (r .answer) ≡ refusal l
-  pub drawn : r .grid ≡ cond (eqb (refusal l) 0) (laid (grid (corners l))) blank
+pub record Sheet : Type 0 where
+  pub answer : Answer
+  pub grid : Memory
+
+unfoldable pub lent : Drawing → List ℕ → List ℕ → List ℕ → Sheet
+lent r xs ys cells = record { answer = r .answer; grid = memory (r .columns) (r .rows) xs ys cells }
+
+pub record Promise (l : List ℕ) (s : Sheet) : Type 0 where
+  pub told : number (s .answer) ≡ refusal l
+  pub drawn : s .grid ≡ cond (eqb (refusal l) 0) (laid (grid (corners l))) blank
   pub sound : refusal l ≡ 0 → Sound (grid (corners l))

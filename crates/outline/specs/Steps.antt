@@ -20,18 +20,25 @@
 --   Marked l k cells, Marks cells    == the first k edges are marked; marks are bits
 --   swept l i j, Swept cells after   == 1 where an odd number of the marks of row j up to column i are 1; all of them so
 --   lit n                            == a cell that is not 0
+-- The drawing
+--   Clear xs ys cells                == the lists of a drawing are all zeros
+--   whole g, without a               == the sheet of an accepted outline with the grid g; the sheet of the refusal a
 use Prim.Native.Nat.{ℕ, zero, suc, _+_, _*_, _-_, _/_, _%_, _≤_, _<_}
 use mathlib.Core.Path.{_≡_}
 use mathlib.Core.Bool.{Bool, true, false, not, _&&_}
 use mathlib.Core.List.{List, _++_}
 use lib.Dec.{leb, ltb, eqb}
-use lib.ListN.{length, getD, take, drop}
+use lib.ListN.{length, getD, take, drop, replicate}
 use Rattle.sum.specs.Sum.{only}
 use Rattle.outline.specs.declared.Axis.{Axis}
 use Rattle.outline.specs.declared.Axis.the-variants.{X, Y}
+use Rattle.outline.specs.declared.Answer.{Answer}
+use Rattle.outline.specs.declared.Answer.the-variants.{Accepted}
 use Rattle.outline.specs.Corners.{Corner, Link, corners, edges, turns, odd, badLength, slanted, straight}
 use Rattle.outline.specs.Lines.{Up, insert, lines, place}
+use Rattle.outline.specs.Grid.{Grid}
 use Rattle.outline.specs.Inside.{Wall, walls, count}
+use Rattle.outline.specs.Promise.{laid, blank, Sheet}
 
 unfoldable pub origin : Corner
 origin = record { x = 0; y = 0 }
@@ -119,3 +126,14 @@ pub record Swept (cells after : List ℕ) : Type 0 where
 
 unfoldable pub lit : ℕ → Bool
 lit n = not (eqb n 0)
+
+pub record Clear (xs ys cells : List ℕ) : Type 0 where
+  pub xs-clear : xs ≡ replicate 16 0
+  pub ys-clear : ys ≡ replicate 16 0
+  pub cells-clear : cells ≡ replicate 256 0
+
+unfoldable pub whole : Grid → Sheet
+whole g = record { answer = Accepted; grid = laid g }
+
+unfoldable pub without : Answer → Sheet
+without a = record { answer = a; grid = blank }

@@ -111,20 +111,19 @@ fn grid() {
     let corners = B;
     text(b"corners");
     numbers(&corners, 16);
-    let drawing = outline::draw(&corners);
-    let grid = drawing.grid;
-    let xs = grid.xs;
-    let ys = grid.ys;
-    let cells = grid.cells;
-    if grid.columns < 16 {
+    let mut xs = [0u16; 16];
+    let mut ys = [0u16; 16];
+    let mut cells = [0u8; 256];
+    let drawing = outline::draw(&corners, &mut xs, &mut ys, &mut cells);
+    if drawing.columns < 16 {
         text(b"x lines");
-        numbers(&xs, grid.columns + 1);
+        numbers(&xs, drawing.columns + 1);
     }
-    if grid.rows < 16 {
+    if drawing.rows < 16 {
         text(b"y lines");
-        numbers(&ys, grid.rows + 1);
+        numbers(&ys, drawing.rows + 1);
     }
-    rows(&cells, grid.columns, grid.rows);
+    rows(&cells, drawing.columns, drawing.rows);
 }
 
 fn shot(list: &[u16]) {

@@ -1,19 +1,21 @@
 -- `fracture::fracture_by` meets its contract. Assumes nothing.
-use mathlib.Core.Path.{_≡_, refl, sym, _∙_, ap}
+use mathlib.Core.Path.{_≡_, refl, sym, _∙_}
 use native.Mathlib.Omega.{arith}
 use borrow.Author.Needs.{needs}
 use Rattle.rule.proofs.Rules.{range-true}
-use Rattle.outline.specs.Promise.{number, refusal}
+use Rattle.outline.specs.Promise.{number, refusal, lent}
+use Rattle.outline.proofs.Memory.{drawing-lengths}
 use Rattle.fracture.specs.declared.Refusal.the-variants as because
 use Rattle.fracture.specs.Told.{reason}
-use Rattle.fracture.proofs.Settled.{told-outline, laid-drawing, outcome-settled}
+use Rattle.fracture.proofs.Settled.{answered, told-outline, laid-drawing, outcome-settled}
 use Rattle.fracture.proofs.fracture_by.Statement.{statement}
 use Rattle.fracture.proofs.fracture_by.Tie as tie
 
 -- the drawing is accepted, so there is no refusal
-accepted : (c : tie.After-enum-told) → refusal (c .before .before .before .before .before .before .args .corners .now) ≡ 0
-unfolding number
-accepted c = sym (c .before .before .draw .ensures .told) ∙ ap number (c .enum-told .given .1)
+accepted : (c : tie.After-enum-told)
+    → refusal (c .before .before .before .before .before .before .before .before .before .args .corners .now) ≡ 0
+unfolding number lent
+accepted c = answered _ (lent _ _ _ _) (c .before .before .draw .ensures) _ (c .enum-told .given .1)
 
 draw-requires : tie.Need-draw-requires
 draw-requires c κs = search needs
@@ -21,12 +23,27 @@ draw-requires c κs = search needs
 enum-told : tie.Need-enum-told
 enum-told c = search needs
 
+slice-aggregate-fracture-grid : tie.Need-slice-aggregate-fracture-grid
+unfolding lent
+slice-aggregate-fracture-grid c = sym (drawing-lengths _ (lent _ _ _ _) (c .before .before .before .draw .ensures) .xs-length)
+
+slice-aggregate-fracture-grid-2 : tie.Need-slice-aggregate-fracture-grid-2
+unfolding lent
+slice-aggregate-fracture-grid-2 c = sym (drawing-lengths _ (lent _ _ _ _) (c .before .before .before .before .draw .ensures) .ys-length)
+
+slice-aggregate-fracture-grid-3 : tie.Need-slice-aggregate-fracture-grid-3
+unfolding lent
+slice-aggregate-fracture-grid-3 c = sym (drawing-lengths _ (lent _ _ _ _) (c .before .before .before .before .before .draw .ensures) .cells-length)
+
 fracture-grid-requires : tie.Need-fracture-grid-requires
+unfolding lent
 fracture-grid-requires c κs =
-    let s = c .before .before .before .before .before .before .before .before in
+    let t = c .before .before .before .before .before in
+    let d = t .before .before in
+    let s = d .before .before .before .before .before .before .before in
     record {
       grid = _;
-      laid = laid-drawing _ _ (c .before .before .before .before .draw .ensures) (accepted (c .before .before));
+      laid = laid-drawing _ (lent _ _ _ _) (d .draw .ensures) (accepted t);
       weight = range-true _ _ (s .pre) .1;
     }
 
@@ -49,31 +66,43 @@ same-length-2 : tie.Need-same-length-2
 same-length-2 c = search needs
 
 returns : tie.Need-returns
+unfolding lent
 returns c =
-    let s = c .before .before .before .before .before .before .before .before .before .before .before .before .before in
-    let h = accepted (c .before .before .before .before .before .before .before) in
-    c .before .before .before .before .fracture-grid .ensures _ (laid-drawing _ _ (c .before .before .before .before .before .before .before .before .before .draw .ensures) h)
+    let f = c .before .before .before .before in
+    let t = f .before .before .before .before .before .before in
+    let d = t .before .before in
+    let s = d .before .before .before .before .before .before .before in
+    let h = accepted t in
+    f .fracture-grid .ensures _ (laid-drawing _ (lent _ _ _ _) (d .draw .ensures) h)
     ∙ outcome-settled (s .args .corners .now) (s .args .rule .threshold) (s .args .rule .weight) (s .args .table .now) (s .args .list .now) (s .pre) h
 
 returns-2 : tie.Need-returns-2
-unfolding number reason
+unfolding number reason lent
 returns-2 c =
-    told-outline _ _ _ _ _ (c .before .before .before .before .before .before .pre) because.Length (sym (c .before .before .draw .ensures .told) ∙ ap number (c .enum-told2 .given .1)) (omega arith) refl
+    let d = c .before .before in
+    let s = d .before .before .before .before .before .before .before in
+    told-outline _ _ _ _ _ (s .pre) because.Length (answered _ (lent _ _ _ _) (d .draw .ensures) _ (c .enum-told2 .given .1)) (omega arith) refl
 
 returns-3 : tie.Need-returns-3
-unfolding number reason
+unfolding number reason lent
 returns-3 c =
-    told-outline _ _ _ _ _ (c .before .before .before .before .before .before .pre) because.Slanted (sym (c .before .before .draw .ensures .told) ∙ ap number (c .enum-told3 .given .1)) (omega arith) refl
+    let d = c .before .before in
+    let s = d .before .before .before .before .before .before .before in
+    told-outline _ _ _ _ _ (s .pre) because.Slanted (answered _ (lent _ _ _ _) (d .draw .ensures) _ (c .enum-told3 .given .1)) (omega arith) refl
 
 returns-4 : tie.Need-returns-4
-unfolding number reason
+unfolding number reason lent
 returns-4 c =
-    told-outline _ _ _ _ _ (c .before .before .before .before .before .before .pre) because.Straight (sym (c .before .before .draw .ensures .told) ∙ ap number (c .enum-told4 .given .1)) (omega arith) refl
+    let d = c .before .before in
+    let s = d .before .before .before .before .before .before .before in
+    told-outline _ _ _ _ _ (s .pre) because.Straight (answered _ (lent _ _ _ _) (d .draw .ensures) _ (c .enum-told4 .given .1)) (omega arith) refl
 
 returns-5 : tie.Need-returns-5
-unfolding number reason
+unfolding number reason lent
 returns-5 c =
-    told-outline _ _ _ _ _ (c .before .before .before .before .before .before .pre) because.Empty (sym (c .before .before .draw .ensures .told) ∙ ap number (c .enum-told5 .given .1)) (omega arith) refl
+    let d = c .before .before in
+    let s = d .before .before .before .before .before .before .before in
+    told-outline _ _ _ _ _ (s .pre) because.Empty (answered _ (lent _ _ _ _) (d .draw .ensures) _ (c .enum-told5 .given .1)) (omega arith) refl
 
 pub fracture-by-spec : {M : Type 1} → statement M
 fracture-by-spec =
@@ -81,6 +110,9 @@ fracture-by-spec =
     (tie.spec
     draw-requires
     enum-told
+    slice-aggregate-fracture-grid
+    slice-aggregate-fracture-grid-2
+    slice-aggregate-fracture-grid-3
     fracture-grid-requires
     enum-told-2
     enum-told-3

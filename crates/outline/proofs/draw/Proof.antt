@@ -16,7 +16,8 @@ refused-requires c κs = search needs
 returns : tie.Need-returns
 unfolding number
 returns c =
-    promise-refused _ 1 _ Length (refusal-2 _ (sym (c .before .before .bad-length .ensures) ∙ c .before .if1 .taken)) (c .refused .ensures .0) refl (c .refused .ensures .1)
+    let t = c .before .before .before .before in
+    promise-refused _ 1 _ Length (refusal-2 _ (sym (t .before .bad-length .ensures) ∙ t .if1 .taken)) refl (c .refused .ensures)
 
 slanted-requires : tie.Need-slanted-requires
 slanted-requires c κs = search needs
@@ -27,11 +28,12 @@ refused-requires-2 c κs = search needs
 returns-2 : tie.Need-returns-2
 unfolding number
 returns-2 c =
+    let t = c .before .before .before .before in
+    let l = t .before .before in
     promise-refused _ 2 _ Slanted
-    (refusal-3 _ (sym (c .before .before .before .before .bad-length .ensures) ∙ c .before .before .before .if1 .left) (sym (c .before .before .slanted .ensures) ∙ c .before .if2 .taken))
-    (c .refused2 .ensures .0)
+    (refusal-3 _ (sym (l .before .bad-length .ensures) ∙ l .if1 .left) (sym (t .before .slanted .ensures) ∙ t .if2 .taken))
     refl
-    (c .refused2 .ensures .1)
+    (c .refused2 .ensures)
 
 straight-requires : tie.Need-straight-requires
 straight-requires c κs = search needs
@@ -42,21 +44,26 @@ refused-requires-3 c κs = search needs
 returns-3 : tie.Need-returns-3
 unfolding number
 returns-3 c =
+    let t = c .before .before .before .before in
+    let m = t .before .before in
+    let l = m .before .before in
     promise-refused _ 3 _ Straight
     (refusal-4 _
-    (sym (c .before .before .before .before .before .before .bad-length .ensures) ∙ c .before .before .before .before .before .if1 .left)
-    (sym (c .before .before .before .before .slanted .ensures) ∙ c .before .before .before .if2 .left)
-    (sym (c .before .before .straight .ensures) ∙ c .before .if3 .taken))
-    (c .refused3 .ensures .0)
+    (sym (l .before .bad-length .ensures) ∙ l .if1 .left)
+    (sym (m .before .slanted .ensures) ∙ m .if2 .left)
+    (sym (t .before .straight .ensures) ∙ t .if3 .taken))
     refl
-    (c .refused3 .ensures .1)
+    (c .refused3 .ensures)
 
 plot-requires : tie.Need-plot-requires
 plot-requires c κs =
+    let t = c .before .before .before in
+    let m = t .before .before in
+    let l = m .before .before in
     record {
-      length-good = sym (c .before .before .before .before .before .bad-length .ensures) ∙ c .before .before .before .before .if1 .left;
-      slanted-none = sym (c .before .before .before .slanted .ensures) ∙ c .before .before .if2 .left;
-      straight-none = sym (c .before .straight .ensures) ∙ c .if3 .left;
+      length-good = sym (l .before .bad-length .ensures) ∙ l .if1 .left;
+      slanted-none = sym (m .before .slanted .ensures) ∙ m .if2 .left;
+      straight-none = sym (t .before .straight .ensures) ∙ t .if3 .left;
     }
 
 returns-4 : tie.Need-returns-4
