@@ -1,7 +1,8 @@
 -- Laws of the pieces of a strip height by height. Assumes nothing.
 --
---   lanes-start, lanes-fit, lanes-more
---                               == weighing one cut of the pieces of a height: the sums fit, and it is among the cuts weighed
+--   lanes-start                 == before a cut is weighed
+--   cut-fits, cut-weighed       == weighing one cut of the pieces of a height: the sums fit, and it is weighed
+--   cuts-out                    == the two cuts weighed that are as far from the middle
 --   summed-none, summed-more    == the sums up to a line, from line to line
 --   summed-count, summed-flank  == what lies between two lines, by the sums up to them
 --   Level, level-*              == the pieces of a height, while those that begin below b are settled: none of them yet, one
@@ -25,25 +26,27 @@ use Rattle.table.proofs.Entry
 use Rattle.table.proofs.Run
 use Rattle.table.proofs.Strip.{judged-cost}
 
-module _ (side : List ℕ) (h k lanes : ℕ) (low : 0 < k) (high : k < h) where
-  pub lanes-fit : Cheap side → (i : ℕ) → i < lanes → getD side (16 * (k - 1) + i) 0 + getD side (16 * (h - k - 1) + k + i) 0 < 2 ^ 32
-  lanes-fit c i l = omega (arith, c .most (16 * (k - 1) + i), c .most (16 * (h - k - 1) + k + i))
+pub cut-fits : (side : List ℕ) (h k lanes : ℕ) → Cheap side
+    → (i : ℕ) → i < lanes → getD side (16 * (k - 1) + i) 0 + getD side (16 * (h - k - 1) + k + i) 0 < 2 ^ 32
+cut-fits side h k lanes c i l = omega (arith, c .most (16 * (k - 1) + i), c .most (16 * (h - k - 1) + k + i))
 
-  pub lanes-more : (best best₂ : List ℕ) (m b : ℕ) → b < lanes
-      → Wrote (weighedApart best side (16 * (k - 1)) (16 * (h - k - 1) + k)) 0 lanes best best₂
-      → Lowest (cutAt side h b) 0 k m (getD best b 0)
-      → Lowest (cutAt side h b) 0 (k + 1) m (getD best₂ b 0)
-  unfolding weighedApart cutAt sideAt
-  lanes-more best best₂ m b l w o =
-      subst (λ n. Lowest (cutAt side h b) 0 (k + 1) m n) (sym value) (Run.lowest-more (cutAt side h b) 0 k m (getD best b 0) (cutAt side h b k) low refl o)
-    where
-      value : getD best₂ b 0 ≡ min (getD best b 0) (cutAt side h b k)
-      value =
-          let z : 0 + b ≡ b = omega arith in
-          let e : 16 * (h - k - 1) + k + b ≡ 16 * (h - k - 1) + (b + k) = omega arith in
-          ap (λ i. getD best₂ i 0) (sym z)
-          ∙ w .made b l
-          ∙ ap (λ i. min (getD best b 0) (getD side (16 * (k - 1) + b) 0 + getD side i 0)) e
+pub cut-weighed : (side best best₂ : List ℕ) (h k lanes b : ℕ) → b < lanes
+    → Wrote (weighedApart best side (16 * (k - 1)) (16 * (h - k - 1) + k)) 0 lanes best best₂
+    → getD best₂ b 0 ≡ min (getD best b 0) (cutAt side h b k)
+unfolding weighedApart cutAt sideAt
+cut-weighed side best best₂ h k lanes b l w =
+    let z : 0 + b ≡ b = omega arith in
+    let e : 16 * (h - k - 1) + k + b ≡ 16 * (h - k - 1) + (b + k) = omega arith in
+    ap (λ i. getD best₂ i 0) (sym z) ∙ w .made b l ∙ ap (λ i. min (getD best b 0) (getD side (16 * (k - 1) + b) 0 + getD side i 0)) e
+
+-- the two cuts that are as far from the middle
+pub cuts-out : (f : ℕ → ℕ) (h k m x y z : ℕ) → 0 < k → k ≤ h - k → y ≡ min x (f k) → z ≡ min y (f (h - k))
+    → Lowest f k (h - k) m x
+    → Lowest f (k - 1) (h - (k - 1)) m z
+cuts-out f h k m x y z p q ey ez l =
+    let e : h - k + 1 ≡ h - (k - 1) = omega arith in
+    let v : min (min x (f k)) (f (h - k)) ≡ z = omega arith in
+    subst (λ n. Lowest f (k - 1) (h - (k - 1)) m n) v (subst (λ n. Lowest f (k - 1) n m (min (min x (f k)) (f (h - k)))) e (Run.lowest-out f k (h - k) m x p q l))
 
 -- before a cut is weighed
 pub lanes-start : (f : ℕ → ℕ) (h b r : ℕ) → b < 16 → Lowest f 0 h (getD (replicate 16 4294967295) b 0) r → Lowest f 0 h uncut r

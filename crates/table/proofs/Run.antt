@@ -7,6 +7,8 @@
 --   bare-*                   == the three ways of a stretch: outside, exposed, covered
 --   lowest-none, lowest-more == the least so far, with no line weighed yet, and with one more
 --   lowest-same              == for equal values, the same least
+--   lowest-between, lowest-out
+--                            == with no line between, and with the two outer lines more
 --   lowest-on                == the same least where the lines are numbered from b on
 --   lowest-min               == with the least of other cuts besides
 use Prim.Native.Nat.{ℕ, zero, suc, _+_, _-_, _≤_, _<_, _^_, min}
@@ -137,6 +139,30 @@ lowest-same f g a c m n r s h e z l =
     go : (r ≡ m) ⊎ ((j : ℕ) × (a < j) × (j < c) × (r ≡ f j)) → (s ≡ n) ⊎ ((j : ℕ) × (a < j) × (j < c) × (s ≡ g j))
     go (inl w) = inl (omega arith)
     go (inr w) = inr (w .0, w .1, w .2, omega (arith, w .3, h (w .0) (w .1) (w .2)))
+
+pub lowest-between : (f : ℕ → ℕ) (a c m : ℕ) → c ≤ a + 1 → Lowest f a c m m
+lowest-between f a c m h = record { first = omega arith; each = λ j p q. absurd (omega arith); one = inl refl }
+
+pub lowest-out : (f : ℕ → ℕ) (a c m r : ℕ) → 0 < a → a ≤ c → Lowest f a c m r → Lowest f (a - 1) (c + 1) m (min (min r (f a)) (f c))
+lowest-out f a c m r z h l =
+    record {
+      first = omega (arith, l .first);
+      each = λ j p q. elim (le-or j a) [
+        | inl s ↦ (let e : j ≡ a = omega arith in omega (arith, ap f e))
+        | inr s ↦ elim (le-or c j) [
+          | inl t ↦ (let e : j ≡ c = omega arith in omega (arith, ap f e))
+          | inr t ↦ omega (arith, l .each j s t)
+        ]
+      ];
+      one = go (le-or (min r (f a)) (f c)) (le-or r (f a)) (l .one);
+    }
+  where
+    go : (min r (f a) ≤ f c) ⊎ (f c < min r (f a)) → (r ≤ f a) ⊎ (f a < r) → (r ≡ m) ⊎ ((j : ℕ) × (a < j) × (j < c) × (r ≡ f j))
+        → (min (min r (f a)) (f c) ≡ m) ⊎ ((j : ℕ) × (a - 1 < j) × (j < c + 1) × (min (min r (f a)) (f c) ≡ f j))
+    go (inr s) t o = inr (c, omega arith, omega arith, omega arith)
+    go (inl s) (inr t) o = inr (a, omega arith, omega arith, omega arith)
+    go (inl s) (inl t) (inl o) = inl (omega arith)
+    go (inl s) (inl t) (inr o) = inr (o .0, omega (arith, o .1), omega (arith, o .2), omega (arith, o .3))
 
 pub lowest-on : (f g : ℕ → ℕ) (b h m r : ℕ) → ((k : ℕ) → 0 < k → k < h → f k ≡ g (b + k)) → Lowest f 0 h m r → Lowest g b (b + h) m r
 lowest-on f g b h m r e l =

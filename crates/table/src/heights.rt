@@ -5,29 +5,40 @@ use outline::Line;
 use rule::Rule;
 ghost use mathlib.Core.Path.{_≡_};
 ghost use mathlib.Core.List.{List};
-ghost use Prim.Native.Nat.{ℕ, _+_, _*_, _-_, _<_, _≤_};
+ghost use Prim.Native.Nat.{ℕ, _+_, _*_, _-_, _<_, _≤_, min};
 ghost use lib.ListN.{length, getD};
 ghost use Rattle.table.specs.Entry.{pairCount};
 ghost use Rattle.table.specs.Run.{Lowest};
 ghost use Rattle.table.specs.Strip.{countIn, flankIn, Measured, Recurs, Solvable};
 ghost use Rattle.table.specs.Height.{cutAt, Cheap, Summed, Raised, Raisable};
 
-// Weighs the horizontal cuts of the pieces of height h, so many lanes side by side. A lane past the last piece weighs what nobody reads.
+// Weighs the cut k rows of cells above the low lines of the pieces of height h, so many lanes side by side. A lane past the last piece
+// weighs what nobody reads.
+fn weigh_cut(best: &mut [u32], side: &[u32], h: usize, k: usize, lanes: usize)
+    requires { ⌜ (length (now best) ≡ 16) × ((length (now side) ≡ 256) × ((h ≤ 15) × (lanes ≤ 16))) ⌝ }
+    requires { ⌜ (0 < k) × ((k < h) × Cheap (now side)) ⌝ }
+    ensures { λ _. ⌜ ((b : ℕ) → b < lanes → getD (now (best .exit)) b 0 ≡ min (getD (now (best .entry)) b 0) (cutAt (now (side .entry)) h b k)) ⌝ }
+{
+    runs::weigh_apart(best, side, 16 * (k - 1), 16 * (h - k - 1) + k, lanes);
+}
+
+// Weighs all horizontal cuts of the pieces of height h, from the middle outwards: the outer ones need the costs that were stored last.
 fn weigh_lanes(best: &mut [u32], side: &[u32], h: usize, lanes: usize)
-    requires { ⌜ (length (now best) ≡ 16) × ((length (now side) ≡ 256) × ((0 < h) × ((h ≤ 15) × (lanes ≤ 16)))) ⌝ }
+    requires { ⌜ (length (now best) ≡ 16) × ((length (now side) ≡ 256) × ((h ≤ 15) × (lanes ≤ 16))) ⌝ }
     requires { ⌜ Cheap (now side) ⌝ }
     ensures { λ _. ⌜ ((b : ℕ) → b < lanes → Lowest (cutAt (now (side .entry)) h b) 0 h (getD (now (best .entry)) b 0) (getD (now (best .exit)) b 0)) ⌝ }
 {
-    let mut k: usize = 1;
-    while k < h {
-        runs::weigh_apart(best, side, 16 * (k - 1), 16 * (h - k - 1) + k, lanes);
-        k += 1;
+    let mut k = h / 2;
+    while 0 < k {
+        weigh_cut(best, side, h, k, lanes);
+        weigh_cut(best, side, h, h - k, lanes);
+        k -= 1;
     }
 }
 
 // The same of n pieces, in the fewest lanes of 4, 8 and 16 that have room for them.
 fn weigh_height(best: &mut [u32], side: &[u32], h: usize, n: usize)
-    requires { ⌜ (length (now best) ≡ 16) × ((length (now side) ≡ 256) × ((0 < h) × ((h ≤ 15) × (n ≤ 16)))) ⌝ }
+    requires { ⌜ (length (now best) ≡ 16) × ((length (now side) ≡ 256) × ((h ≤ 15) × (n ≤ 16))) ⌝ }
     requires { ⌜ Cheap (now side) ⌝ }
     ensures { λ _. ⌜ ((b : ℕ) → b < n → Lowest (cutAt (now (side .entry)) h b) 0 h (getD (now (best .entry)) b 0) (getD (now (best .exit)) b 0)) ⌝ }
 {

@@ -32,7 +32,7 @@ sub-weigh-height c = search needs
 weigh-height-requires : tie.Need-weigh-height-requires Inv-loop μ-loop
 weigh-height-requires c κs =
     let s = c .before .before .before .before .before .before .before in
-    ((refl, (s .pre .1 .0 .1 .1 .1, (omega arith, (omega (arith, s .pre .0 .rows-most), omega (arith, s .pre .0 .rows-most))))), s .pre .1 .1 .1 .raised .cheap)
+    ((refl, (s .pre .1 .0 .1 .1 .1, (omega (arith, s .pre .0 .rows-most), omega (arith, s .pre .0 .rows-most)))), s .pre .1 .1 .1 .raised .cheap)
 
 cast-cells : tie.Need-cast-cells Inv-loop μ-loop
 cast-cells c =

@@ -1,82 +1,73 @@
--- `table::heights::weigh_lanes` meets its contract: the cuts below k are weighed. Assumes nothing.
-use Prim.Native.Nat.{ℕ, _-_, _≤_, _<_}
-use mathlib.Core.Path.{_≡_, _∙_, refl, subst}
+-- `table::heights::weigh_lanes` meets its contract: the cuts between the k-th and its like from above are weighed. Assumes nothing.
+use Prim.Native.Nat.{ℕ, _*_, _-_, _≤_, _<_}
+use mathlib.Core.Path.{_≡_, refl, _∙_, subst}
 use native.Mathlib.Omega.{arith}
 use lib.ListN.{length, getD}
 use borrow.Author.Needs.{needs}
 use Rattle.table.specs.Run.{Lowest}
 use Rattle.table.specs.Height.{cutAt}
-use Rattle.table.proofs.Run.{lowest-none}
-use Rattle.table.proofs.Height.{lanes-fit, lanes-more}
+use Rattle.table.proofs.Run.{lowest-between}
+use Rattle.table.proofs.Height.{cuts-out}
 use Rattle.table.proofs.heights.weigh_lanes.Statement.{statement}
 use Rattle.table.proofs.heights.weigh_lanes.Tie as tie
 
 abbrev Inv-loop : tie.InvT-loop
-Inv-loop best₀ side h lanes k₀ best k = (0 < k) × ((k ≤ h) × ((length best ≡ length best₀) × ((b : ℕ) → b < lanes → Lowest (cutAt side h b) 0 k (getD best₀ b 0) (getD best b 0))))
+Inv-loop best₀ side h lanes k₀ best k = (2 * k ≤ h) × ((length best ≡ length best₀) × ((b : ℕ) → b < lanes → Lowest (cutAt side h b) k (h - k) (getD best₀ b 0) (getD best b 0)))
 
 abbrev μ-loop : tie.MeasureT-loop
-μ-loop best₀ side h lanes k₀ best k = h - k
+μ-loop best₀ side h lanes k₀ best k = k
 
 loop-holds : tie.Need-loop-holds Inv-loop μ-loop
-loop-holds c = (omega arith, (c .before .before .pre .0 .1 .1 .0, (refl, λ b h. lowest-none _ 0 _)))
+loop-holds c = (omega arith, (refl, λ b h. lowest-between _ _ _ _ (omega arith)))
 
-sub-weigh-apart : tie.Need-sub-weigh-apart Inv-loop μ-loop
-sub-weigh-apart c = search needs
-
-mul-weigh-apart : tie.Need-mul-weigh-apart Inv-loop μ-loop
-mul-weigh-apart c = search needs
-
-sub-weigh-apart-2 : tie.Need-sub-weigh-apart-2 Inv-loop μ-loop
-sub-weigh-apart-2 c = search needs
-
-sub-weigh-apart-3 : tie.Need-sub-weigh-apart-3 Inv-loop μ-loop
-sub-weigh-apart-3 c = search needs
-
-mul-weigh-apart-2 : tie.Need-mul-weigh-apart-2 Inv-loop μ-loop
-mul-weigh-apart-2 c = search needs
-
-add-weigh-apart : tie.Need-add-weigh-apart Inv-loop μ-loop
-add-weigh-apart c = search needs
-
-weigh-apart-requires : tie.Need-weigh-apart-requires Inv-loop μ-loop
-weigh-apart-requires c κs =
+weigh-cut-requires : tie.Need-weigh-cut-requires Inv-loop μ-loop
+weigh-cut-requires c κs =
     let s = c .before .before .before .before .before in
     let l = c .before .before .loop in
-    let p = s .pre .0 in (
-      (omega (arith, l .inv .1 .1 .0), (omega arith, omega arith)),
-      lanes-fit _ _ _ (s .args .lanes) (l .inv .0) (c .before .loop-test .taken) (s .pre .1),
-    )
+    let p = s .pre .0 in
+    ((l .inv .1 .0 ∙ p .0, p .1), (c .before .loop-test .taken, (omega arith, s .pre .1)))
 
-add-k : tie.Need-add-k Inv-loop μ-loop
-add-k c = search needs
+sub-weigh-cut : tie.Need-sub-weigh-cut Inv-loop μ-loop
+sub-weigh-cut c = search needs
+
+weigh-cut-requires-2 : tie.Need-weigh-cut-requires-2 Inv-loop μ-loop
+weigh-cut-requires-2 c κs =
+    let s = c .before .before .before .before .before .before .before .before .before in
+    let l = c .before .before .before .before .before .before .loop in
+    let p = s .pre .0 in
+    ((c .before .before .before .weigh-cut .kept .0 ∙ l .inv .1 .0 ∙ p .0, p .1), (omega arith, (omega arith, s .pre .1)))
+
+sub-k : tie.Need-sub-k Inv-loop μ-loop
+sub-k c = search needs
 
 loop-less : tie.Need-loop-less Inv-loop μ-loop
 loop-less c = search needs
 
 loop-again : tie.Need-loop-again Inv-loop μ-loop
 loop-again c =
-    let s = c .before .before .before .before .before .before .before .before in
-    let l = c .before .before .before .before .before .loop in
-    let t = c .before .before .before .before .loop-test .taken in
-    let w = c .before .before .weigh-apart in (
+    let s = c .before .before .before .before .before .before .before .before .before .before .before .before in
+    let l = c .before .before .before .before .before .before .before .before .before .loop in
+    let v = c .before .before .before .before .before .before .weigh-cut in
+    let w = c .before .before .weigh-cut2 in (
       omega arith,
       (
-        omega arith,
-        (
-          w .kept .0 ∙ l .inv .1 .1 .0,
-          λ b h. lanes-more _ _ _ (s .args .lanes) (l .inv .0) t _ _ _ b h (w .ensures) (l .inv .1 .1 .1 b h),
-        ),
+        w .kept .0 ∙ v .kept .0 ∙ l .inv .1 .0,
+        λ b h. cuts-out _ (s .args .h) (l .k) _ _ _ _ (c .before .before .before .before .before .before .before .before .loop-test .taken) (omega arith) (v .ensures b h) (w .ensures b h) (l .inv .1 .1 b h),
       ),
     )
 
 same-length : tie.Need-same-length Inv-loop μ-loop
-same-length c = c .before .loop .inv .1 .1 .0
+same-length c = c .before .loop .inv .1 .0
 
 returns : tie.Need-returns Inv-loop μ-loop
 returns c =
     let s = c .before .before .before .before in
     let l = c .before .loop in
-    λ b h. subst (λ k. Lowest (cutAt (s .args .side .now) (s .args .h) b) 0 k (getD (s .args .best .now) b 0) (getD (l .best) b 0)) (omega arith) (l .inv .1 .1 .1 b h)
+    λ b h.
+    let e : l .k ≡ 0 = omega arith in
+    let z : s .args .h - l .k ≡ s .args .h = omega arith in
+    subst (λ n. Lowest (cutAt (s .args .side .now) (s .args .h) b) 0 n (getD (s .args .best .now) b 0) (getD (l .best) b 0)) z
+    (subst (λ n. Lowest (cutAt (s .args .side .now) (s .args .h) b) n (s .args .h - l .k) (getD (s .args .best .now) b 0) (getD (l .best) b 0)) e (l .inv .1 .1 b h))
 
 pub weigh-lanes-spec : {M : Type 1} → statement M
 weigh-lanes-spec =
@@ -85,14 +76,10 @@ weigh-lanes-spec =
     Inv-loop
     μ-loop
     loop-holds
-    sub-weigh-apart
-    mul-weigh-apart
-    sub-weigh-apart-2
-    sub-weigh-apart-3
-    mul-weigh-apart-2
-    add-weigh-apart
-    weigh-apart-requires
-    add-k
+    weigh-cut-requires
+    sub-weigh-cut
+    weigh-cut-requires-2
+    sub-k
     loop-less
     loop-again
     same-length
