@@ -2,8 +2,8 @@
 --
 --   Grid                 == the count of columns and rows of cells, the place in nm of each x line and y line, and the cells that
 --                           are inside. The cell (i, j) lies between the x lines i and i + 1 and the y lines j and j + 1
---   Sound g              == 1 to 15 columns and rows; places rise from line to line within the frame, and never fall beyond it
---                           (past the last line they repeat it); they are 16-bit numbers; no cell beyond the frame is inside
+--   Sound g              == 1 to 15 columns and rows; places rise from line to line within the frame, and never fall beyond it;
+--                           they are 16-bit numbers; no cell beyond the frame is inside
 --   Drawn g xs ys cells  == how a grid lies in memory: the places of the lines in 16 numbers each, and 16 x 16 bytes, 1 for an
 --                           inside cell, 0 beyond the frame, column after column
 --   Memory               == a grid in memory: its columns and rows, and the three lists

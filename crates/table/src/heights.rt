@@ -71,7 +71,8 @@ fn sum_up(upto: &mut [u32], sums: &[u32], rows: usize)
     }
 }
 
-// Settles the pieces of height h, where all lower ones are settled: each has its cost in the row, and besides beside its like.
+// Settles the pieces of height h, where all lower ones are settled: each then has its cost in the row, and once more beside the
+// others of its height.
 fn settle_height(
     row: &mut [u32],
     side: &mut [u32],

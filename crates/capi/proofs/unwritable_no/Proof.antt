@@ -1,0 +1,43 @@
+-- `unwritable_no` meets its contract: each refusal of a writer has its number. Assumes nothing.
+use mathlib.Core.Path.{ap, sym}
+use Rattle.job.specs.Calls.{unwritableNo}
+use borrow.Author.Needs.{needs}
+use Rattle.capi.proofs.unwritable_no.Statement.{statement}
+use Rattle.capi.proofs.unwritable_no.Tie as tie
+
+enum-told : tie.Need-enum-told
+enum-told c = search needs
+
+enum-told-2 : tie.Need-enum-told-2
+enum-told-2 c = search needs
+
+enum-told-3 : tie.Need-enum-told-3
+enum-told-3 c = search needs
+
+enum-told-4 : tie.Need-enum-told-4
+enum-told-4 c = search needs
+
+returns : tie.Need-returns
+returns c = sym (ap unwritableNo (c .enum-told .given .1))
+
+returns-2 : tie.Need-returns-2
+returns-2 c = sym (ap unwritableNo (c .enum-told2 .given .1))
+
+returns-3 : tie.Need-returns-3
+returns-3 c = sym (ap unwritableNo (c .enum-told3 .given .1))
+
+returns-4 : tie.Need-returns-4
+returns-4 c = sym (ap unwritableNo (c .enum-told4 .given .1))
+
+pub unwritable-no-spec : {M : Type 1} → statement M
+unwritable-no-spec =
+    tie.close
+    (tie.spec
+    enum-told
+    enum-told-2
+    enum-told-3
+    enum-told-4
+    returns
+    returns-2
+    returns-3
+    returns-4)
