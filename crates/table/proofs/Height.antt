@@ -20,7 +20,7 @@ use Rattle.sum.proofs.Sum.{le-or, over-none, over-cut, over-last}
 use Rattle.rule.specs.declared.Rule.{Rule}
 use Rattle.table.specs.Entry.{pairsBelow, pairCount, pairNo}
 use Rattle.table.specs.Run.{Wrote, weighedApart, Lowest}
-use Rattle.table.specs.Strip.{uncut, countIn, flankIn, shotCost, Judged, Measured, Recurs}
+use Rattle.table.specs.Strip.{uncut, countIn, flankIn, shotCost, Judged, Recurs}
 use Rattle.table.specs.Height.{sideAt, cutAt, Cheap, Summed, Raised}
 use Rattle.table.proofs.Entry
 use Rattle.table.proofs.Run
@@ -240,7 +240,7 @@ module _ (s : ℕ → ℕ → ℕ) (sums ys : List ℕ) (r : Rule) (rows wide : 
   raised-judged b n m v x best cut q l en em ex xm o ec j =
       let z : h ≡ b + h - b = omega arith in
       judged-cost s sums ys r rows wide row₀ rows (k .known) b (b + h) n m v cut (omega arith) (omega arith) l en (em ∙ ap (λ i. i * wide) z)
-      (Run.lowest-same cost cost b (b + h) x _ (min x best) cut (λ i e f. refl) (ex ∙ k .ahead b (b + h) (omega arith) l (omega arith)) (sym ec)
+      (λ i f. Run.lowest-same cost cost b (b + h) x _ (min x best) cut (λ i e f. refl) (ex ∙ k .ahead b (b + h) (omega arith) l (omega arith)) (sym ec)
       (Run.lowest-min cost b (b + h) uncut x best xm (Run.lowest-on (cutAt side h b) cost b h uncut best parts o)))
       j
     where

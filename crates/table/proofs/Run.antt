@@ -2,7 +2,7 @@
 --
 --   wrote-none, wrote-more   == a run that is written from the front, one store after the other
 --   wrote-end                == where the run is at its end
---   weigh-*, above-*, apart-more
+--   weigh-*, apart-more
 --                            == weighing a cut of several pieces: the sums fit, and one piece more
 --   bare-*                   == the three ways of a stretch: outside, exposed, covered
 --   lowest-none, lowest-more == the least so far, with no line weighed yet, and with one more
@@ -11,18 +11,16 @@
 --                            == with no line between, and with the two outer lines more
 --   lowest-on                == the same least where the lines are numbered from b on
 --   lowest-min               == with the least of other cuts besides
-use Prim.Native.Nat.{ℕ, zero, suc, _+_, _-_, _≤_, _<_, _^_, min}
+use Prim.Native.Nat.{ℕ, _+_, _-_, _≤_, _<_, _^_, min}
 use mathlib.Core.Path.{_≡_, refl, sym, _∙_, ap, subst}
 use mathlib.Core.Logic.{_⊎_, inl, inr}
-use mathlib.Core.Bool.{Bool, true, false}
 use mathlib.Core.List.{List}
 use native.Mathlib.Omega.{arith}
-use lib.Dec.{eqb}
 use lib.ListN.{length, getD, set, length-set}
 use lib.Seq.{getD-set-same, getD-set-other}
 use borrow.Author.Tests.{eq-eqb, ne-eqb}
 use Rattle.sum.proofs.Sum.{le-or}
-use Rattle.table.specs.Run.{Wrote, bare, weighed, weighedAbove, weighedApart, Lowest}
+use Rattle.table.specs.Run.{Wrote, bare, weighed, weighedApart, Lowest}
 
 pub wrote-none : (f : ℕ → ℕ) (at : ℕ) (t : List ℕ) → Wrote f at 0 t t
 wrote-none f at t = record { long = refl; made = λ i h. absurd (omega arith); kept = λ k h. refl }
@@ -66,22 +64,6 @@ module _ (t u : List ℕ) (at low high n i : ℕ) where
   weigh-more r h k m l e w =
       wrote-more (weighed t at low high) at i t u r (omega (arith, w .long))
       (omega (arith, w .kept (at + i) (inr (omega arith)), w .kept (low + i) (inl (omega arith)), w .kept (high + i) (inr (omega arith))))
-      w
-
-module _ (t u : List ℕ) (at cost high n i : ℕ) where
-  pub above-fits : at + n ≤ high → i < n → ((k : ℕ) → k < n → cost + getD t (high + k) 0 < 2 ^ 32)
-      → Wrote (weighedAbove t at cost high) at i t u
-      → cost + getD u (high + i) 0 < 2 ^ 32
-  above-fits k l fit w = omega (arith, w .kept (high + i) (inr (omega arith)), fit i l)
-
-  pub above-more : (r : ℕ) → at + n ≤ high → high + n ≤ length t → i < n
-      → r ≡ min (getD u (at + i) 0) (cost + getD u (high + i) 0)
-      → Wrote (weighedAbove t at cost high) at i t u
-      → Wrote (weighedAbove t at cost high) at (i + 1) t (set u (at + i) r)
-  unfolding weighedAbove
-  above-more r k m l e w =
-      wrote-more (weighedAbove t at cost high) at i t u r (omega (arith, w .long))
-      (omega (arith, w .kept (at + i) (inr (omega arith)), w .kept (high + i) (inr (omega arith))))
       w
 
 pub apart-more : (t side u : List ℕ) (low high n i r : ℕ) → n ≤ length t → i < n

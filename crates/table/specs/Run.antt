@@ -5,8 +5,6 @@
 --                           across (far) is not, else 0; a cell is 1 where it is inside, else 0
 --   weighed t at low high i
 --                        == what a piece at at + i costs at most, with the cut weighed whose parts are at low + i and high + i
---   weighedAbove t at cost high i
---                        == the same where all the low parts are one piece, which costs `cost`
 --   weighedApart t side low high i
 --                        == the same where the parts are at low + i and high + i of another list, side
 --   Lowest f a c m r     == r is the least of m and of f at the lines strictly between a and c
@@ -29,9 +27,6 @@ bare near far len = only (not (eqb near 0) && eqb far 0) len
 
 unfoldable pub weighed : List ℕ → ℕ → ℕ → ℕ → ℕ → ℕ
 weighed t at low high i = min (getD t (at + i) 0) (getD t (low + i) 0 + getD t (high + i) 0)
-
-unfoldable pub weighedAbove : List ℕ → ℕ → ℕ → ℕ → ℕ → ℕ
-weighedAbove t at cost high i = min (getD t (at + i) 0) (cost + getD t (high + i) 0)
 
 unfoldable pub weighedApart : List ℕ → List ℕ → ℕ → ℕ → ℕ → ℕ
 weighedApart t side low high i = min (getD t i 0) (getD side (low + i) 0 + getD side (high + i) 0)

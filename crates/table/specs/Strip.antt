@@ -6,6 +6,7 @@
 --   countIn, flankIn sums b d      == the inside cells, and the exposed flanks, between the y lines b and d
 --   endsAt sums b d                == the exposed bottom at b and top at d
 --   shotCost sums ys r b d         == the charge of the piece between b and d as a shot, by these sums
+--   partsAt row rows b d k         == what the two parts of the piece between b and d, cut at k, cost together, by the row
 --   Judged n m shot best v         == v is the cost of a piece with n inside cells of m: 0 outside, `shot` where it is full, else `best`
 --   Measured sums ys r rows wide   == the sums and places are those of some strip of so many rows, `wide` columns wide: they are
 --                                     within what places and cells allow
@@ -40,6 +41,9 @@ endsAt sums b d = getD sums (16 + b) 0 + getD sums (31 + d) 0
 unfoldable pub shotCost : List ℕ → List ℕ → Rule → ℕ → ℕ → ℕ
 shotCost sums ys r b d =
     1000 + r .weight * (flankIn sums b d + only (ltb (getD ys d 0 - getD ys b 0) (r .threshold)) (endsAt sums b d))
+
+unfoldable pub partsAt : List ℕ → ℕ → ℕ → ℕ → ℕ → ℕ
+partsAt row rows b d k = getD row (pairNo rows b k) 0 + getD row (pairNo rows k d) 0
 
 pub record Judged (n m shot best v : ℕ) : Type 0 where
   pub none : n ≡ 0 → v ≡ 0

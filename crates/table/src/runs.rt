@@ -2,7 +2,7 @@
 ghost use mathlib.Core.Path.{_≡_};
 ghost use Prim.Native.Nat.{ℕ, _+_, _*_, _-_, _<_, _≤_, _^_, min};
 ghost use lib.ListN.{length, getD};
-ghost use Rattle.table.specs.Run.{Wrote, bare, weighed, weighedAbove, weighedApart};
+ghost use Rattle.table.specs.Run.{Wrote, bare, weighed, weighedApart};
 
 // The lesser of two costs.
 pub fn lesser(a: u32, b: u32) -> u32
@@ -42,19 +42,6 @@ pub fn weigh(table: &mut [u32], at: usize, low: usize, high: usize, n: usize)
     let mut i: usize = 0;
     while i < n {
         table[at + i] = lesser(table[at + i], table[low + i] + table[high + i]);
-        i += 1;
-    }
-}
-
-// Weighs one cut of n pieces that share their low part, which costs `low`.
-pub fn weigh_above(row: &mut [u32], at: usize, low: u32, high: usize, n: usize)
-    requires { ⌜ (at + n ≤ high) × (high + n ≤ length (now row)) ⌝ }
-    requires { ⌜ ((i : ℕ) → i < n → low + getD (now row) (high + i) 0 < 2 ^ 32) ⌝ }
-    ensures { λ _. ⌜ Wrote (weighedAbove (now (row .entry)) at low high) at n (now (row .entry)) (now (row .exit)) ⌝ }
-{
-    let mut i: usize = 0;
-    while i < n {
-        row[at + i] = lesser(row[at + i], low + row[high + i]);
         i += 1;
     }
 }

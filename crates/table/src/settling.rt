@@ -4,13 +4,13 @@ use crate::runs;
 use outline::Line;
 use rule::Rule;
 ghost use mathlib.Core.Path.{_≡_};
-ghost use Prim.Native.Nat.{ℕ, suc, _+_, _*_, _-_, _<_, _≤_, _^_, min};
+ghost use Prim.Native.Nat.{ℕ, _+_, _*_, _-_, _<_, _≤_, _^_};
 ghost use lib.Dec.{ltb};
 ghost use lib.ListN.{length, getD};
 ghost use Rattle.sum.specs.Sum.{only};
-ghost use Rattle.table.specs.Entry.{pairsBelow, pairCount, pairNo};
-ghost use Rattle.table.specs.Run.{Wrote, weighedAbove};
-ghost use Rattle.table.specs.Strip.{countIn, flankIn, endsAt, shotCost, Judged, Measured, Recurs, Solvable};
+ghost use Rattle.table.specs.Entry.{pairsBelow, pairCount};
+ghost use Rattle.table.specs.Run.{Lowest};
+ghost use Rattle.table.specs.Strip.{flankIn, endsAt, shotCost, partsAt, Judged, Measured, Recurs, Solvable};
 
 // What a shot with so many nm of sliver costs, in thousandths of a shot.
 fn shot_cost(sliver: u32, weight: u32) -> u32
@@ -81,8 +81,54 @@ pub fn settle_piece(
     best
 }
 
-// Settles the pieces of a strip that begin at the y line b, the shortest first: a settled piece is the low part of one cut of each
-// longer one. `first` is the number of the first of them in the row, and `wide` the strip's count of columns.
+// The least of `best` and of the horizontal cuts of the piece between the y lines b and d, by the costs of their parts in the row.
+// `first` is the number of the first pair whose low line is b.
+fn least_cut(row: &[u32], rows: usize, b: Line, d: Line, first: usize, best: u32) -> u32
+    requires { ⌜ (b .0 < d .0) × ((d .0 ≤ rows) × ((rows ≤ 15) × ((first ≡ pairsBelow rows (b .0)) × (length (now row) ≡ pairCount rows)))) ⌝ }
+    requires { ⌜ ((k : ℕ) → b .0 < k → k < d .0 → partsAt (now row) rows (b .0) (d .0) k < 2 ^ 32) ⌝ }
+    ensures { λ r. ⌜ Lowest (partsAt (now (row .entry)) rows (b .0) (d .0)) (b .0) (d .0) best r ⌝ }
+{
+    let low = b.0;
+    let high = d.0;
+    let mut least = best;
+    let mut lower = first;
+    let mut upper = first + (rows - low) + (high - low);
+    let mut k = low + 1;
+    while k < high {
+        least = runs::lesser(least, row[lower] + row[upper - 2]);
+        lower += 1;
+        upper += rows - k - 1;
+        k += 1;
+    }
+    least
+}
+
+// The same where the piece is of both sorts; else nobody asks what its cuts cost, and they are not weighed.
+fn best_cut(
+    row: &[u32],
+    rows: usize,
+    b: Line,
+    d: Line,
+    first: usize,
+    best: u32,
+    count: u32,
+    cells: u32,
+) -> u32
+    requires { ⌜ (b .0 < d .0) × ((d .0 ≤ rows) × ((rows ≤ 15) × ((first ≡ pairsBelow rows (b .0)) × (length (now row) ≡ pairCount rows)))) ⌝ }
+    requires { ⌜ ((k : ℕ) → b .0 < k → k < d .0 → partsAt (now row) rows (b .0) (d .0) k < 2 ^ 32) ⌝ }
+    ensures { λ r. ⌜ (0 < count → (count ≡ cells → ⊥) → Lowest (partsAt (now (row .entry)) rows (b .0) (d .0)) (b .0) (d .0) best r) ⌝ }
+{
+    if count == 0 {
+        return 0;
+    }
+    if cells == count {
+        return 0;
+    }
+    least_cut(row, rows, b, d, first, best)
+}
+
+// Settles the pieces of a strip that begin at the y line b, the shortest first: the parts of each cut are settled before it is weighed.
+// `first` is the number of the first of them in the row, and `wide` the strip's count of columns.
 fn settle_from(
     row: &mut [u32],
     ys: &[u16],
@@ -103,22 +149,19 @@ fn settle_from(
     let mut cells: u32 = 0;
     let mut flanks: u32 = 0;
     let mut at = first;
-    let mut next = first + (rows - low);
     let mut d = low + 1;
     while d <= rows {
         count += sums[d - 1];
         cells += wide;
         flanks += sums[47 + d];
-        let cost = settle_piece(ys, sums, rule, b, Line(d), count, cells, flanks, row[at]);
-        row[at] = cost;
-        runs::weigh_above(row, at + 1, cost, next, rows - d);
+        let cut = best_cut(row, rows, b, Line(d), first, row[at], count, cells);
+        row[at] = settle_piece(ys, sums, rule, b, Line(d), count, cells, flanks, cut);
         at += 1;
-        next += rows - d;
         d += 1;
     }
 }
 
-// Settles a row line by line. The highest lines come first, so that the high part of each cut is settled before it is weighed.
+// Settles a row line by line, the highest line first: the high part of a cut begins above its low part.
 fn settle_lines(
     row: &mut [u32],
     ys: &[u16],
