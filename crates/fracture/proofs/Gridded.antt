@@ -16,7 +16,7 @@ use Rattle.outline.specs.Grid.{Grid, Memory, stored}
 use Rattle.rule.specs.declared.Rule.{Rule}
 use Rattle.piece.specs.Piece.{Piece}
 use Rattle.piece.specs.Straight.{cost}
-use Rattle.table.specs.Entry.{Valid, entryCount, entryOf, costs}
+use Rattle.table.specs.Entry.{Valid, pairCount, entryCount, entryOf, costs}
 use Rattle.table.specs.Fill.{Ready}
 use Rattle.table.proofs.Entry.{costs-length, costs-at, entry-below}
 use Rattle.demands.specs.Promise.{written}
@@ -59,9 +59,9 @@ module _ (g : Grid) (m : Memory) (w : Laid g m) where
           (omega (arith, entry-below (g .columns) (g .rows) p v′, costs-length g r))
           ∙ costs-at g r p v′
 
-      pub laid-walk : r .weight ≤ 1000
-          → Walk g r u (m .cells) (m .xs) (m .ys) (record { columns = m .columns; rows = m .rows; threshold = r .threshold })
-      laid-walk h =
+      pub laid-walk : (n : ℕ) → n ≡ pairCount (m .rows) → r .weight ≤ 1000
+          → Walk g r u (m .cells) (m .xs) (m .ys) (record { columns = m .columns; rows = m .rows; pairs = n; threshold = r .threshold })
+      laid-walk n p h =
           let d = w .drawn in
           record {
             filled =
@@ -70,6 +70,7 @@ module _ (g : Grid) (m : Memory) (w : Laid g m) where
                   weight = h;
                   columns = w .columns;
                   rows = w .rows;
+                  pairs = p;
                   cells-length = d .cells-length;
                   cell-at = d .cell-at;
                   entries = omega (arith, ap length e, written-length (costs g r) t (omega (arith, counted, costs-length g r)));

@@ -1,7 +1,7 @@
 -- What lies in memory when the pieces are walked.
 --
 --   Filled g r table cells plan   == the table begins with the cost of every piece of the grid g under the rule r, cells are g's cells,
---                                    and plan is its size
+--                                    and plan has its size
 --   Ready table cells plan p      == there are such a grid and such a rule, and p is one of the grid's pieces
 --   Shown g xs ys cells p         == xs, ys and cells are the grid g's places and cells, and p is one of its pieces
 --   Seen xs ys cells p            == there is such a grid
@@ -14,7 +14,7 @@ use Rattle.outline.specs.Grid.{Grid, Sound, Drawn}
 use Rattle.rule.specs.declared.Rule.{Rule}
 use Rattle.piece.specs.Piece.{Piece}
 use Rattle.piece.specs.Straight.{cost}
-use Rattle.table.specs.Entry.{Valid, entryOf, entryCount}
+use Rattle.table.specs.Entry.{Valid, pairCount, entryOf, entryCount}
 use Rattle.fracture.specs.declared.Plan.{Plan}
 
 -- a table that begins with every cost, and the cells it was filled from
@@ -23,6 +23,7 @@ pub record Filled (g : Grid) (r : Rule) (table cells : List ℕ) (plan : Plan) :
   pub weight : r .weight ≤ 1000
   pub columns : plan .columns ≡ g .columns
   pub rows : plan .rows ≡ g .rows
+  pub pairs : plan .pairs ≡ pairCount (plan .rows)
   pub cells-length : length cells ≡ 256
   pub cell-at : (i j : ℕ) → i < 16 → j < 16 → getD cells (16 * i + j) 0 ≡ only (g .inside i j) 1
   pub entries : entryCount (plan .columns) (plan .rows) ≤ length table

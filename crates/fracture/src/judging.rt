@@ -4,7 +4,6 @@ use super::Piece;
 use super::Plan;
 use super::Verdict;
 use outline::Line;
-use table::numbering::pair_count;
 use table::numbering::pair_number;
 ghost use mathlib.Core.Path.{_≡_};
 ghost use Prim.Native.Nat.{ℕ, _+_, _*_, _-_, _<_, _≤_};
@@ -100,7 +99,7 @@ pub fn judge(costs: &[u32], cells: &[u8], plan: Plan, p: Piece) -> Verdict
     let d = p.d;
     let x_pair = pair_number(columns, a, c);
     let y_pair = pair_number(rows, b, d);
-    let y_pairs = pair_count(rows);
+    let y_pairs = plan.pairs;
     let row = x_pair * y_pairs;
     let cost = costs[row + y_pair];
     if cost == 0 {

@@ -8,6 +8,7 @@ use rule::Preset;
 use rule::Rule;
 use table::filling::fill;
 use table::numbering::entries;
+use table::numbering::pair_count;
 ghost use mathlib.Core.Path.{_≡_};
 ghost use mathlib.Core.Bool.{true};
 ghost use Rattle.rule.specs.Rules.{inRange, presetTold};
@@ -42,10 +43,12 @@ pub enum Verdict {
     Cut(Direction),
 }
 
-// What a walk over the pieces goes by besides the lent slices: the size of the grid, and the rule's threshold in nm.
+// What a walk over the pieces goes by besides the lent slices: the size of the grid, the count of its pairs of y lines, and the rule's
+// threshold in nm.
 pub struct Plan {
     pub columns: usize,
     pub rows: usize,
+    pub pairs: usize,
     pub threshold: u32,
 }
 
@@ -85,9 +88,11 @@ fn fracture_grid(
     }
     let threshold = rule.threshold;
     fill(xs, ys, cells, columns, rows, rule, table);
+    let pairs = pair_count(rows);
     let plan = Plan {
         columns,
         rows,
+        pairs,
         threshold,
     };
     deliver(table, cells, xs, ys, list, plan)

@@ -26,15 +26,19 @@ fill-requires c κs =
     let w = c .before .before .before .before .before .before .before .before .pre in
     laid-ready _ _ (w .laid) _ _ (w .weight) (room (c .before))
 
+pair-count-requires : tie.Need-pair-count-requires
+pair-count-requires c κs = laid-few _ _ (c .before .before .before .before .before .before .before .before .before .before .before .pre .laid) .1
+
 deliver-requires : tie.Need-deliver-requires
 deliver-requires c κs =
-    let f = c .before .before .before .before in
+    let n = c .before .before in
+    let f = c .before .before .before .before .before in
     let s = f .before .before .before .before .before .before .before .before .before in
     let w = s .pre in
     record {
       grid = w .grid;
       rule = s .args .rule;
-      walk = laid-walk _ _ (w .laid) _ _ (laid-filled _ _ (w .laid) _ _ (stored _ _ _ _ _) (w .laid .back) (f .fill .ensures)) (room (f .before .before)) (w .weight);
+      walk = laid-walk _ _ (w .laid) _ _ (laid-filled _ _ (w .laid) _ _ (stored _ _ _ _ _) (w .laid .back) (f .fill .ensures)) (room (f .before .before)) _ (n .pair-count .ensures .0) (w .weight);
     }
 
 same-length : tie.Need-same-length
@@ -46,11 +50,12 @@ same-length-2 c = search needs
 returns-2 : tie.Need-returns-2
 returns-2 c g w =
     let d = c .before .before in
-    let f = d .before .before .before .before .before in
+    let n = d .before .before .before in
+    let f = d .before .before .before .before .before .before in
     let s = f .before .before .before .before .before .before .before .before .before in
     let e = laid-filled g _ w _ _ (stored _ _ _ _ _) (w .back) (f .fill .ensures) in
     let k = room (f .before .before) in
-    settled-delivered g _ w _ _ e k _ _ _ (d .deliver .ensures _ _ (laid-walk g _ w _ _ e k (s .pre .weight)))
+    settled-delivered g _ w _ _ e k _ _ _ (d .deliver .ensures _ _ (laid-walk g _ w _ _ e k _ (n .pair-count .ensures .0) (s .pre .weight)))
 
 pub fracture-grid-spec : {M : Type 1} → statement M
 fracture-grid-spec =
@@ -59,6 +64,7 @@ fracture-grid-spec =
     entries-requires
     returns
     fill-requires
+    pair-count-requires
     deliver-requires
     same-length
     same-length-2

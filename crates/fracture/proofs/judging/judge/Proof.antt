@@ -10,16 +10,16 @@ use Rattle.fracture.proofs.judging.judge.Statement.{statement}
 use Rattle.fracture.proofs.judging.judge.Tie as tie
 
 -- the function's entry, from where the pair numbers are found
-abbrev entry : tie.After-pair-count → tie.Start
-entry c = c .before .before .before .before .before .before .before .before .before
+abbrev entry : tie.After-pair-number2 → tie.Start
+entry c = c .before .before .before .before .before .before .before .before
 
-numbered : (c : tie.After-pair-count)
-    → Numbered (entry c .args .plan) (meant (entry c .args .p)) (c .before .before .pair-number .result) (c .before .pair-number2 .result) (c .pair-count .result)
+numbered : (c : tie.After-pair-number2)
+    → Numbered (entry c .args .plan) (meant (entry c .args .p)) (c .before .pair-number .result) (c .pair-number2 .result) (entry c .args .plan .pairs)
 numbered c =
-    record { x = c .before .before .pair-number .ensures .0; y = c .before .pair-number2 .ensures .0; count = c .pair-count .ensures .0 }
+    record { x = c .before .pair-number .ensures .0; y = c .pair-number2 .ensures .0; count = entry c .pre .filled .pairs }
 
-within : (c : tie.After-pair-count)
-    → c .before .before .pair-number .result * c .pair-count .result + c .before .pair-number2 .result < length (entry c .args .costs .now)
+within : (c : tie.After-pair-number2)
+    → c .before .pair-number .result * entry c .args .plan .pairs + c .pair-number2 .result < length (entry c .args .costs .now)
 within c = entry-within _ _ _ _ _ (entry c .pre .filled) (entry c .args .p) (entry c .pre .valid) _ _ _ (numbered c)
 
 pair-number-requires : tie.Need-pair-number-requires
@@ -27,9 +27,6 @@ pair-number-requires c κs = search needs
 
 pair-number-requires-2 : tie.Need-pair-number-requires-2
 pair-number-requires-2 c κs = search needs
-
-pair-count-requires : tie.Need-pair-count-requires
-pair-count-requires c κs = search needs
 
 mul-row : tie.Need-mul-row
 mul-row c = omega (arith, within c)
@@ -93,7 +90,6 @@ judge-spec =
     (tie.spec
     pair-number-requires
     pair-number-requires-2
-    pair-count-requires
     mul-row
     add-cost
     mul-cost
