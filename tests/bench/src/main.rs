@@ -2,9 +2,8 @@
 //!
 //!     bench [--rounds N]
 //!
-//! The library and the two C++ baselines (see baseline/baseline.cpp: by heights, and by rows as the
-//! library has it) take turns, round by round, on the same outlines and in the same buffers; the best
-//! round of each counts. Table (14,400 entries) and list (900 numbers) are lent whole and
+//! The library and the two C++ baselines (see baseline/baseline.cpp: by rows, and by heights) take
+//! turns, round by round, on the same outlines and in the same buffers; the best round of each counts. Table (14,400 entries) and list (900 numbers) are lent whole and
 //! not cleared between calls: each call finds what the last one left. Every call is whole: checks,
 //! grid, fill, emission.
 
@@ -153,10 +152,10 @@ fn main() {
     let who = if library.is_some() { "library" } else { "plain Rust" };
     println!("ns per fracture, whole call, rule 25, 40; best of {rounds} rounds in turn; buffers not cleared between calls");
     println!("machine: {}, load before {}", std::env::consts::ARCH, load());
-    println!("| Outline | {who} | C++ by heights | C++ by rows | to heights | to rows |\n|---|---:|---:|---:|---:|---:|");
+    println!("| Outline | {who} | C++ by rows | C++ by heights | to rows | to heights |\n|---|---:|---:|---:|---:|---:|");
     let (mut table, mut list) = (vec![0u32; 14_400], vec![0u16; 900]);
     for line in &lines {
-        let all = [ours, heights, rows];
+        let all = [ours, rows, heights];
         let turns = all.map(|fracture| turns(&line.outlines, fracture, &mut table, &mut list));
         let mut best = [f64::MAX; 3];
         for _ in 0..rounds {
@@ -165,8 +164,8 @@ fn main() {
                 best[which] = best[which].min(took);
             }
         }
-        let [ours, heights, rows] = best;
-        println!("| {} | {ours:.0} | {heights:.0} | {rows:.0} | {:.2} | {:.2} |", line.name, ours / heights, ours / rows);
+        let [ours, rows, heights] = best;
+        println!("| {} | {ours:.0} | {rows:.0} | {heights:.0} | {:.2} | {:.2} |", line.name, ours / rows, ours / heights);
     }
     let job = job();
     let calls: &dyn Calls = match library {

@@ -76,8 +76,7 @@ fn fracture_by(
     Told { number, numbers: [shots as u64, cost as u64, sliver as u64, 0] }
 }
 
-/// One fracture by the baseline that weighs horizontal cuts from each settled piece on, as the
-/// library does.
+/// One fracture by the baseline that weighs horizontal cuts from each settled piece on.
 pub fn baseline_rows(corners: &[u16], threshold: u32, weight: u32, table: &mut [u32], list: &mut [u16]) -> Told {
     fracture_by(baseline_rows_fracture, corners, threshold, weight, table, list)
 }
