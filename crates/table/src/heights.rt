@@ -1,4 +1,5 @@
-// Settling a row height by height: the pieces of one height stand side by side, so that a cut of all of them is weighed at once.
+// Settling a row height by height: the pieces of one height stand side by side, so that a cut of all of them is weighed at once. `side`
+// has the cost of the piece of height h (in rows of cells) that begins at the y line b at 16 * (h - 1) + b.
 use crate::runs;
 use crate::settling;
 use outline::Line;

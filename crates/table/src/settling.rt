@@ -82,7 +82,7 @@ pub fn settle_piece(
 }
 
 // The least of `best` and of the horizontal cuts of the piece between the y lines b and d, by the costs of their parts in the row.
-// `first` is the number of the first pair whose low line is b.
+// `first` is the number of the first pair whose low line is b. `upper` runs two past the high part, so that it is never below 0.
 fn least_cut(row: &[u32], rows: usize, b: Line, d: Line, first: usize, best: u32) -> u32
     requires { ⌜ (b .0 < d .0) × ((d .0 ≤ rows) × ((rows ≤ 15) × ((first ≡ pairsBelow rows (b .0)) × (length (now row) ≡ pairCount rows)))) ⌝ }
     requires { ⌜ ((k : ℕ) → b .0 < k → k < d .0 → partsAt (now row) rows (b .0) (d .0) k < 2 ^ 32) ⌝ }
