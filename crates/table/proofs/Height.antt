@@ -1,7 +1,7 @@
 -- Laws of the pieces of a strip height by height. Assumes nothing.
 --
 --   lanes-start                 == before a cut is weighed
---   cut-fits, cut-weighed       == weighing one cut of the pieces of a height: the sums fit, and it is weighed
+--   cheap-fits, cut-weighed     == weighing one cut of the pieces of a height: the sums fit, and it is weighed
 --   cuts-out                    == the two cuts weighed that are as far from the middle
 --   summed-none, summed-more    == the sums up to a line, from line to line
 --   summed-count, summed-flank  == what lies between two lines, by the sums up to them
@@ -26,9 +26,9 @@ use Rattle.table.proofs.Entry
 use Rattle.table.proofs.Run
 use Rattle.table.proofs.Strip.{judged-cost}
 
-pub cut-fits : (side : List ℕ) (h k lanes : ℕ) → Cheap side
-    → (i : ℕ) → i < lanes → getD side (16 * (k - 1) + i) 0 + getD side (16 * (h - k - 1) + k + i) 0 < 2 ^ 32
-cut-fits side h k lanes c i l = omega (arith, c .most (16 * (k - 1) + i), c .most (16 * (h - k - 1) + k + i))
+pub cheap-fits : (side : List ℕ) (low high lanes : ℕ) → Cheap side
+    → (i : ℕ) → i < lanes → getD side (low + i) 0 + getD side (high + i) 0 < 2 ^ 32
+cheap-fits side low high lanes c i l = omega (arith, c .most (low + i), c .most (high + i))
 
 pub cut-weighed : (side best best₂ : List ℕ) (h k lanes b : ℕ) → b < lanes
     → Wrote (weighedApart best side (16 * (k - 1)) (16 * (h - k - 1) + k)) 0 lanes best best₂

@@ -1,6 +1,6 @@
 -- `table::heights::weigh_cut` meets its contract. Assumes nothing.
 use native.Mathlib.Omega.{arith}
-use Rattle.table.proofs.Height.{cut-fits, cut-weighed}
+use Rattle.table.proofs.Height.{cheap-fits, cut-weighed}
 use borrow.Author.Needs.{needs}
 use Rattle.table.proofs.heights.weigh_cut.Statement.{statement}
 use Rattle.table.proofs.heights.weigh_cut.Tie as tie
@@ -27,7 +27,7 @@ weigh-apart-requires : tie.Need-weigh-apart-requires
 weigh-apart-requires c κs =
     let s = c .before .before .before in
     let p = s .pre .0 in
-    ((omega arith, (omega arith, omega arith)), cut-fits _ (s .args .h) (s .args .k) (s .args .lanes) (s .pre .1 .1 .1))
+    ((omega arith, (omega arith, omega arith)), cheap-fits _ _ _ (s .args .lanes) (s .pre .1 .1 .1))
 
 same-length : tie.Need-same-length
 same-length c = search needs
