@@ -21,7 +21,7 @@ use lib.Dec.{ltb, leb, eqb}
 use lib.ListN.{length, getD, take, drop, length-take, length-drop, length-append}
 use lib.Seq.{drop-cons, getD-take, getD-drop, take-add, take-append-seam, drop-append-seam, take-take, take-length, drop-drop, drop-at}
 use borrow.Author.Tests.{ltb-true, ltb-false, leb-true, leb-false, eqb-false, lt-ltb, le-ltb}
-use Rattle.number.specs.declared.Refusal.the-variants.{Ends, Padded}
+use Rattle.refusal.specs.declared.Refusal.the-variants.{Ends, Padded}
 use Rattle.number.specs.Reading.{Reading, read, fault}
 use Rattle.number.specs.Number.{most, group, groups, number, numberBytes}
 use Rattle.number.proofs.Number.{number-one, number-two, number-three}

@@ -3,7 +3,6 @@
 --   then-same        == what follows a reading goes by what it found
 --   past-then        == the place past a reading stays where only its value is put to use
 --   many-none, many-more, many-stop == the ways that reading n + 1 in a row can go
---   refusal-one, refusal-some == the refusals' numbers tell them apart, and none is 0
 --   told-as          == what an answer tells, where its case is known
 --   past-fault, past-read == a reading, by the place that it got to
 --   many-first, many-length == what many in a row begin with, and how many they are
@@ -16,9 +15,8 @@ use mathlib.Core.List.{List, [], _∷_}
 use native.Mathlib.Omega.{arith}
 use native.Mathlib.Nat.{le-of-suc-le-suc, not-suc-le-zero}
 use lib.ListN.{length, getD}
-use Rattle.number.specs.declared.Refusal.{Refusal}
-use Rattle.number.specs.declared.Refusal.the-variants.{Ends, Padded, Range, Extra, Long, Missing, Room}
-use Rattle.number.specs.Reading.{Reading, read, fault, andThen, many, past, refusalNo}
+use Rattle.refusal.specs.declared.Refusal.{Refusal}
+use Rattle.number.specs.Reading.{Reading, read, fault, andThen, many, past}
 use Rattle.number.proofs.Number.{apart}
 
 module _ {A : Type 0} where
@@ -133,30 +131,3 @@ module _ {A : Type 0} (f : ℕ → Reading A) where
 -- what an answer tells, where a match has found which case it is
 pub told-as : {A B : Type 0} (tell : A → B) {r x : A} {b : B} → r ≡ x → tell r ≡ b → tell x ≡ b
 told-as tell found told = sym (ap tell found) ∙ told
-
--- document 01's numbers tell the refusals apart, and none is 0
-
-of-number : ℕ → Refusal
-of-number n = getD (Ends ∷ Padded ∷ Range ∷ Extra ∷ Long ∷ Missing ∷ Room ∷ []) (n - 8) Ends
-
-back : (r : Refusal) → of-number (refusalNo r) ≡ r
-unfolding of-number
-back Ends = refl
-back Padded = refl
-back Range = refl
-back Extra = refl
-back Long = refl
-back Missing = refl
-back Room = refl
-
-pub refusal-one : (r t : Refusal) → refusalNo r ≡ refusalNo t → r ≡ t
-refusal-one r t e = sym (back r) ∙ ap of-number e ∙ back t
-
-pub refusal-some : (r : Refusal) → 8 ≤ refusalNo r
-refusal-some Ends = omega arith
-refusal-some Padded = omega arith
-refusal-some Range = omega arith
-refusal-some Extra = omega arith
-refusal-some Long = omega arith
-refusal-some Missing = omega arith
-refusal-some Room = omega arith

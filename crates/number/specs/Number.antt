@@ -11,7 +11,7 @@ use mathlib.Core.List.{List, [], _∷_}
 use mathlib.Core.Bool.{cond, _&&_}
 use lib.ListN.{length, getD}
 use lib.Dec.{ltb, leb, eqb}
-use Rattle.number.specs.declared.Refusal.the-variants.{Ends, Padded, Range}
+use Rattle.refusal.specs.declared.Refusal.the-variants.{Ends, Padded, Range}
 use Rattle.number.specs.declared.Read.{Read}
 use Rattle.number.specs.declared.Read.the-variants as answer
 use Rattle.number.specs.Reading.{Reading, read, fault}

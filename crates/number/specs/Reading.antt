@@ -4,21 +4,9 @@
 --   andThen r f    == what r finds, and then what f finds from there; the first fault decides
 --   many f n at    == n of what f finds, one after another
 --   past r         == only the place past what is read
---   refusalNo      == document 01's number of each refusal of the job bytes
 use Prim.Native.Nat.{ℕ, zero, suc}
 use mathlib.Core.List.{List, [], _∷_}
-use Rattle.number.specs.declared.Refusal.{Refusal}
-use Rattle.number.specs.declared.Refusal.the-variants.{Ends, Padded, Range, Extra, Long, Missing, Room}
-
--- document 01, "When the answer is no"
-abbrev pub refusalNo : Refusal → ℕ
-refusalNo Ends = 8
-refusalNo Padded = 9
-refusalNo Range = 10
-refusalNo Extra = 11
-refusalNo Long = 12
-refusalNo Missing = 13
-refusalNo Room = 14
+use Rattle.refusal.specs.declared.Refusal.{Refusal}
 
 -- the value read and the place past it, or the refusal and the offset of the faulty number
 pub data Reading (A : Type 0) : Type 0 where

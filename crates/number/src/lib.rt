@@ -1,22 +1,11 @@
 // Numbers of a job: groups of seven bits, lowest group first, one to a byte; the top bit is set on every byte but the last.
+use refusal::Refusal;
 ghost use mathlib.Core.Path.{_≡_};
 ghost use mathlib.Core.List.{_++_};
 ghost use Prim.Native.Nat.{_≤_, _+_, _-_, _*_};
 ghost use lib.ListN.{length};
 ghost use lib.Seq.{sets};
-ghost use Rattle.number.specs.Reading.{refusalNo};
 ghost use Rattle.number.specs.Number.{most, number, numberBytes, readTold};
-
-// Why the bytes of a job, or the room for them, are refused: document 01's 8 to 14 in their order.
-pub enum Refusal {
-    Ends,
-    Padded,
-    Range,
-    Extra,
-    Long,
-    Missing,
-    Room,
-}
 
 // A place in the bytes of a job.
 pub struct Cursor {
@@ -27,21 +16,6 @@ pub struct Cursor {
 pub enum Read {
     Number(u32, Cursor),
     Fault(Refusal, usize),
-}
-
-// Document 01's number of a refusal.
-pub fn refusal_no(r: Refusal) -> u32
-    ensures settled { λ n. ⌜ n ≡ refusalNo r ⌝ }
-{
-    match r {
-        Refusal::Ends => 8,
-        Refusal::Padded => 9,
-        Refusal::Range => 10,
-        Refusal::Extra => 11,
-        Refusal::Long => 12,
-        Refusal::Missing => 13,
-        Refusal::Room => 14,
-    }
 }
 
 // The value of two groups.

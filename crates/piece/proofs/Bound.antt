@@ -11,13 +11,14 @@ use mathlib.Core.Bool.{Bool, true, false, _&&_, not}
 use native.Mathlib.Omega.{arith}
 use native.Mathlib.Nat.{mul-le-mul-left, mul-le-mul}
 use lib.ListN.{length}
-use lib.Dec.{ltb}
 use Rattle.sum.specs.Sum.{over, only, sumOf}
 use Rattle.sum.proofs.Sum as sum
 use Rattle.sum.proofs.Sum.{only-most}
 use Rattle.sum.proofs.Lists.{sumOf-le, sumOf-ones, All-imp}
 use Rattle.outline.specs.Grid.{Grid, Sound}
 use Rattle.rule.specs.declared.Rule.{Rule}
+use Rattle.rule.specs.Charge.{chargeOf}
+use Rattle.rule.proofs.Charge.{sliver-most}
 use Rattle.piece.specs.Piece.{Piece, before, cellSum, cells, charge, sliver, left, right, bottom, top, width, height, lowSide, highSide, frame}
 use Rattle.piece.specs.Straight.{shots, cost}
 use Rattle.piece.proofs.Cells.{sum-add, sum-mul, sum-le, sum-part, cells-some, cells-product}
@@ -113,8 +114,7 @@ module _ (g : Grid) (r : Rule) where
   sliver-sides p ac bd =
       omega (
         arith,
-        only-most (ltb (width g (p .a) (p .c)) (r .threshold)) (left g p + right g p),
-        only-most (ltb (height g (p .b) (p .d)) (r .threshold)) (bottom g p + top g p),
+        sliver-most r (width g (p .a) (p .c)) (height g (p .b) (p .d)) (left g p + right g p) (bottom g p + top g p),
         sides-cells g p ac,
         upright,
         sides-sum p,
@@ -124,7 +124,7 @@ module _ (g : Grid) (r : Rule) where
       upright = unfold bottom top left right width height in sides-cells (turned g) (turn p) bd
 
   charge-due : (p : Piece) → p .a < p .c → p .b < p .d → charge g r p ≤ cellSum due p
-  unfolding charge
+  unfolding charge chargeOf
   charge-due p ac bd =
       omega (arith, due-sum p, cells-some p ac bd, mul-le-mul-left (r .weight) (sliver-sides p ac bd))
 

@@ -10,26 +10,29 @@
 --   choice-least         == it is the least of all cuts by what their parts cost, of equals the first
 --   shots-choice, shots-vertical, shots-horizontal   == the shots of a mixed piece are those of the low part, then those of the high part
 --   numbers-none, numbers-one, numbers-append, numbers-length          == the numbers of a list of shots
+--   numbers-shots                                                      == the shots that they say are its rectangles
 use Prim.Native.Nat.{ℕ, zero, suc, _+_, _*_, _-_, _≤_, _<_}
 use mathlib.Core.Path.{_≡_, refl, sym, _∙_, ap, ap₂, subst}
 use mathlib.Core.Bool.{Bool, true, false}
-use mathlib.Core.List.{List, [], _∷_, _++_, map, append-nil}
+use mathlib.Core.List.{List, [], _∷_, _++_, map, append-nil, map-append}
 use mathlib.Core.Logic.{inl, inr}
 use native.Mathlib.Omega.{arith}
 use lib.Dec.{eqb}
 use borrow.Author.Tests.{eqb-true, eqb-false}
-use lib.ListN.{length}
+use lib.ListN.{length, length-map}
 use Rattle.sum.specs.Sum.{sumOf, All, join}
 use Rattle.sum.proofs.Sum.{le-or}
-use Rattle.sum.proofs.Lists.{sumOf-join, join-append}
+use Rattle.sum.proofs.Lists.{sumOf-join}
 use Rattle.recurrence.specs.Choice.{first, least}
 use Rattle.recurrence.specs.Scheme.{mixed}
 use Rattle.recurrence.proofs.Choice.{first-yes, first-no, least-low, least-one, least-first}
 use Rattle.recurrence.proofs.Scheme as scheme
 use Rattle.outline.specs.Grid.{Grid}
 use Rattle.rule.specs.declared.Rule.{Rule}
-use Rattle.piece.specs.Piece.{Piece, leftPart, rightPart, lowerPart, upperPart, cells, kind}
-use Rattle.piece.specs.Straight.{Cut, vertical, horizontal, run, between, cuts, parts, straight, shots, cost, choice, numbers}
+use Rattle.shot.specs.Shot.{numbers, shotsIn}
+use Rattle.shot.proofs.Shot as shot
+use Rattle.piece.specs.Piece.{Piece, leftPart, rightPart, lowerPart, upperPart, rectangle, cells, kind}
+use Rattle.piece.specs.Straight.{Cut, vertical, horizontal, run, between, cuts, parts, straight, shots, cost, choice, numbersOf}
 use Rattle.piece.proofs.Straight.{ends, cuts-all, cost-one, cost-cuts, across-vertical, across-horizontal}
 
 -- the first of a run of lines, and a run passed over
@@ -192,19 +195,22 @@ module _ (g : Grid) (r : Rule) (p : Piece) where
 -- The numbers of shots
 
 module _ (g : Grid) where
-  pub numbers-none : numbers g [] ≡ []
-  unfolding numbers join
+  pub numbers-none : numbersOf g [] ≡ []
+  unfolding numbersOf numbers join
   numbers-none = refl
 
-  pub numbers-one : (s : Piece) → numbers g (s ∷ []) ≡ g .x (s .a) ∷ g .y (s .b) ∷ g .x (s .c) ∷ g .y (s .d) ∷ []
-  unfolding numbers join
+  pub numbers-one : (s : Piece) → numbersOf g (s ∷ []) ≡ g .x (s .a) ∷ g .y (s .b) ∷ g .x (s .c) ∷ g .y (s .d) ∷ []
+  unfolding numbersOf numbers join
   numbers-one s = refl
 
-  pub numbers-append : (l m : List Piece) → numbers g (l ++ m) ≡ numbers g l ++ numbers g m
-  unfolding numbers
-  numbers-append l m = join-append _ l m
+  pub numbers-append : (l m : List Piece) → numbersOf g (l ++ m) ≡ numbersOf g l ++ numbersOf g m
+  unfolding numbersOf
+  numbers-append l m = ap numbers (map-append (rectangle g) l m) ∙ shot.numbers-append (map (rectangle g) l) (map (rectangle g) m)
 
-  pub numbers-length : (l : List Piece) → length (numbers g l) ≡ 4 * length l
-  unfolding numbers join
-  numbers-length [] = refl
-  numbers-length (s ∷ l) = omega (arith, numbers-length l)
+  pub numbers-length : (l : List Piece) → length (numbersOf g l) ≡ 4 * length l
+  unfolding numbersOf
+  numbers-length l = omega (arith, shot.numbers-length (map (rectangle g) l), length-map l (rectangle g))
+
+  pub numbers-shots : (l : List Piece) → shotsIn (numbersOf g l) ≡ map (rectangle g) l
+  unfolding numbersOf
+  numbers-shots l = shot.shots-numbers (map (rectangle g) l)

@@ -28,7 +28,8 @@ use Rattle.recurrence.proofs.Scheme as scheme
 use Rattle.recurrence.proofs.Cutting as cutting
 use Rattle.outline.specs.Grid.{Grid, Sound}
 use Rattle.rule.specs.declared.Rule.{Rule}
-use Rattle.piece.specs.Piece.{Piece, leftPart, rightPart, lowerPart, upperPart, holds, cellSum, cells, insideCells, kind, charge}
+use Rattle.rule.proofs.Charge.{charge-least}
+use Rattle.piece.specs.Piece.{Piece, leftPart, rightPart, lowerPart, upperPart, holds, cellSum, cells, insideCells, kind, sliver, charge}
 use Rattle.piece.specs.Straight.{Cut, vertical, horizontal, run, between, cuts, parts, straight, shots, cost}
 use Rattle.piece.proofs.Cells.{sum-vertical, sum-horizontal, cells-some, cells-short, cells-a, cells-b}
 use Rattle.piece.proofs.Kind.{mixed-count, full-count, inside-most, full-vertical, full-horizontal, kind-outside}
@@ -261,7 +262,7 @@ module _ (g : Grid) (r : Rule) where
     where
       go : (l : List Piece) → sumOf (charge g r) l ≡ 0 → sumOf (cellSum (λ i j. 1)) l ≡ insideCells g p → insideCells g p ≡ 0
       go [] h k = sym k ∙ (unfold sumOf in refl)
-      go (s ∷ l) h k = absurd (unfold sumOf charge in omega arith)
+      go (s ∷ l) h k = absurd (unfold sumOf charge in omega (arith, charge-least r (sliver g r s)))
 
   -- Cuttings
 

@@ -10,6 +10,8 @@ use Rattle.sum.specs.Sum.{only}
 use Rattle.sum.proofs.Sum.{over-swap}
 use Rattle.outline.specs.Grid.{Grid, Sound}
 use Rattle.rule.specs.declared.Rule.{Rule}
+use Rattle.rule.specs.Charge.{chargeOf}
+use Rattle.rule.proofs.Charge.{sliver-turn}
 use Rattle.piece.specs.Piece.{Piece, box, cellSum, cells, kindOf, insideCells, kind, width, height, left, right, bottom, top, sliver, charge}
 
 abbrev pub turned : Grid → Grid
@@ -36,11 +38,8 @@ module _ (g : Grid) where
   kind-turn p = ap₂ kindOf (inside-turn p) (cells-turn p)
 
   pub charge-turn : (r : Rule) (p : Piece) → charge g r p ≡ charge (turned g) r (turn p)
-  unfolding charge
-  charge-turn r p = ap (λ n. 1000 + r .weight * n) exchanged
-    where
-      exchanged : sliver g r p ≡ sliver (turned g) r (turn p)
-      exchanged = unfold sliver left right bottom top width height in omega arith
+  unfolding charge sliver left right bottom top width height
+  charge-turn r p = ap (chargeOf r) (sliver-turn r (width g (p .a) (p .c)) (height g (p .b) (p .d)) (left g p + right g p) (bottom g p + top g p))
 
   pub sound-turn : Sound g → Sound (turned g)
   sound-turn s = record {

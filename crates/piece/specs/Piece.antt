@@ -7,6 +7,7 @@
 --   lowerPart, upperPart p j  == the two parts of p at the y line j
 --   frame g                   == from the lowest lines to the highest
 --   holds i j p               == whether the cell (i, j) is one of p's
+--   rectangle g p             == the four numbers of the piece p of the grid g, in nm
 -- Kinds
 --   cellSum f p               == the sum of f i j over p's cells (i, j)
 --   cells p, insideCells g p  == how many cells p has, and how many of them are inside
@@ -26,6 +27,8 @@ use Rattle.sum.specs.Sum.{over, only}
 use Rattle.recurrence.specs.Scheme.{Kind, outside, full, mixed}
 use Rattle.outline.specs.Grid.{Grid}
 use Rattle.rule.specs.declared.Rule.{Rule}
+use Rattle.rule.specs.Charge.{sliverOf, chargeOf}
+use Rattle.shot.specs.Shot.{Shot}
 
 -- between the x lines a < c and the y lines b < d
 pub record Piece : Type 0 where
@@ -88,6 +91,9 @@ module _ (g : Grid) where
   unfoldable pub frame : Piece
   frame = box 0 (g .columns) 0 (g .rows)
 
+  abbrev pub rectangle : Piece → Shot
+  rectangle p = record { xlow = g .x (p .a); ylow = g .y (p .b); xhigh = g .x (p .c); yhigh = g .y (p .d) }
+
   -- how many of its cells are inside
   unfoldable pub insideCells : Piece → ℕ
   insideCells p = cellSum (λ i j. only (g .inside i j) 1) p
@@ -123,10 +129,8 @@ module _ (g : Grid) where
   module _ (r : Rule) where
     -- left and right where it is narrower than the threshold, bottom and top where it is lower
     unfoldable pub sliver : Piece → ℕ
-    sliver p =
-        only (ltb (width (p .a) (p .c)) (r .threshold)) (left p + right p)
-        + only (ltb (height (p .b) (p .d)) (r .threshold)) (bottom p + top p)
+    sliver p = sliverOf r (width (p .a) (p .c)) (height (p .b) (p .d)) (left p + right p) (bottom p + top p)
 
     -- equation (1) of the paper, times 1,000
     unfoldable pub charge : Piece → ℕ
-    charge p = 1000 + r .weight * sliver p
+    charge p = chargeOf r (sliver p)

@@ -8,7 +8,7 @@
 --   shots g r p      == the shots of the piece p, in list order
 --   cost g r p       == their charges together
 --   choice g r p     == the first cut of p whose parts cost what p costs
---   numbers g l      == the four numbers of each shot of l: x low, y low, x high, y high
+--   numbersOf g l    == the four numbers of each shot of l
 use Prim.Native.Nat.{ℕ, zero, suc, _-_}
 use mathlib.Core.List.{List, [], _∷_, _++_, map}
 use Rattle.sum.specs.Sum.{sumOf, join}
@@ -16,7 +16,8 @@ use Rattle.recurrence.specs.Choice.{first}
 use Rattle.recurrence.specs.Scheme.{Scheme, shotsBy}
 use Rattle.outline.specs.Grid.{Grid}
 use Rattle.rule.specs.declared.Rule.{Rule}
-use Rattle.piece.specs.Piece.{Piece, cells, kind, charge, leftPart, rightPart, lowerPart, upperPart}
+use Rattle.shot.specs.Shot.{numbers}
+use Rattle.piece.specs.Piece.{Piece, rectangle, cells, kind, charge, leftPart, rightPart, lowerPart, upperPart}
 
 -- its direction, and its line
 pub data Cut : Type 0 where
@@ -57,6 +58,5 @@ module _ (g : Grid) (r : Rule) where
   unfoldable pub choice : Piece → Cut
   choice p = first (λ k. sumOf cost (parts p k)) (cost p) (vertical 0) (cuts p)
 
--- x low, y low, x high, y high of each shot, in nm
-unfoldable pub numbers : Grid → List Piece → List ℕ
-numbers g = join (λ s. g .x (s .a) ∷ g .y (s .b) ∷ g .x (s .c) ∷ g .y (s .d) ∷ [])
+unfoldable pub numbersOf : Grid → List Piece → List ℕ
+numbersOf g l = numbers (map (rectangle g) l)

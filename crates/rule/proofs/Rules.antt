@@ -7,7 +7,7 @@
 --   preset-product   == weight times threshold is 1,000 in every row, by one test computed over the table
 --   made-one, row-one == two answers that tell the same are the same
 use Prim.Native.Nat.{ℕ, zero, suc, _*_, _<_, _≤_}
-use mathlib.Core.Path.{_≡_, refl, ap}
+use mathlib.Core.Path.{_≡_, refl, sym, ap}
 use mathlib.Core.List.{List, [], _∷_}
 use mathlib.Core.Bool.{Bool, true, false, cond, _&&_, false≢true}
 use native.Mathlib.Nat.{le-of-suc-le-suc, not-suc-le-zero}
@@ -15,6 +15,9 @@ use native.Mathlib.Omega.{arith}
 use lib.Dec.{T, eqb, eqb→eq, leb}
 use lib.ListN.{length, getD}
 use borrow.Author.Tests.{le-leb, lt-leb, leb-true}
+use Rattle.refusal.specs.declared.Refusal.{Refusal}
+use Rattle.refusal.specs.Refusals.{refusalNo}
+use Rattle.refusal.proofs.Refusals.{refusal-one, refusal-some}
 use Rattle.rule.specs.declared.Rule.{Rule}
 use Rattle.rule.specs.declared.Made.{Made}
 use Rattle.rule.specs.declared.Made.the-variants as made
@@ -115,14 +118,20 @@ preset-product n d h = eqb→eq _ 1000 (every-at product-right presets tt n d h)
 
 -- two answers that tell the same are the same
 
+-- an answer that is no refusal tells 0, and a refusal does not
+given-not : (r : Rule) (why : Refusal) → given r ≡ refused (refusalNo why) → ⊥
+given-not r why e =
+    let z : _≡_ {A = ℕ} 0 (refusalNo why) = ap (λ (t : Told). t .number) e in
+    omega (arith, refusal-some why)
+
 pub made-one : (u v : Made) → madeTold u ≡ madeTold v → u ≡ v
 made-one (made.Rule r) (made.Rule s) e = ap made.Rule (same-rule e)
-made-one (made.Rule r) made.Refused e = absurd (let z : _≡_ {A = ℕ} 0 1 = ap (λ (t : Told). t .number) e in omega arith)
-made-one made.Refused (made.Rule s) e = absurd (let z : _≡_ {A = ℕ} 1 0 = ap (λ (t : Told). t .number) e in omega arith)
-made-one made.Refused made.Refused e = refl
+made-one (made.Rule r) (made.Refused v) e = absurd (given-not r v e)
+made-one (made.Refused u) (made.Rule s) e = absurd (given-not s u (sym e))
+made-one (made.Refused u) (made.Refused v) e = ap made.Refused (refusal-one u v (ap (λ (t : Told). t .number) e))
 
 pub row-one : (u v : Preset) → rowTold u ≡ rowTold v → u ≡ v
 row-one (preset.Row r) (preset.Row s) e = ap preset.Row (same-rule e)
-row-one (preset.Row r) preset.Unknown e = absurd (let z : _≡_ {A = ℕ} 0 15 = ap (λ (t : Told). t .number) e in omega arith)
-row-one preset.Unknown (preset.Row s) e = absurd (let z : _≡_ {A = ℕ} 15 0 = ap (λ (t : Told). t .number) e in omega arith)
-row-one preset.Unknown preset.Unknown e = refl
+row-one (preset.Row r) (preset.Refused v) e = absurd (given-not r v e)
+row-one (preset.Refused u) (preset.Row s) e = absurd (given-not s u (sym e))
+row-one (preset.Refused u) (preset.Refused v) e = ap preset.Refused (refusal-one u v (ap (λ (t : Told). t .number) e))

@@ -14,6 +14,8 @@ use Prim.Native.Nat.{ℕ, zero, suc}
 use mathlib.Core.List.{List, [], _∷_}
 use mathlib.Core.Bool.{Bool, cond, _&&_}
 use lib.Dec.{leb}
+use Rattle.refusal.specs.declared.Refusal.the-variants as because
+use Rattle.refusal.specs.Refusals.{refusalNo}
 use Rattle.rule.specs.declared.Rule.{Rule}
 use Rattle.rule.specs.declared.Made.{Made}
 use Rattle.rule.specs.declared.Made.the-variants as made
@@ -44,7 +46,7 @@ refused n = record { number = n; threshold = 0; weight = 0 }
 
 -- the rule of two numbers, or 1 where one is above the limit
 unfoldable pub ruleTold : ℕ → ℕ → Told
-ruleTold t w = cond (inRange t w) (given (record { threshold = t; weight = w })) (refused 1)
+ruleTold t w = cond (inRange t w) (given (record { threshold = t; weight = w })) (refused (refusalNo because.Rule))
 
 -- the table of document 01
 abbrev pub presets : List Rule
@@ -57,7 +59,7 @@ presets =
 
 -- the row of a table by its number, or 15
 abbrev pub row : List Rule → ℕ → Told
-row [] n = refused 15
+row [] n = refused (refusalNo because.Preset)
 row (r ∷ rs) zero = given r
 row (r ∷ rs) (suc n) = row rs n
 
@@ -68,9 +70,9 @@ presetTold n = row presets n
 -- document 01's number and values for each answer of the constructor
 abbrev pub madeTold : Made → Told
 madeTold (made.Rule r) = given r
-madeTold made.Refused = refused 1
+madeTold (made.Refused why) = refused (refusalNo why)
 
 -- document 01's number and values for each answer of the preset call
 abbrev pub rowTold : Preset → Told
 rowTold (preset.Row r) = given r
-rowTold preset.Unknown = refused 15
+rowTold (preset.Refused why) = refused (refusalNo why)

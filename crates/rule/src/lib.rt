@@ -1,6 +1,10 @@
 // The rule of a fracture: below which width a shot is a sliver, and what a nanometre of sliver weighs.
+use refusal::Refusal;
 ghost use mathlib.Core.Path.{_≡_};
+ghost use Prim.Native.Nat.{_≤_};
+ghost use Rattle.sum.specs.Sum.{only};
 ghost use Rattle.rule.specs.Rules.{Told, madeTold, rowTold, ruleTold, presetTold};
+ghost use Rattle.rule.specs.Charge.{sliverOf, chargeOf};
 
 // A shot narrower than the threshold (in nm) is a sliver; each nm of its exposed sides weighs so many thousandths of a shot.
 pub struct Rule {
@@ -8,16 +12,16 @@ pub struct Rule {
     pub weight: u32,
 }
 
-// What the checked constructor answers. Refused: a number is above its limit (document 01: 1).
+// What the checked constructor answers. Refused: a number is above its limit (1).
 pub enum Made {
     Rule(Rule),
-    Refused,
+    Refused(Refusal),
 }
 
-// What the preset call answers. Unknown: there is no such row (document 01: 15).
+// What the preset call answers. Refused: there is no such row (15).
 pub enum Preset {
     Row(Rule),
-    Unknown,
+    Refused(Refusal),
 }
 
 // Document 01, "Rules by preset": weight times threshold is 1,000 in every row.
@@ -40,6 +44,13 @@ pub const PRESETS: [Rule; 4] = [
     },
 ];
 
+// A length where it counts, else 0.
+fn counted(counts: bool, length: u32) -> u32
+    ensures { λ r. ⌜ (r ≡ only counts length) × (r ≤ length) ⌝ }
+{
+    if counts { length } else { 0 }
+}
+
 impl Rule {
     // In nm.
     pub const MAX_THRESHOLD: u32 = 1000;
@@ -55,10 +66,10 @@ impl Rule {
         ensures settled { λ r. ⌜ madeTold r ≡ ruleTold threshold weight ⌝ }
     {
         if Rule::MAX_THRESHOLD < threshold {
-            return Made::Refused;
+            return Made::Refused(Refusal::Rule);
         }
         if Rule::MAX_WEIGHT < weight {
-            return Made::Refused;
+            return Made::Refused(Refusal::Rule);
         }
         Made::Rule(Rule { threshold, weight })
     }
@@ -71,7 +82,24 @@ impl Rule {
             let n = number as usize;
             Preset::Row(PRESETS[n])
         } else {
-            Preset::Unknown
+            Preset::Refused(Refusal::Preset)
         }
+    }
+    // The sliver length of a shot of this width and height, whose left and right sides are exposed over `upright` nm together and its
+    // bottom and top over `level` nm. How a sliver is reckoned stands here and nowhere else.
+    pub fn sliver(self, width: u32, height: u32, upright: u32, level: u32) -> u32
+        requires { ⌜ (upright ≤ 1966050) × (level ≤ 1966050) ⌝ }
+        ensures { λ r. ⌜ r ≡ sliverOf self width height upright level ⌝ }
+    {
+        let threshold = self.threshold;
+        counted(width < threshold, upright) + counted(height < threshold, level)
+    }
+
+    // What a shot of this sliver length costs, in thousandths of a shot.
+    pub fn charge(self, sliver: u32) -> u32
+        requires { ⌜ (sliver ≤ 262140) × (self .weight ≤ 1000) ⌝ }
+        ensures { λ r. ⌜ r ≡ chargeOf self sliver ⌝ }
+    {
+        1000 + self.weight * sliver
     }
 }

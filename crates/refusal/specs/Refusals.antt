@@ -1,0 +1,38 @@
+-- To believe: document 01, "When the answer is no".
+--
+--   refusalNo      == the number of each refusal
+use Prim.Native.Nat.{ℕ}
+use Rattle.refusal.specs.declared.Refusal.{Refusal}
+use Rattle.refusal.specs.declared.Refusal.the-variants as because
+
+abbrev pub refusalNo : Refusal → ℕ
+-- threshold or weight above 1,000
+refusalNo because.Rule = 1
+-- list length odd, under 8 or over 64
+refusalNo because.Length = 2
+-- an edge changes both coordinates
+refusalNo because.Slanted = 3
+-- an edge changes neither, or two neighbours change the same one
+refusalNo because.Unturned = 4
+-- no cell is inside
+refusalNo because.Empty = 5
+-- cost table has fewer entries than there are pieces
+refusalNo because.Table = 6
+-- shot list holds fewer than 4 x shots numbers
+refusalNo because.List = 7
+-- bytes end before a number does and before its third byte
+refusalNo because.Ends = 8
+-- a number's last byte is 0 and not its only one
+refusalNo because.Padded = 9
+-- a third byte has its top bit set, or a value is outside its range
+refusalNo because.Range = 10
+-- bytes follow the last outline
+refusalNo because.Extra = 11
+-- job over 4,096 bytes
+refusalNo because.Long = 12
+-- outline k asked for, k not below K
+refusalNo because.Missing = 13
+-- buffer too short for what would be written
+refusalNo because.Room = 14
+-- preset number above 3
+refusalNo because.Preset = 15

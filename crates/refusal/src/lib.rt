@@ -1,0 +1,46 @@
+// The one table of refusal numbers: every call, the C interface and the programs take their number from here.
+ghost use mathlib.Core.Path.{_≡_};
+ghost use Rattle.refusal.specs.Refusals.{refusalNo};
+
+// Why the answer is no, in the order of the numbers, 1 to 15. A call that tells more than the reason (the shots that there are, the
+// offset of a fault) tells it beside.
+pub enum Refusal {
+    Rule,
+    Length,
+    Slanted,
+    Unturned,
+    Empty,
+    Table,
+    List,
+    Ends,
+    Padded,
+    Range,
+    Extra,
+    Long,
+    Missing,
+    Room,
+    Preset,
+}
+
+// Document 01's number of a refusal.
+pub fn refusal_no(why: Refusal) -> u32
+    ensures settled { λ n. ⌜ n ≡ refusalNo why ⌝ }
+{
+    match why {
+        Refusal::Rule => 1,
+        Refusal::Length => 2,
+        Refusal::Slanted => 3,
+        Refusal::Unturned => 4,
+        Refusal::Empty => 5,
+        Refusal::Table => 6,
+        Refusal::List => 7,
+        Refusal::Ends => 8,
+        Refusal::Padded => 9,
+        Refusal::Range => 10,
+        Refusal::Extra => 11,
+        Refusal::Long => 12,
+        Refusal::Missing => 13,
+        Refusal::Room => 14,
+        Refusal::Preset => 15,
+    }
+}

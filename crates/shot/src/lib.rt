@@ -1,0 +1,1 @@
+// The four numbers of a shot: definitions in specs/, laws in proofs/, no code.
