@@ -19,6 +19,7 @@ use Rattle.sum.specs.Sum.{only, over}
 use Rattle.sum.proofs.Sum.{le-or, over-none, over-last, over-one, over-le, over-same, over-part, over-steps, over-add, over-swap, only-over, only-most, rise}
 use Rattle.outline.specs.Grid.{Grid, Sound, Drawn}
 use Rattle.rule.specs.declared.Rule.{Rule}
+use Rattle.rule.specs.Charge.{sliverOf, chargeOf}
 use Rattle.piece.specs.Piece.{Piece, box, before, lowSide, highSide, cellSum, cells, insideCells, width, height, left, right, bottom, top, sliver, charge}
 use Rattle.piece.proofs.Cells.{cells-product, sum-horizontal}
 use Rattle.piece.proofs.Kind.{inside-most}
@@ -272,7 +273,7 @@ module _ (g : Grid) (r : Rule) (xs ys cs : List ℕ) (sound : Sound g) (drawn : 
           )
 
   pub shot-charge : (b d : ℕ) → b < d → d ≤ g .rows → shotCost u ys r b d ≡ charge g r (box a c b d)
-  unfolding shotCost charge sliver height
+  unfolding shotCost charge chargeOf sliver sliverOf height
   shot-charge b d q l =
       ap (λ n. 1000 + r .weight * n)
       (ap₂ _+_ (flank-in b d l) (ap₂ only (ap (λ n. ltb n (r .threshold)) (ap₂ _-_ (drawn .y-at d l) (drawn .y-at b (omega arith)))) (ends-at b d q l)))
