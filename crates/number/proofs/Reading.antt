@@ -3,7 +3,6 @@
 --   then-same        == what follows a reading goes by what it found
 --   past-then        == the place past a reading stays where only its value is put to use
 --   many-none, many-more, many-stop == the ways that reading n + 1 in a row can go
---   told-as          == what an answer tells, where its case is known
 --   past-fault, past-read == a reading, by the place that it got to
 --   many-first, many-length == what many in a row begin with, and how many they are
 --   many-nth         == one of many: those before it are read, and then it
@@ -127,7 +126,3 @@ module _ {A : Type 0} (f : ℕ → Reading A) where
       let s = step at (i .0) (i .1) (i .3) in
       let r = many-onward most step n (i .1) (s .1) (i .4) in
       omega arith
-
--- what an answer tells, where a match has found which case it is
-pub told-as : {A B : Type 0} (tell : A → B) {r x : A} {b : B} → r ≡ x → tell r ≡ b → tell x ≡ b
-told-as tell found told = sym (ap tell found) ∙ told

@@ -1,8 +1,7 @@
-pub mod Corners
 pub mod Lines
 pub mod Inserting
 pub mod Gathering
-pub mod Turns
+pub mod LineCount
 pub mod Inside
 pub mod Turning
 pub mod Marking

@@ -1,6 +1,6 @@
 -- How the walls mark the cells on their right, edge by edge. Assumes nothing.
 --
---   right-length, right-lines        == an outline that passes 2 to 4 has 4 to 32 corners, and 2 to 16 lines each way
+--   right-length, right-lines        == a figure that passes 2 to 4 has 4 to 32 corners, and 2 to 16 lines each way
 --   line-found                       == the first line at or above a line's place is that line
 --   marked-start, -flat, -wall       == no edge yet; one more that is no wall; one more that is
 --   marked-end                       == all edges
@@ -19,47 +19,31 @@ use borrow.Author.Tests.{lt-ltb, le-ltb, eq-eqb, ne-eqb, ltb-false, eqb-true, eq
 use Rattle.sum.specs.Sum.{only, sumOf, All, join}
 use Rattle.sum.proofs.Sum.{le-or, only-most}
 use Rattle.sum.proofs.Lists.{All-at, join-append, sumOf-one}
-use Rattle.outline.specs.declared.Axis.{Axis}
-use Rattle.outline.specs.declared.Axis.the-variants.{X, Y}
-use Rattle.outline.specs.Corners.{Corner, Link, corners, coordinate, edges, changes, odd, badLength}
+use Rattle.figure.specs.declared.Axis.{Axis}
+use Rattle.figure.specs.declared.Axis.the-variants.{X, Y}
+use Rattle.figure.specs.Corners.{Corner, Link, corners, coordinate, edges, changes, odd}
+use Rattle.figure.specs.Figure.{Figure, figure, cornersOf, mostCorners}
+use Rattle.figure.specs.Inside.{Wall, wall, walls, count}
+use Rattle.figure.specs.Steps.{origin, still, corner, edge, before, Right}
 use Rattle.outline.specs.Lines.{Up, lines, place}
-use Rattle.outline.specs.Inside.{Wall, wall, walls, count}
-use Rattle.outline.specs.Steps.{origin, still, corner, edge, before, Right, flip, span, stands, marks, Bits, Turned, Ruled, Marked, Marks}
-use Rattle.outline.proofs.Corners.{length-corners, length-edges, edge-at}
+use Rattle.outline.specs.Steps.{flip, span, stands, marks, Bits, Turned, Ruled, Marked, Marks}
+use Rattle.figure.proofs.Corners.{length-corners, length-edges, edge-at}
 use Rattle.outline.proofs.Lines.{place-at}
-use Rattle.outline.proofs.Turns.{lines-some, lines-most, edges-half}
-use Rattle.outline.proofs.Inside.{lines-up, count-append, corners-lines}
+use Rattle.figure.proofs.Turns.{edges-half}
+use Rattle.figure.proofs.Fault.{length-good}
+use Rattle.figure.proofs.Inside.{count-append}
+use Rattle.outline.proofs.LineCount.{lines-some, lines-most}
+use Rattle.outline.proofs.Inside.{lines-up, corners-lines}
 
--- what the length says
-pub length-good : (l : List ℕ) → badLength l ≡ false → (length l % 2 ≡ 0) × (8 ≤ length l) × (length l ≤ 64)
-unfolding badLength odd
-length-good l h = go (eqb (length l % 2) 1) refl (ltb (length l) 8) refl (ltb 64 (length l)) refl h
-  where
-    go : (p : Bool) → eqb (length l % 2) 1 ≡ p → (q : Bool) → ltb (length l) 8 ≡ q → (r : Bool) → ltb 64 (length l) ≡ r
-        → (p || (q || r)) ≡ false
-        → (length l % 2 ≡ 0) × (8 ≤ length l) × (length l ≤ 64)
-    go true a q b r c h = absurd (true≢false h)
-    go false a true b r c h = absurd (true≢false h)
-    go false a false b true c h = absurd (true≢false h)
-    go false a false b false c h = (two, ltb-false (length l) 8 b, ltb-false 64 (length l) c)
-      where
-        two : length l % 2 ≡ 0
-        two = elim (le-or 1 (length l % 2)) [
-          | inl q ↦ absurd (eqb-false (length l % 2) 1 a (omega arith))
-          | inr q ↦ omega arith
-        ]
-
-module _ (l : List ℕ) (right : Right l) where
-  pub right-length : (4 ≤ length (corners l)) × (length (corners l) ≤ 32) × (length (corners l) % 2 ≡ 0)
+module _ (f : Figure) (right : Right f) where
+  pub right-length : (4 ≤ length (cornersOf f)) × (length (cornersOf f) ≤ mostCorners) × (length (cornersOf f) % 2 ≡ 0)
   right-length =
-      let h = length-good l (right .length-good) in
-      (omega (arith, length-corners l), omega (arith, length-corners l), omega (arith, edges-half (corners l) (right .slanted-none) (right .straight-none) X))
+      let h = length-good f (right .figure-good) in
+      let n = length-corners (f .numbers) in
+      (omega arith, omega arith, omega (arith, edges-half (cornersOf f) (right .slanted-none) (right .unturned-none) X))
 
-  pub right-lines : (a : Axis) → (2 ≤ length (lines a (corners l))) × (length (lines a (corners l)) ≤ 16)
-  right-lines a = (
-    lines-some (corners l) (right .slanted-none) (right .straight-none) a (omega (arith, right-length)),
-    omega (arith, right-length, lines-most (corners l) (right .slanted-none) (right .straight-none) a),
-  )
+  pub right-lines : (a : Axis) → (2 ≤ length (lines a (cornersOf f))) × (length (lines a (cornersOf f)) ≤ 16)
+  right-lines a = (lines-some f right a (omega (arith, right-length)), omega (arith, right-length, lines-most f right a))
 
 -- the first line at or above a line's place is that line
 pub line-found : (xs : List ℕ) (v r : ℕ) → Up xs → Member v xs → r ≤ length xs
@@ -191,9 +175,9 @@ module _ (l xs ys cells : List ℕ) (k line x : ℕ) (h : k < length l / 2) (rul
       record {
         length-cells = m .length-cells;
         bit = λ n. omega (arith, m .at n, marks-bit (corners l) k n);
-        some = omega (arith, right-lines l (ruled .right) Y, ap length (ruled .across-y));
-        most = omega (arith, right-lines l (ruled .right) Y, ap length (ruled .across-y));
-        column = omega (arith, right-lines l (ruled .right) X, ap length (ruled .across-x), ruled-line);
+        some = omega (arith, right-lines (figure l) (ruled .right) Y, ap length (ruled .across-y));
+        most = omega (arith, right-lines (figure l) (ruled .right) Y, ap length (ruled .across-y));
+        column = omega (arith, right-lines (figure l) (ruled .right) X, ap length (ruled .across-x), ruled-line);
       }
 
   -- a wall more

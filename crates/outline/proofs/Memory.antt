@@ -16,18 +16,18 @@ use lib.ListN.{length, getD}
 use borrow.Author.Tests.{le-leb, lt-ltb, le-ltb, eq-eqb}
 use Rattle.sum.specs.Sum.{only}
 use Rattle.sum.proofs.Sum.{le-or}
-use Rattle.outline.specs.declared.Axis.the-variants.{X, Y}
-use Rattle.outline.specs.Corners.{Corner, corners}
+use Rattle.figure.specs.declared.Axis.the-variants.{X, Y}
+use Rattle.figure.specs.Figure.{Figure, cornersOf}
 use Rattle.outline.specs.Lines.{lines}
 use Rattle.outline.specs.Grid.{Grid, Sound, Drawn, Memory, stored}
 use Rattle.outline.specs.Inside.{grid, gridOf}
-use Rattle.outline.specs.Promise.{refusal, table, laid, blank, Sheet, Promise}
+use Rattle.outline.specs.Promise.{refusal, listOf, laid, blank, Sheet, Promise}
 use Rattle.outline.proofs.Lines.{place-past}
-use Rattle.outline.proofs.Promise.{length-table, table-at}
+use Rattle.outline.proofs.Promise.{length-listOf, listOf-at}
 
 -- a place of a list of lines in memory
-place-laid : (f : ℕ → ℕ) (n i : ℕ) → n ≤ 15 → i ≤ n → getD (table 16 (λ k. only (leb k n) (f k))) i 0 ≡ f i
-place-laid f n i h k = table-at 16 (λ k. only (leb k n) (f k)) i (omega arith) ∙ ap (λ b. only b (f i)) (le-leb i n k)
+place-laid : (f : ℕ → ℕ) (n i : ℕ) → n ≤ 15 → i ≤ n → getD (listOf 16 (λ k. only (leb k n) (f k))) i 0 ≡ f i
+place-laid f n i h k = listOf-at 16 (λ k. only (leb k n) (f k)) i (omega arith) ∙ ap (λ b. only b (f i)) (le-leb i n k)
 
 module _ (g : Grid) (sound : Sound g) where
   cell-laid : (i j : ℕ) → i < 16 → j < 16 → getD (laid g .cells) (16 * i + j) 0 ≡ only (g .inside i j) 1
@@ -35,15 +35,15 @@ module _ (g : Grid) (sound : Sound g) where
   cell-laid i j p q =
       let u : (16 * i + j) / 16 ≡ i = omega arith in
       let v : (16 * i + j) % 16 ≡ j = omega arith in
-      table-at 256 _ (16 * i + j) (omega arith) ∙ ap₂ (λ m n. only (g .inside m n) 1) u v
+      listOf-at 256 _ (16 * i + j) (omega arith) ∙ ap₂ (λ m n. only (g .inside m n) 1) u v
 
   pub laid-drawn : Drawn g (laid g .xs) (laid g .ys) (laid g .cells)
   unfolding laid
   laid-drawn =
       record {
-        xs-length = length-table 16 _;
-        ys-length = length-table 16 _;
-        cells-length = length-table 256 _;
+        xs-length = length-listOf 16 _;
+        ys-length = length-listOf 16 _;
+        cells-length = length-listOf 256 _;
         x-at = λ i h. place-laid (g .x) (g .columns) i (sound .columns-most) h;
         y-at = λ j h. place-laid (g .y) (g .rows) j (sound .rows-most) h;
         cell-at = cell-laid;
@@ -53,7 +53,7 @@ module _ (g : Grid) (sound : Sound g) where
   abbrev Repeats : (ℕ → ℕ) → ℕ → Type 0
   Repeats f n = (i : ℕ) → n ≤ i → f i ≡ f n
 
-  place-back : (f : ℕ → ℕ) (n : ℕ) → n ≤ 15 → Repeats f n → (i : ℕ) → getD (table 16 (λ k. only (leb k n) (f k))) (min i n) 0 ≡ f i
+  place-back : (f : ℕ → ℕ) (n : ℕ) → n ≤ 15 → Repeats f n → (i : ℕ) → getD (listOf 16 (λ k. only (leb k n) (f k))) (min i n) 0 ≡ f i
   place-back f n h r i = elim (le-or n i) [
     | inl q ↦ (let z : min i n ≡ n = omega arith in rw z (place-laid f n n h (omega arith) ∙ sym (r i q)))
     | inr q ↦ (let z : min i n ≡ i = omega arith in rw z (place-laid f n i h (omega arith)))
@@ -87,33 +87,33 @@ module _ (g : Grid) (sound : Sound g) where
         inside = λ m n. cell-back m n i;
       }
 
-pub grid-repeats : (cs : List Corner) → ((i : ℕ) → grid cs .columns ≤ i → grid cs .x i ≡ grid cs .x (grid cs .columns))
-    × ((j : ℕ) → grid cs .rows ≤ j → grid cs .y j ≡ grid cs .y (grid cs .rows))
+pub grid-repeats : (f : Figure) → ((i : ℕ) → grid f .columns ≤ i → grid f .x i ≡ grid f .x (grid f .columns))
+    × ((j : ℕ) → grid f .rows ≤ j → grid f .y j ≡ grid f .y (grid f .rows))
 unfolding grid gridOf
-grid-repeats cs = ((λ i h. place-past (lines X cs) i (omega arith)), λ j h. place-past (lines Y cs) j (omega arith))
+grid-repeats f = ((λ i h. place-past (lines X (cornersOf f)) i (omega arith)), λ j h. place-past (lines Y (cornersOf f)) j (omega arith))
 
 -- the sheet of an accepted outline
-module _ (l : List ℕ) (r : Sheet) (promise : Promise l r) (accepted : refusal l ≡ 0) where
-  drawing-laid : r .grid ≡ laid (grid (corners l))
-  drawing-laid = promise .drawn ∙ ap (λ b. cond b (laid (grid (corners l))) blank) (eq-eqb (refusal l) 0 accepted)
+module _ (f : Figure) (r : Sheet) (promise : Promise f r) (accepted : refusal f ≡ 0) where
+  drawing-laid : r .grid ≡ laid (grid f)
+  drawing-laid = promise .drawn ∙ ap (λ b. cond b (laid (grid f)) blank) (eq-eqb (refusal f) 0 accepted)
 
-  pub drawing-columns : r .grid .columns ≡ grid (corners l) .columns
+  pub drawing-columns : r .grid .columns ≡ grid f .columns
   unfolding laid
   drawing-columns = ap (λ g. g .columns) drawing-laid
 
-  pub drawing-rows : r .grid .rows ≡ grid (corners l) .rows
+  pub drawing-rows : r .grid .rows ≡ grid f .rows
   unfolding laid
   drawing-rows = ap (λ g. g .rows) drawing-laid
 
-  pub drawing-drawn : Drawn (grid (corners l)) (r .grid .xs) (r .grid .ys) (r .grid .cells)
+  pub drawing-drawn : Drawn (grid f) (r .grid .xs) (r .grid .ys) (r .grid .cells)
   drawing-drawn =
-      subst (λ g. Drawn (grid (corners l)) (g .xs) (g .ys) (g .cells)) (sym drawing-laid)
-      (laid-drawn (grid (corners l)) (promise .sound accepted))
+      subst (λ g. Drawn (grid f) (g .xs) (g .ys) (g .cells)) (sym drawing-laid)
+      (laid-drawn (grid f) (promise .sound accepted))
 
-  pub drawing-stored : stored (r .grid .columns) (r .grid .rows) (r .grid .xs) (r .grid .ys) (r .grid .cells) ≡ grid (corners l)
+  pub drawing-stored : stored (r .grid .columns) (r .grid .rows) (r .grid .xs) (r .grid .ys) (r .grid .cells) ≡ grid f
   drawing-stored =
       ap (λ g. stored (g .columns) (g .rows) (g .xs) (g .ys) (g .cells)) drawing-laid
-      ∙ laid-stored (grid (corners l)) (promise .sound accepted) (grid-repeats (corners l) .0) (grid-repeats (corners l) .1)
+      ∙ laid-stored (grid f) (promise .sound accepted) (grid-repeats f .0) (grid-repeats f .1)
 
 -- the lists of every drawing
 pub record Lengths (s : Sheet) : Type 0 where
@@ -121,18 +121,18 @@ pub record Lengths (s : Sheet) : Type 0 where
   pub ys-length : length (s .grid .ys) ≡ 16
   pub cells-length : length (s .grid .cells) ≡ 256
 
-pub drawing-lengths : (l : List ℕ) (s : Sheet) → Promise l s → Lengths s
+pub drawing-lengths : (f : Figure) (s : Sheet) → Promise f s → Lengths s
 unfolding laid blank
-drawing-lengths l s p =
+drawing-lengths f s p =
     record {
-      xs-length = ap (λ (m : Memory). length (m .xs)) (p .drawn) ∙ along (eqb (refusal l) 0) .0;
-      ys-length = ap (λ (m : Memory). length (m .ys)) (p .drawn) ∙ along (eqb (refusal l) 0) .1;
-      cells-length = ap (λ (m : Memory). length (m .cells)) (p .drawn) ∙ along (eqb (refusal l) 0) .2;
+      xs-length = ap (λ (m : Memory). length (m .xs)) (p .drawn) ∙ along (eqb (refusal f) 0) .0;
+      ys-length = ap (λ (m : Memory). length (m .ys)) (p .drawn) ∙ along (eqb (refusal f) 0) .1;
+      cells-length = ap (λ (m : Memory). length (m .cells)) (p .drawn) ∙ along (eqb (refusal f) 0) .2;
     }
   where
     along : (b : Bool)
-        → (length (cond b (laid (grid (corners l))) blank .xs) ≡ 16)
-        × (length (cond b (laid (grid (corners l))) blank .ys) ≡ 16)
-        × (length (cond b (laid (grid (corners l))) blank .cells) ≡ 256)
-    along true = (length-table 16 _, length-table 16 _, length-table 256 _)
+        → (length (cond b (laid (grid f)) blank .xs) ≡ 16)
+        × (length (cond b (laid (grid f)) blank .ys) ≡ 16)
+        × (length (cond b (laid (grid f)) blank .cells) ≡ 256)
+    along true = (length-listOf 16 _, length-listOf 16 _, length-listOf 256 _)
     along false = (refl, refl, refl)

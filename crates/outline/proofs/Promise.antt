@@ -1,6 +1,6 @@
 -- The promise of a drawing: which refusal is given when, how a grid lies in memory, and that nothing is left open. Assumes nothing.
 --
---   length-table, table-at       == a table has so many numbers, and each is the function's
+--   length-listOf, listOf-at       == a listOf has so many numbers, and each is the function's
 --   front-within, front-lines, front-length   == the lines at the front of a list
 --   lines-laid, cells-laid       == lines and cells as the code has them are those of the grid in memory
 --   sheet-whole, sheet-without   == and so is the whole sheet; cleared lists are the sheet of a refusal
@@ -23,40 +23,48 @@ use lib.Seq.{ext-getD, take-all, take-at, getD-append-add, getD-drop, getD-at}
 use borrow.Author.Tests.{le-leb, lt-leb, eqb-true, eq-eqb, ne-eqb, not-false}
 use Rattle.sum.specs.Sum.{only, over, All}
 use Rattle.sum.proofs.Sum.{le-or, over-zero, over-term}
-use Rattle.outline.specs.declared.Axis.{Axis}
-use Rattle.outline.specs.declared.Axis.the-variants.{X, Y}
+use Rattle.figure.specs.declared.Axis.{Axis}
+use Rattle.figure.specs.declared.Axis.the-variants.{X, Y}
 use Rattle.outline.specs.declared.Answer.{Answer}
-use Rattle.outline.specs.declared.Answer.the-variants.{Accepted, Length, Slanted, Straight, Empty}
+use Rattle.outline.specs.declared.Answer.the-variants.{Accepted, Refused}
 use Rattle.outline.specs.declared.Drawing.{Drawing}
-use Rattle.outline.specs.Corners.{corners, coordinate, edges, odd, any, badLength, slanted, straight}
+use Rattle.refusal.specs.declared.Refusal.{Refusal}
+use Rattle.refusal.specs.declared.Refusal.the-variants as because
+use Rattle.refusal.specs.Refusals.{refusalNo}
+use Rattle.refusal.proofs.Refusals.{refusal-one, refusal-some}
+use Rattle.figure.specs.Corners.{corners, coordinate, edges, odd, any, slanted, unturned}
+use Rattle.figure.specs.Figure.{Figure, figure, cornersOf, badFigure, fault}
+use Rattle.figure.specs.Inside.{walls, count}
+use Rattle.figure.specs.Steps.{Right}
+use Rattle.figure.proofs.Fault.{fault-0}
 use Rattle.outline.specs.Lines.{lines, place}
 use Rattle.outline.specs.Grid.{Grid, Sound, Memory, memory}
-use Rattle.outline.specs.Inside.{walls, count, gridOf, grid, insideCells, empty}
-use Rattle.outline.specs.Promise.{number, refusal, table, laid, blank, Sheet, lent, Promise}
-use Rattle.outline.specs.Steps.{lit, stands, marks, Right, Gathered, Ruled, Marked, Swept, Clear, whole, without}
-use Rattle.outline.proofs.Corners.{length-edges, none-at, any-some}
+use Rattle.outline.specs.Inside.{gridOf, grid, insideCells, empty}
+use Rattle.outline.specs.Promise.{answerNo, refusal, listOf, laid, blank, Sheet, sheet, Promise}
+use Rattle.outline.specs.Steps.{lit, stands, marks, Gathered, Ruled, Marked, Swept, Clear, sheetOf, without}
+use Rattle.figure.proofs.Corners.{length-edges, none-at, any-some}
 use Rattle.outline.proofs.Lines.{place-at}
 use Rattle.outline.proofs.Inside.{grid-sound}
 use Rattle.outline.proofs.Marking.{right-length, right-lines}
 use Rattle.outline.proofs.Shading.{swept-count, reaches-inside}
 
-pub length-table : (n : ℕ) (f : ℕ → ℕ) → length (table n f) ≡ n
-unfolding table
-length-table zero f = refl
-length-table (suc n) f = length-append (table n f) (f n ∷ []) ∙ omega (arith, length-table n f)
+pub length-listOf : (n : ℕ) (f : ℕ → ℕ) → length (listOf n f) ≡ n
+unfolding listOf
+length-listOf zero f = refl
+length-listOf (suc n) f = length-append (listOf n f) (f n ∷ []) ∙ omega (arith, length-listOf n f)
 
-pub table-at : (n : ℕ) (f : ℕ → ℕ) (i : ℕ) → i < n → getD (table n f) i 0 ≡ f i
-unfolding table
-table-at zero f i h = absurd (omega arith)
-table-at (suc n) f i h = elim (le-or n i) [
-  | inl q ↦ (let e : i ≡ n = omega arith in rw e (getD-at (table n f) (f n) [] 0 n (length-table n f)))
-  | inr q ↦ List·getD-append (table n f) (f n ∷ []) 0 i (omega (arith, length-table n f)) ∙ table-at n f i q
+pub listOf-at : (n : ℕ) (f : ℕ → ℕ) (i : ℕ) → i < n → getD (listOf n f) i 0 ≡ f i
+unfolding listOf
+listOf-at zero f i h = absurd (omega arith)
+listOf-at (suc n) f i h = elim (le-or n i) [
+  | inl q ↦ (let e : i ≡ n = omega arith in rw e (getD-at (listOf n f) (f n) [] 0 n (length-listOf n f)))
+  | inr q ↦ List·getD-append (listOf n f) (f n ∷ []) 0 i (omega (arith, length-listOf n f)) ∙ listOf-at n f i q
 ]
 
--- a list of numbers that are the function's is its table
-table-is : (n : ℕ) (f : ℕ → ℕ) (l : List ℕ) → length l ≡ n → ((i : ℕ) → i < n → getD l i 0 ≡ f i) → l ≡ table n f
-table-is n f l h k =
-    ext-getD 0 l (table n f) (h ∙ sym (length-table n f)) (λ i q. k i (omega arith) ∙ sym (table-at n f i (omega arith)))
+-- a list of numbers that are the function's is its listOf
+listOf-is : (n : ℕ) (f : ℕ → ℕ) (l : List ℕ) → length l ≡ n → ((i : ℕ) → i < n → getD l i 0 ≡ f i) → l ≡ listOf n f
+listOf-is n f l h k =
+    ext-getD 0 l (listOf n f) (h ∙ sym (length-listOf n f)) (λ i q. k i (omega arith) ∙ sym (listOf-at n f i (omega arith)))
 
 zeros : (m n : ℕ) → _≡_ {A = ℕ} (getD (replicate m 0) n 0) 0
 zeros zero n = refl
@@ -76,9 +84,9 @@ module _ (a : Axis) (l ls : List ℕ) (n : ℕ) (after : List ℕ) (h : Gathered
 
 -- lines, and zeros beyond them
 pub lines-laid : (ls : List ℕ) → 1 ≤ length ls → length ls ≤ 16
-    → ls ++ drop (length ls) (replicate 16 0) ≡ table 16 (λ i. only (leb i (length ls - 1)) (place ls i))
+    → ls ++ drop (length ls) (replicate 16 0) ≡ listOf 16 (λ i. only (leb i (length ls - 1)) (place ls i))
 lines-laid ls h k =
-    table-is 16 _ (ls ++ drop (length ls) (replicate 16 0))
+    listOf-is 16 _ (ls ++ drop (length ls) (replicate 16 0))
     (length-append ls (drop (length ls) (replicate 16 0)) ∙ omega (arith, length-drop {A = ℕ} (length ls) (replicate 16 0)))
     (λ i q. elim (le-or (length ls) i) [ inl r ↦ past i r | inr r ↦ at i r ])
   where
@@ -98,18 +106,18 @@ lines-laid ls h k =
         ∙ ap (λ b. only b (place ls i)) (sym (lt-leb i (length ls - 1) (omega arith)))
 
 -- what was gathered into zeros
-gathered-laid : (a : Axis) (l ls : List ℕ) (n : ℕ) (after : List ℕ) → Right l → ls ≡ replicate 16 0 → Gathered a l ls n after
-    → after ≡ table 16 (λ i. only (leb i (length (lines a (corners l)) - 1)) (place (lines a (corners l)) i))
+gathered-laid : (a : Axis) (l ls : List ℕ) (n : ℕ) (after : List ℕ) → Right (figure l) → ls ≡ replicate 16 0 → Gathered a l ls n after
+    → after ≡ listOf 16 (λ i. only (leb i (length (lines a (corners l)) - 1)) (place (lines a (corners l)) i))
 gathered-laid a l ls n after right z h =
     h .list
     ∙ ap₂ (λ k m. lines a (corners l) ++ drop k m) (h .number) z
-    ∙ lines-laid (lines a (corners l)) (omega (arith, right-lines l right a)) (right-lines l right a .1)
+    ∙ lines-laid (lines a (corners l)) (omega (arith, right-lines (figure l) right a)) (right-lines (figure l) right a .1)
 
 -- lines and cells together
-pub sheet-whole : (l xs ys cells : List ℕ) → Right l → Clear xs ys cells → (m n : ℕ) (xs′ ys′ cells′ : List ℕ)
-    → Gathered X l xs m xs′ → Gathered Y l ys n ys′ → cells′ ≡ laid (grid (corners l)) .cells
-    → lent (record { answer = Accepted; columns = m - 1; rows = n - 1 }) xs′ ys′ cells′ ≡ whole (grid (corners l))
-unfolding lent whole laid grid gridOf
+pub sheet-whole : (l xs ys cells : List ℕ) → Right (figure l) → Clear xs ys cells → (m n : ℕ) (xs′ ys′ cells′ : List ℕ)
+    → Gathered X l xs m xs′ → Gathered Y l ys n ys′ → cells′ ≡ laid (grid (figure l)) .cells
+    → sheet (record { answer = Accepted; columns = m - 1; rows = n - 1 }) xs′ ys′ cells′ ≡ sheetOf (grid (figure l))
+unfolding sheet sheetOf laid grid gridOf
 sheet-whole l xs ys cells right clear m n xs′ ys′ cells′ hx hy shaded i =
     record {
       answer = Accepted;
@@ -121,11 +129,11 @@ sheet-whole l xs ys cells right clear m n xs′ ys′ cells′ hx hy shaded i =
     }
 
 -- all cleared
-pub sheet-without : (a : Answer) (xs ys cells : List ℕ) → Clear xs ys cells
-    → lent (record { answer = a; columns = 0; rows = 0 }) xs ys cells ≡ without a
-unfolding lent without blank
-sheet-without a xs ys cells clear i =
-    record { answer = a; grid = memory 0 0 (clear .xs-clear i) (clear .ys-clear i) (clear .cells-clear i) }
+pub sheet-without : (why : Refusal) (xs ys cells : List ℕ) → Clear xs ys cells
+    → sheet (record { answer = Refused why; columns = 0; rows = 0 }) xs ys cells ≡ without why
+unfolding sheet without blank
+sheet-without why xs ys cells clear i =
+    record { answer = Refused why; grid = memory 0 0 (clear .xs-clear i) (clear .ys-clear i) (clear .cells-clear i) }
 
 -- cells, column after column
 pub cells-laid : (g : Grid) (cells : List ℕ) → length cells ≡ 256
@@ -133,7 +141,7 @@ pub cells-laid : (g : Grid) (cells : List ℕ) → length cells ≡ 256
     → cells ≡ laid g .cells
 unfolding laid
 cells-laid g cells h k =
-    table-is 256 _ cells h
+    listOf-is 256 _ cells h
     (λ n q.
     let z : n ≡ 16 * (n / 16) + n % 16 = omega arith in
     ap (λ m. getD cells m 0) z ∙ k (n / 16) (n % 16) (omega arith) (omega arith))
@@ -141,17 +149,17 @@ cells-laid g cells h k =
 -- the marks of all edges, swept, are the cells
 pub cells-shaded : (l xs ys cells after : List ℕ) → Ruled l xs ys → Marked l (length l / 2) cells → Swept cells after
     → length after ≡ length cells
-    → after ≡ laid (grid (corners l)) .cells
+    → after ≡ laid (grid (figure l)) .cells
 unfolding marks
 cells-shaded l xs ys cells after ruled m swept e =
-    cells-laid (grid (corners l)) after (e ∙ m .length-cells)
+    cells-laid (grid (figure l)) after (e ∙ m .length-cells)
     (λ i j p q.
     swept .at i j p q
-    ∙ swept-count (corners l) some cells all i j q
-    ∙ ap (λ b. only b 1) (reaches-inside (corners l) some (ruled .right .slanted-none) i j))
+    ∙ swept-count (figure l) some cells all i j q
+    ∙ ap (λ b. only b 1) (reaches-inside (figure l) some (ruled .right .slanted-none) i j))
   where
     some : 0 < length (lines X (corners l))
-    some = omega (arith, right-lines l (ruled .right) X)
+    some = omega (arith, right-lines (figure l) (ruled .right) X)
 
     all : (n : ℕ) → getD cells n 0 ≡ only (odd (count (stands (lines X (corners l)) (lines Y (corners l)) n) (walls (edges (corners l))))) 1
     all n =
@@ -167,11 +175,11 @@ module _ (g : Grid) (sound : Sound g) where
   cell-at i j p q =
       let u : (16 * i + j) / 16 ≡ i = omega arith in
       let v : (16 * i + j) % 16 ≡ j = omega arith in
-      table-at 256 _ (16 * i + j) (omega arith) ∙ ap₂ (λ m n. only (g .inside m n) 1) u v
+      listOf-at 256 _ (16 * i + j) (omega arith) ∙ ap₂ (λ m n. only (g .inside m n) 1) u v
 
   length-cells : length (laid g .cells) ≡ 256
   unfolding laid
-  length-cells = length-table 256 _
+  length-cells = length-listOf 256 _
 
   pub cells-empty : any lit (laid g .cells) ≡ false → empty g ≡ true
   unfolding empty insideCells lit
@@ -213,40 +221,40 @@ module _ (g : Grid) (sound : Sound g) where
       is-one true e = refl
       is-one false e = absurd (true≢false (sym e))
 
-      on : (k : ℕ) → k < 256 → not (eqb (getD (table 256 (λ k. only (g .inside (k / 16) (k % 16)) 1)) k 0) 0) ≡ true → g .inside (k / 16) (k % 16) ≡ true
-      on k q e = is-one (g .inside (k / 16) (k % 16)) (ap (λ n. not (eqb n 0)) (sym (table-at 256 _ k q)) ∙ e)
+      on : (k : ℕ) → k < 256 → not (eqb (getD (listOf 256 (λ k. only (g .inside (k / 16) (k % 16)) 1)) k 0) 0) ≡ true → g .inside (k / 16) (k % 16) ≡ true
+      on k q e = is-one (g .inside (k / 16) (k % 16)) (ap (λ n. not (eqb n 0)) (sym (listOf-at 256 _ k q)) ∙ e)
 
--- the refusal, by the tests in their order
-module _ (l : List ℕ) where
-  pub refusal-2 : badLength l ≡ true → refusal l ≡ 2
+-- the refusal, by the figure's own fault first
+module _ (f : Figure) where
+  pub refusal-fault : (n : ℕ) → fault f ≡ suc n → refusal f ≡ suc n
   unfolding refusal
-  refusal-2 a = rw a
+  refusal-fault n e = ap (λ b. cond b (cond (empty (grid f)) 5 0) (fault f)) (ne-eqb (fault f) 0 (λ z. omega arith)) ∙ e
 
-  pub refusal-3 : badLength l ≡ false → slanted (corners l) ≡ true → refusal l ≡ 3
+  pub refusal-5 : Right f → empty (grid f) ≡ true → refusal f ≡ 5
   unfolding refusal
-  refusal-3 a b = rw (a, b)
+  refusal-5 r d = rw (sym (fault-0 f r), d)
 
-  pub refusal-4 : badLength l ≡ false → slanted (corners l) ≡ false → straight (corners l) ≡ true → refusal l ≡ 4
+  pub refusal-0 : Right f → empty (grid f) ≡ false → refusal f ≡ 0
   unfolding refusal
-  refusal-4 a b c = rw (a, b, c)
-
-  pub refusal-5 : Right l → empty (grid (corners l)) ≡ true → refusal l ≡ 5
-  unfolding refusal
-  refusal-5 r d = rw (r .length-good, r .slanted-none, r .straight-none, d)
-
-  pub refusal-0 : Right l → empty (grid (corners l)) ≡ false → refusal l ≡ 0
-  unfolding refusal
-  refusal-0 r d = rw (r .length-good, r .slanted-none, r .straight-none, d)
+  refusal-0 r d = rw (sym (fault-0 f r), d)
 
   -- a refusal keeps the promise
-  pub promise-refused : (n : ℕ) (s : Sheet) (a : Answer) → refusal l ≡ suc n → number a ≡ suc n → s ≡ without a → Promise l s
+  pub promise-refused : (s : Sheet) (why : Refusal) → refusal f ≡ refusalNo why → s ≡ without why → Promise f s
   unfolding without
-  promise-refused n s a e h f =
+  promise-refused s why e h =
       record {
-        told = ap (λ (q : Sheet). number (q .answer)) f ∙ h ∙ sym e;
-        drawn = ap (λ (q : Sheet). q .grid) f ∙ sym (ap (λ b. cond b (laid (grid (corners l))) blank) (ne-eqb (refusal l) 0 (λ z. omega arith)));
-        sound = λ z. absurd (omega arith);
+        told = ap (λ (q : Sheet). answerNo (q .answer)) h ∙ sym e;
+        drawn =
+            ap (λ (q : Sheet). q .grid) h
+            ∙ sym (ap (λ b. cond b (laid (grid f)) blank) (ne-eqb (refusal f) 0 (λ z. omega (arith, refusal-some why))));
+        sound = λ z. absurd (omega (arith, refusal-some why));
       }
+
+  -- so does the figure's own fault
+  pub promise-fault : (s : Sheet) (why : Refusal) → refusalNo why ≡ fault f → s ≡ without why → Promise f s
+  promise-fault s why e h =
+      let z : fault f ≡ suc (refusalNo why - 1) = omega (arith, refusal-some why) in
+      promise-refused s why (refusal-fault (refusalNo why - 1) z ∙ omega (arith, refusal-some why)) h
 
 -- the corners' places are 16-bit numbers, as those of the list are
 corners-range : (l : List ℕ) → ((i : ℕ) → getD l i 0 ≤ 65535) → (a : Axis) → All (λ c. coordinate a c ≤ 65535) (corners l)
@@ -256,48 +264,46 @@ corners-range (u ∷ []) h a = tt
 corners-range (u ∷ v ∷ l) h X = (h 0, corners-range l (λ i. h (suc (suc i))) X)
 corners-range (u ∷ v ∷ l) h Y = (h 1, corners-range l (λ i. h (suc (suc i))) Y)
 
-module _ (l : List ℕ) (right : Right l) (range : (i : ℕ) → getD l i 0 ≤ 65535) where
-  -- The grid of an outline that passes 2 to 4 is sound
-  pub right-sound : Sound (grid (corners l))
+module _ (l : List ℕ) (right : Right (figure l)) (range : (i : ℕ) → getD l i 0 ≤ 65535) where
+  -- The grid of a figure that passes 2 to 4 is sound
+  pub right-sound : Sound (grid (figure l))
   right-sound =
-      let n = right-length l right in
-      grid-sound (corners l) (right .slanted-none) (right .straight-none) (omega arith) (omega arith) (corners-range l range)
+      let n = right-length (figure l) right in
+      grid-sound (figure l) right (omega arith) (omega arith) (corners-range l range)
 
   -- the whole sheet was drawn, and t tells whether a cell of it is 1
-  module _ (s : Sheet) (drawn : s ≡ whole (grid (corners l))) (t : Bool) (e : t ≡ any lit (s .grid .cells)) where
-    lit-cells : any lit (laid (grid (corners l)) .cells) ≡ t
-    unfolding whole
+  module _ (s : Sheet) (drawn : s ≡ sheetOf (grid (figure l))) (t : Bool) (e : t ≡ any lit (s .grid .cells)) where
+    lit-cells : any lit (laid (grid (figure l)) .cells) ≡ t
+    unfolding sheetOf
     lit-cells = ap (λ (q : Sheet). any lit (q .grid .cells)) (sym drawn) ∙ sym e
 
-    pub promise-empty : t ≡ false → (q : Sheet) → q ≡ without Empty → Promise l q
-    unfolding number
+    pub promise-empty : t ≡ false → (q : Sheet) → q ≡ without because.Empty → Promise (figure l) q
     promise-empty f q h =
-        promise-refused l 4 q Empty
-        (refusal-5 l right (cells-empty (grid (corners l)) right-sound (lit-cells ∙ f)))
-        refl
+        promise-refused (figure l) q because.Empty
+        (refusal-5 (figure l) right (cells-empty (grid (figure l)) right-sound (lit-cells ∙ f)))
         h
 
-    pub promise-accepted : t ≡ true → Promise l s
-    unfolding number whole
+    pub promise-accepted : t ≡ true → Promise (figure l) s
+    unfolding sheetOf
     promise-accepted f =
         record {
-          told = ap (λ (q : Sheet). number (q .answer)) drawn ∙ sym none;
-          drawn = ap (λ (q : Sheet). q .grid) drawn ∙ sym (ap (λ z. cond (eqb z 0) (laid (grid (corners l))) blank) none);
+          told = ap (λ (q : Sheet). answerNo (q .answer)) drawn ∙ sym none;
+          drawn = ap (λ (q : Sheet). q .grid) drawn ∙ sym (ap (λ z. cond (eqb z 0) (laid (grid (figure l))) blank) none);
           sound = λ z. right-sound;
         }
       where
-        none : refusal l ≡ 0
-        none = refusal-0 l right (cells-some (grid (corners l)) right-sound (lit-cells ∙ f))
+        none : refusal (figure l) ≡ 0
+        none = refusal-0 (figure l) right (cells-some (grid (figure l)) right-sound (lit-cells ∙ f))
 
 -- which of four tests is the first that holds
-pub record First (a b c d : Bool) (n : ℕ) : Type 0 where
+pub record FirstOf (a b c d : Bool) (n : ℕ) : Type 0 where
   pub two : (n ≡ 2) ↔ (a ≡ true)
   pub three : (n ≡ 3) ↔ ((a ≡ false) × (b ≡ true))
   pub four : (n ≡ 4) ↔ ((a ≡ false) × (b ≡ false) × (c ≡ true))
   pub five : (n ≡ 5) ↔ ((a ≡ false) × (b ≡ false) × (c ≡ false) × (d ≡ true))
   pub none : (n ≡ 0) ↔ ((a ≡ false) × (b ≡ false) × (c ≡ false) × (d ≡ false))
 
-first-of : (a b c d : Bool) → First a b c d (cond a 2 (cond b 3 (cond c 4 (cond d 5 0))))
+first-of : (a b c d : Bool) → FirstOf a b c d (cond (eqb (cond a 2 (cond b 3 (cond c 4 0))) 0) (cond d 5 0) (cond a 2 (cond b 3 (cond c 4 0))))
 first-of true b c d =
     record {
       two = ((λ e. refl), λ h. refl);
@@ -340,40 +346,33 @@ first-of false false false false =
     }
 
 -- Each refusal is given exactly when its condition holds and none before it does, and none exactly when no condition holds
-pub refusal-first : (l : List ℕ) → First (badLength l) (slanted (corners l)) (straight (corners l)) (empty (grid (corners l))) (refusal l)
-unfolding refusal
-refusal-first l = first-of (badLength l) (slanted (corners l)) (straight (corners l)) (empty (grid (corners l)))
+pub refusal-first : (f : Figure)
+    → FirstOf (badFigure f) (slanted (cornersOf f)) (unturned (cornersOf f)) (empty (grid f)) (refusal f)
+unfolding refusal fault
+refusal-first f = first-of (badFigure f) (slanted (cornersOf f)) (unturned (cornersOf f)) (empty (grid f))
 
 -- and so does the answer of a drawing that keeps its promise
-pub answer-first : (l : List ℕ) (s : Sheet) → Promise l s
-    → First (badLength l) (slanted (corners l)) (straight (corners l)) (empty (grid (corners l))) (number (s .answer))
-answer-first l s p =
-    subst (First (badLength l) (slanted (corners l)) (straight (corners l)) (empty (grid (corners l)))) (sym (p .told)) (refusal-first l)
+pub answer-first : (f : Figure) (s : Sheet) → Promise f s
+    → FirstOf (badFigure f) (slanted (cornersOf f)) (unturned (cornersOf f)) (empty (grid f)) (answerNo (s .answer))
+answer-first f s p =
+    subst (FirstOf (badFigure f) (slanted (cornersOf f)) (unturned (cornersOf f)) (empty (grid f))) (sym (p .told)) (refusal-first f)
 
 -- Any two drawings that keep the promise are equal: numbers tell the answers apart
-answerOf : ℕ → Answer
-answerOf n = cond (eqb n 0) Accepted (cond (eqb n 2) Length (cond (eqb n 3) Slanted (cond (eqb n 4) Straight Empty)))
+pub answer-one : (a b : Answer) → answerNo a ≡ answerNo b → a ≡ b
+answer-one Accepted Accepted e = refl
+answer-one Accepted (Refused v) e = absurd (omega (arith, refusal-some v))
+answer-one (Refused u) Accepted e = absurd (omega (arith, refusal-some u))
+answer-one (Refused u) (Refused v) e = ap Refused (refusal-one u v e)
 
-number-back : (a : Answer) → answerOf (number a) ≡ a
-unfolding number answerOf
-number-back Accepted = refl
-number-back Length = refl
-number-back Slanted = refl
-number-back Straight = refl
-number-back Empty = refl
-
-pub number-same : (a b : Answer) → number a ≡ number b → a ≡ b
-number-same a b e = sym (number-back a) ∙ ap answerOf e ∙ number-back b
-
-pub promise-unique : (l : List ℕ) (r s : Drawing) (xs ys cells xs′ ys′ cells′ : List ℕ)
-    → Promise l (lent r xs ys cells) → Promise l (lent s xs′ ys′ cells′)
+pub promise-unique : (f : Figure) (r s : Drawing) (xs ys cells xs′ ys′ cells′ : List ℕ)
+    → Promise f (sheet r xs ys cells) → Promise f (sheet s xs′ ys′ cells′)
     → (r ≡ s) × (xs ≡ xs′) × (ys ≡ ys′) × (cells ≡ cells′)
-unfolding lent
-promise-unique l r s xs ys cells xs′ ys′ cells′ p q =
+unfolding sheet
+promise-unique f r s xs ys cells xs′ ys′ cells′ p q =
     let e = p .drawn ∙ sym (q .drawn) in (
       (λ i.
           record {
-            answer = number-same (r .answer) (s .answer) (p .told ∙ sym (q .told)) i;
+            answer = answer-one (r .answer) (s .answer) (p .told ∙ sym (q .told)) i;
             columns = e i .columns;
             rows = e i .rows;
           }),

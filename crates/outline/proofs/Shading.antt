@@ -17,13 +17,16 @@ use borrow.Author.Tests.{le-leb, lt-leb, lt-ltb, le-ltb, eq-eqb, ne-eqb, eqb-tru
 use Rattle.sum.specs.Sum.{only, All}
 use Rattle.sum.proofs.Sum.{le-or}
 use Rattle.sum.proofs.Lists.{All-imp, All-all, sumOf-same, sumOf-add}
-use Rattle.outline.specs.declared.Axis.the-variants.{X, Y}
-use Rattle.outline.specs.Corners.{Corner, edges, odd, slanted}
+use Rattle.figure.specs.declared.Axis.the-variants.{X, Y}
+use Rattle.figure.specs.Corners.{Corner, edges, odd, slanted, coordinate}
+use Rattle.figure.specs.Figure.{Figure, cornersOf, edgesOf}
+use Rattle.figure.specs.Inside.{Wall, walls, covers, count, within}
+use Rattle.figure.proofs.Inside.{Beside, count-same, count-none, even, passes, parity}
 use Rattle.outline.specs.Lines.{lines, place}
-use Rattle.outline.specs.Inside.{Wall, walls, covers, count, within, grid}
+use Rattle.outline.specs.Inside.{grid}
 use Rattle.outline.specs.Steps.{covered, span, stands, swept}
-use Rattle.outline.proofs.Lines.{Beside, beside, lowest, highest, place-at, place-past, place-rises}
-use Rattle.outline.proofs.Inside.{walls-set, lines-up, count-same, count-none, even, passes, parity, grid-cell, grid-right, grid-above}
+use Rattle.outline.proofs.Lines.{beside, lowest, highest, place-at, place-past, place-rises}
+use Rattle.outline.proofs.Inside.{corners-all, walls-lines, lines-up, grid-cell, grid-right, grid-above}
 
 -- two counts, odd or even
 odd-add : (a b : ℕ) → (only (odd a) 1 + only (odd b) 1) % 2 ≡ only (odd (a + b)) 1
@@ -108,7 +111,10 @@ module _ (xs ys : List ℕ) where
             | inr r ↦ rw (ne-eqb x p (λ z. omega arith), lt-leb x p r)
           ]
 
-module _ (cs : List Corner) (some : 0 < length (lines X cs)) where
+module _ (f : Figure) (some : 0 < length (lines X (cornersOf f))) where
+  abbrev cs : List Corner
+  cs = cornersOf f
+
   abbrev xs : List ℕ
   xs = lines X cs
 
@@ -123,7 +129,7 @@ module _ (cs : List Corner) (some : 0 < length (lines X cs)) where
   count-first j h =
       count-same _ _ ws
       (All-imp (λ w s. reaches-first xs ys j w h some (s .0)) ws
-      (walls-set (λ v. place xs 0 ≤ v) (λ v. Unit {0}) cs (lowest xs (lines-up X cs)) (All-all (λ v. tt) ys)))
+      (walls-lines (λ v. place xs 0 ≤ v) (λ v. Unit {0}) cs (lowest xs (lines-up X cs)) (All-all (λ v. tt) ys)))
 
   -- where there is a next line, no wall stands between it and this one
   apart : (i : ℕ) → All (λ w. suc i < length xs → Beside (place xs i) (place xs (suc i)) (w .x) × (place xs i < place xs (suc i))) ws
@@ -131,7 +137,7 @@ module _ (cs : List Corner) (some : 0 < length (lines X cs)) where
     | inl q ↦ All-all (λ w k. absurd (omega arith)) ws
     | inr q ↦
         All-imp (λ w s k. (s .0, place-rises xs (lines-up X cs) i q)) ws
-        (walls-set (Beside (place xs i) (place xs (suc i))) (λ v. Unit {0}) cs (beside xs (lines-up X cs) i q) (All-all (λ v. tt) ys))
+        (walls-lines (Beside (place xs i) (place xs (suc i))) (λ v. Unit {0}) cs (beside xs (lines-up X cs) i q) (All-all (λ v. tt) ys))
   ]
 
   count-next : (i j : ℕ) → j < 16
@@ -179,25 +185,30 @@ module _ (cs : List Corner) (some : 0 < length (lines X cs)) where
       reaches-cell i j q w
       ∙ ap (λ b. b && (leb (w .lo) (place ys j) && leb (place ys (suc j)) (w .hi))) (le-leb (w .x) (place xs i) (omega (arith, place-past xs i p)))
 
+  -- no corner lies between neighbouring y lines
+  levels : (j : ℕ) → suc j < length ys → All (λ c. Beside (place ys j) (place ys (suc j)) (c .y)) cs
+  unfolding coordinate
+  levels j q = corners-all (Beside (place ys j) (place ys (suc j))) Y cs (beside ys (lines-up Y cs) j q)
+
   pub reaches-inside : slanted cs ≡ false → (i j : ℕ)
-      → odd (count (reaches xs ys i j) ws) ≡ grid cs .inside i j
+      → odd (count (reaches xs ys i j) ws) ≡ grid f .inside i j
   unfolding within
   reaches-inside s i j = elim (le-or (length ys) (suc j)) [
     | inl q ↦
         ap odd (count-none _ ws (All-all (reaches-above i j q) ws))
         ∙ even 0 refl
-        ∙ sym (grid-above cs i j (omega arith))
+        ∙ sym (grid-above f i j (omega arith))
     | inr q ↦
         elim (le-or (length xs) (suc i)) [
           | inl r ↦
               ap odd
               (count-same _ (passes (place ys j) (place ys (suc j))) ws
               (All-imp (λ w h. reaches-right i j r q w (h .0)) ws
-              (walls-set (λ v. v ≤ place xs (length xs - 1)) (λ v. Unit {0}) cs (highest xs (lines-up X cs)) (All-all (λ v. tt) ys))))
-              ∙ even _ (parity (place ys j) (place ys (suc j)) (place-rises ys (lines-up Y cs) j q) cs s (beside ys (lines-up Y cs) j q))
-              ∙ sym (grid-right cs i j (omega arith))
+              (walls-lines (λ v. v ≤ place xs (length xs - 1)) (λ v. Unit {0}) cs (highest xs (lines-up X cs)) (All-all (λ v. tt) ys))))
+              ∙ even _ (parity (place ys j) (place ys (suc j)) (place-rises ys (lines-up Y cs) j q) cs s (levels j q))
+              ∙ sym (grid-right f i j (omega arith))
           | inr r ↦
               ap odd (count-same _ _ ws (All-all (reaches-cell i j q) ws))
-              ∙ sym (grid-cell cs i j (omega arith) (omega arith))
+              ∙ sym (grid-cell f i j (omega arith) (omega arith))
         ]
   ]

@@ -15,9 +15,9 @@ use lib.ListN.{length, getD, set, length-set}
 use lib.Seq.{getD-set-same, getD-set-other}
 use borrow.Author.Tests.{eq-eqb, ne-eqb}
 use Rattle.sum.proofs.Sum.{le-or}
-use Rattle.outline.specs.Corners.{any}
+use Rattle.figure.specs.Corners.{any}
 use Rattle.outline.specs.Steps.{Marks, swept, Swept, lit}
-use Rattle.outline.proofs.Corners.{any-at, any-none}
+use Rattle.figure.proofs.Corners.{any-at, any-none}
 
 pub swept-bit : (cells : List ℕ) → Marks cells → (i j : ℕ) → swept cells i j ≤ 1
 unfolding swept

@@ -1,4 +1,4 @@
--- The grid of an outline: all that the floors above the outline see of it.
+-- To believe: the grid of a figure, which is all that the floors above see of it, and how it lies in memory.
 --
 --   Grid                 == the count of columns and rows of cells, the place in nm of each x line and y line, and the cells that
 --                           are inside. The cell (i, j) lies between the x lines i and i + 1 and the y lines j and j + 1

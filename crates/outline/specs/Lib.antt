@@ -1,5 +1,4 @@
 pub mod Grid
-pub mod Corners
 pub mod Lines
 pub mod Inside
 pub mod Promise

@@ -1,14 +1,10 @@
--- What the inner functions promise, on the way from the corners to the cells. Nobody has to believe these: the promise of a
--- drawing does not cite them.
+-- Inner: what the functions on the way from the corners to the cells promise. Nobody has to believe these: the promise of a drawing
+-- does not cite them.
 --
--- The edges
---   corner l k, edge l k, turn l k   == the corner k of the list l, the edge that ends at it, and that edge with the one before
---   before k n                       == the number before k of n, once round
---   Right l                          == the outline passes 2, 3 and 4
 -- The lines
 --   Room ls n v, Inserted ..         == the first n of ls rise, and there is room to insert v; ls with v inserted, and their number
 --   Gathered a l ls r after          == the r lines of the outline across the axis a, at the front of what was ls
---   Ruled l xs ys                    == the outline passes 2, 3 and 4, and these are its lines
+--   Ruled l xs ys                    == the figure of the list l passes 2, 3 and 4, and these are its lines
 -- The cells, the cell (i, j) at 16 * i + j
 --   flip t n                         == n, 0 or 1, turned over where the test t holds
 --   covered lo hi bottom top         == what lies from bottom to top lies from lo to hi
@@ -22,7 +18,7 @@
 --   lit n                            == a cell that is not 0
 -- The drawing
 --   Clear xs ys cells                == the lists of a drawing are all zeros
---   whole g, without a               == the sheet of an accepted outline with the grid g; the sheet of the refusal a
+--   sheetOf g, without why           == the sheet of an accepted figure with the grid g; the sheet of the refusal
 use Prim.Native.Nat.{ℕ, zero, suc, _+_, _*_, _-_, _/_, _%_, _≤_, _<_}
 use mathlib.Core.Path.{_≡_}
 use mathlib.Core.Bool.{Bool, true, false, not, _&&_}
@@ -30,39 +26,17 @@ use mathlib.Core.List.{List, _++_}
 use lib.Dec.{leb, ltb, eqb}
 use lib.ListN.{length, getD, take, drop, replicate}
 use Rattle.sum.specs.Sum.{only}
-use Rattle.outline.specs.declared.Axis.{Axis}
-use Rattle.outline.specs.declared.Axis.the-variants.{X, Y}
-use Rattle.outline.specs.declared.Answer.{Answer}
-use Rattle.outline.specs.declared.Answer.the-variants.{Accepted}
-use Rattle.outline.specs.Corners.{Corner, Link, corners, edges, turns, odd, badLength, slanted, straight}
+use Rattle.figure.specs.declared.Axis.{Axis}
+use Rattle.figure.specs.declared.Axis.the-variants.{X, Y}
+use Rattle.outline.specs.declared.Answer.the-variants.{Accepted, Refused}
+use Rattle.refusal.specs.declared.Refusal.{Refusal}
+use Rattle.figure.specs.Corners.{Corner, corners, edges, odd}
+use Rattle.figure.specs.Figure.{figure}
+use Rattle.figure.specs.Inside.{Wall, walls, count}
+use Rattle.figure.specs.Steps.{Right}
 use Rattle.outline.specs.Lines.{Up, insert, lines, place}
 use Rattle.outline.specs.Grid.{Grid}
-use Rattle.outline.specs.Inside.{Wall, walls, count}
 use Rattle.outline.specs.Promise.{laid, blank, Sheet}
-
-unfoldable pub origin : Corner
-origin = record { x = 0; y = 0 }
-
-unfoldable pub still : {A : Type 0} → A → Link A
-still a = record { from = a; to = a }
-
-unfoldable pub corner : List ℕ → ℕ → Corner
-corner l k = getD (corners l) k origin
-
-unfoldable pub edge : List ℕ → ℕ → Link Corner
-edge l k = getD (edges (corners l)) k (still origin)
-
-unfoldable pub turn : List ℕ → ℕ → Link (Link Corner)
-turn l k = getD (turns (corners l)) k (still (still origin))
-
-unfoldable pub before : ℕ → ℕ → ℕ
-before zero n = n - 1
-before (suc k) n = k
-
-pub record Right (l : List ℕ) : Type 0 where
-  pub length-good : badLength l ≡ false
-  pub slanted-none : slanted (corners l) ≡ false
-  pub straight-none : straight (corners l) ≡ false
 
 pub record Room (ls : List ℕ) (n v : ℕ) : Type 0 where
   pub within : n ≤ length ls
@@ -105,7 +79,7 @@ unfoldable pub marks : List Corner → ℕ → ℕ → ℕ
 marks cs k n = only (odd (count (stands (lines X cs) (lines Y cs) n) (walls (take k (edges cs))))) 1
 
 pub record Ruled (l xs ys : List ℕ) : Type 0 where
-  pub right : Right l
+  pub right : Right (figure l)
   pub across-x : xs ≡ lines X (corners l)
   pub across-y : ys ≡ lines Y (corners l)
 
@@ -132,8 +106,8 @@ pub record Clear (xs ys cells : List ℕ) : Type 0 where
   pub ys-clear : ys ≡ replicate 16 0
   pub cells-clear : cells ≡ replicate 256 0
 
-unfoldable pub whole : Grid → Sheet
-whole g = record { answer = Accepted; grid = laid g }
+unfoldable pub sheetOf : Grid → Sheet
+sheetOf g = record { answer = Accepted; grid = laid g }
 
-unfoldable pub without : Answer → Sheet
-without a = record { answer = a; grid = blank }
+unfoldable pub without : Refusal → Sheet
+without why = record { answer = Refused why; grid = blank }

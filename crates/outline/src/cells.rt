@@ -1,16 +1,17 @@
-// The cells inside an outline, by the odd count.
+// The cells inside a figure, by the odd count.
 ghost use mathlib.Core.Path.{_≡_};
 ghost use Prim.Native.Nat.{_+_, _/_, _≤_, _<_, min, max};
 ghost use lib.ListN.{length, replicate};
-ghost use Rattle.outline.specs.Corners as corner;
-ghost use Rattle.outline.specs.Inside as figure;
+ghost use Rattle.figure.specs.Corners as corner;
+ghost use Rattle.figure.specs.Figure.{figure};
+ghost use Rattle.outline.specs.Inside.{grid};
 ghost use Rattle.outline.specs.Steps as step;
 ghost use Rattle.outline.specs.Promise as promise;
-use crate::Axis;
 use crate::Line;
-use crate::Place;
-use crate::edges;
 use crate::rising;
+use figure::Axis;
+use figure::Place;
+use figure::edges;
 
 fn lower(a: Place, b: Place) -> Place
     ensures { λ r. ⌜ r .0 ≡ min (a .0) (b .0) ⌝ }
@@ -94,11 +95,11 @@ fn sweep(cells: &mut [u8])
     }
 }
 
-// Sets the cells inside an outline that passes 2, 3 and 4, by its x lines and its y lines.
+// Sets the cells inside a figure that passes 2, 3 and 4, by its x lines and its y lines.
 pub fn shade(corners: &[u16], xs: &[u16], ys: &[u16], cells: &mut [u8])
     requires { ⌜ step.Ruled (now corners) (now xs) (now ys) ⌝ }
     requires { ⌜ now cells ≡ replicate 256 0 ⌝ }
-    ensures { λ _. ⌜ now (cells .exit) ≡ promise.laid (figure.grid (corner.corners (now (corners .entry)))) .cells ⌝ }
+    ensures { λ _. ⌜ now (cells .exit) ≡ promise.laid (grid (figure (now (corners .entry)))) .cells ⌝ }
 {
     mark_walls(corners, xs, ys, cells);
     sweep(cells);

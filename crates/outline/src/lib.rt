@@ -1,35 +1,28 @@
-// From corners to a grid.
+// From the corners of a figure to its grid.
+use figure::Axis;
+use figure::Place;
+use figure::Shape;
+use figure::shape_of;
+use refusal::Refusal;
 ghost use mathlib.Core.Path.{_≡_};
 ghost use Prim.Native.Nat.{_<_};
 ghost use lib.ListN.{length, getD};
-ghost use Rattle.outline.specs.Corners as corner;
-ghost use Rattle.outline.specs.Inside as figure;
+ghost use Rattle.figure.specs.Figure.{figure};
+ghost use Rattle.figure.specs.Steps.{Right};
+ghost use Rattle.outline.specs.Inside.{grid};
 ghost use Rattle.outline.specs.Steps as step;
 ghost use Rattle.outline.specs.Promise as promise;
 
 mod cells;
-mod edges;
 mod rising;
 
 // The number of a line, from 0 for the lowest; x lines and y lines are numbered apart.
 pub struct Line(pub usize);
 
-// A place in whole nanometres.
-pub struct Place(pub u16);
-
-// A direction: places along x, or along y.
-pub enum Axis {
-    X,
-    Y,
-}
-
-// What an outline is answered with: its grid is good, or the first condition of document 01 that it meets.
+// What a figure is answered with: its grid is good, or the first of 2, 3, 4, 5 whose condition holds.
 pub enum Answer {
     Accepted,
-    Length,
-    Slanted,
-    Straight,
-    Empty,
+    Refused(Refusal),
 }
 
 // The answer, and the columns and rows of the grid: 0 by 0 beside a refusal.
@@ -58,22 +51,22 @@ fn clear(xs: &mut [u16; 16], ys: &mut [u16; 16], cells: &mut [u8; 256])
 }
 
 // A refusal: the lent arrays are all zeros beside it.
-fn refused(answer: Answer, xs: &mut [u16; 16], ys: &mut [u16; 16], cells: &mut [u8; 256]) -> Drawing
-    ensures { λ r. ⌜ promise.lent r (now (xs .exit)) (now (ys .exit)) (now (cells .exit)) ≡ step.without answer ⌝ }
+fn refused(why: Refusal, xs: &mut [u16; 16], ys: &mut [u16; 16], cells: &mut [u8; 256]) -> Drawing
+    ensures { λ r. ⌜ promise.sheet r (now (xs .exit)) (now (ys .exit)) (now (cells .exit)) ≡ step.without why ⌝ }
 {
     clear(xs, ys, cells);
     Drawing {
-        answer,
+        answer: Answer::Refused(why),
         columns: 0,
         rows: 0,
     }
 }
 
-// Draws the lines and the cells of an outline that passes 2, 3 and 4 into lists that are all zeros; 5 is not asked yet.
+// Draws the lines and the cells of a figure that passes 2, 3 and 4 into lists that are all zeros; 5 is not asked yet.
 fn trace(corners: &[u16], xs: &mut [u16], ys: &mut [u16], cells: &mut [u8]) -> Drawing
-    requires { ⌜ step.Right (now corners) ⌝ }
+    requires { ⌜ Right (figure (now corners)) ⌝ }
     requires { ⌜ step.Clear (now xs) (now ys) (now cells) ⌝ }
-    ensures { λ r. ⌜ promise.lent r (now (xs .exit)) (now (ys .exit)) (now (cells .exit)) ≡ step.whole (figure.grid (corner.corners (now (corners .entry)))) ⌝ }
+    ensures { λ r. ⌜ promise.sheet r (now (xs .exit)) (now (ys .exit)) (now (cells .exit)) ≡ step.sheetOf (grid (figure (now (corners .entry)))) ⌝ }
 {
     let across_x = rising::gather(corners, Axis::X, xs);
     let across_y = rising::gather(corners, Axis::Y, ys);
@@ -85,20 +78,20 @@ fn trace(corners: &[u16], xs: &mut [u16], ys: &mut [u16], cells: &mut [u8]) -> D
     }
 }
 
-// The drawing of an outline that passes 2, 3 and 4.
+// The drawing of a figure that passes 2, 3 and 4.
 fn plot(corners: &[u16], xs: &mut [u16; 16], ys: &mut [u16; 16], cells: &mut [u8; 256]) -> Drawing
-    requires { ⌜ step.Right (now corners) ⌝ }
-    ensures { λ r. ⌜ promise.Promise (now (corners .entry)) (promise.lent r (now (xs .exit)) (now (ys .exit)) (now (cells .exit))) ⌝ }
+    requires { ⌜ Right (figure (now corners)) ⌝ }
+    ensures { λ r. ⌜ promise.Promise (figure (now (corners .entry))) (promise.sheet r (now (xs .exit)) (now (ys .exit)) (now (cells .exit))) ⌝ }
 {
     clear(xs, ys, cells);
     let drawing = trace(corners, xs, ys, cells);
     if !cells::any_inside(cells) {
-        return refused(Answer::Empty, xs, ys, cells);
+        return refused(Refusal::Empty, xs, ys, cells);
     }
     drawing
 }
 
-// The grid of an outline, from the list x, y, x, y, .. of its corners; or the first of 2, 3, 4, 5 whose condition holds. It is drawn
+// The grid of a figure, from the list x, y, x, y, .. of its corners; or the first of 2, 3, 4, 5 whose condition holds. It is drawn
 // into the lent arrays, whatever was in them: the places of the columns + 1 x lines and of the rows + 1 y lines, and at 16 * i + j a 1
 // where the cell (i, j) is inside. All else is 0, and beside a refusal all of it.
 pub fn draw(
@@ -107,16 +100,10 @@ pub fn draw(
     ys: &mut [u16; 16],
     cells: &mut [u8; 256],
 ) -> Drawing
-    ensures { λ r. ⌜ promise.Promise (now (corners .entry)) (promise.lent r (now (xs .exit)) (now (ys .exit)) (now (cells .exit))) ⌝ }
+    ensures { λ r. ⌜ promise.Promise (figure (now (corners .entry))) (promise.sheet r (now (xs .exit)) (now (ys .exit)) (now (cells .exit))) ⌝ }
 {
-    if edges::bad_length(corners) {
-        return refused(Answer::Length, xs, ys, cells);
+    match shape_of(corners) {
+        Shape::Right => plot(corners, xs, ys, cells),
+        Shape::Refused(why) => refused(why, xs, ys, cells),
     }
-    if edges::slanted(corners) {
-        return refused(Answer::Slanted, xs, ys, cells);
-    }
-    if edges::straight(corners) {
-        return refused(Answer::Straight, xs, ys, cells);
-    }
-    plot(corners, xs, ys, cells)
 }

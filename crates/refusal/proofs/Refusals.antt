@@ -2,6 +2,7 @@
 --
 --   refusal-one    == the numbers tell the refusals apart
 --   refusal-some   == none is 0, which says that nothing is wrong
+--   told-as        == what an answer tells, where a match has found which case it is
 use Prim.Native.Nat.{ℕ, _≤_}
 use mathlib.Core.Path.{_≡_, refl, sym, _∙_, ap}
 use mathlib.Core.List.{List, [], _∷_}
@@ -56,3 +57,7 @@ refusal-some Long = omega arith
 refusal-some Missing = omega arith
 refusal-some Room = omega arith
 refusal-some Preset = omega arith
+
+-- what an answer tells, where a match has found which case it is
+pub told-as : {A B : Type 0} (tell : A → B) {r x : A} {b : B} → r ≡ x → tell r ≡ b → tell x ≡ b
+told-as tell found told = sym (ap tell found) ∙ told

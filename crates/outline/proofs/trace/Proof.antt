@@ -3,7 +3,7 @@ use mathlib.Core.Path.{ap}
 use native.Mathlib.Omega.{arith}
 use lib.ListN.{length}
 use borrow.Author.Needs.{needs}
-use Rattle.outline.specs.declared.Axis.the-variants.{X, Y}
+use Rattle.figure.specs.declared.Axis.the-variants.{X, Y}
 use Rattle.outline.proofs.Marking.{right-lines}
 use Rattle.outline.proofs.Promise.{front-within, front-lines, front-length, sheet-whole}
 use Rattle.outline.proofs.trace.Statement.{statement}

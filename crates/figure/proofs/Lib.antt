@@ -1,0 +1,4 @@
+pub mod Corners
+pub mod Turns
+pub mod Inside
+pub mod Fault

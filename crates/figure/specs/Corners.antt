@@ -1,0 +1,90 @@
+-- To believe: the corners of a ring, its edges and its turns, and what refusals 3 and 4 say of them.
+--
+--   Corner           == a place in x and one in y, in nm
+--   corners l        == the corners that the list x, y, x, y, .. gives
+--   coordinate a c   == the place of the corner c along the axis a
+--   Link             == a step from one thing to the next
+--   around l         == from the last member of l to the first, and from each member to the next: once round
+--   edges cs         == the edges of the ring with the corners cs, the closing one among them
+--   turns cs         == each edge of the ring with the next, the last with the first too
+--   changes a e      == the edge e changes the coordinate along the axis a
+--   both e           == the edge e changes both coordinates
+--   neither e        == the edge e changes neither
+--   same a t         == both edges of the turn t change the coordinate along the axis a
+--   alike t          == the two edges of the turn t change the same one
+--   odd n            == n is odd
+--   any t l          == some member of l passes the test t
+--   slanted cs       == 3: an edge changes both coordinates
+--   unturned cs      == 4: an edge changes neither, or two neighbours change the same one
+use Prim.Native.Nat.{ℕ, _%_}
+use mathlib.Core.Bool.{Bool, false, not, _&&_, _||_}
+use mathlib.Core.List.{List, [], _∷_}
+use lib.Dec.{eqb}
+use Rattle.figure.specs.declared.Axis.{Axis}
+use Rattle.figure.specs.declared.Axis.the-variants.{X, Y}
+
+pub record Corner : Type 0 where
+  pub x : ℕ
+  pub y : ℕ
+
+unfoldable pub corners : List ℕ → List Corner
+corners [] = []
+corners (u ∷ []) = []
+corners (u ∷ v ∷ l) = record { x = u; y = v } ∷ corners l
+
+unfoldable pub coordinate : Axis → Corner → ℕ
+coordinate X c = c .x
+coordinate Y c = c .y
+
+pub record Link (A : Type 0) : Type 0 where
+  pub from : A
+  pub to : A
+
+module _ {A : Type 0} where
+  -- the last of p and what follows it
+  unfoldable pub last : A → List A → A
+  last p [] = p
+  last p (q ∷ l) = last q l
+
+  -- from p on through a list
+  unfoldable pub steps : A → List A → List (Link A)
+  steps p [] = []
+  steps p (q ∷ l) = record { from = p; to = q } ∷ steps q l
+
+  unfoldable pub around : List A → List (Link A)
+  around [] = []
+  around (s ∷ l) = steps (last s l) (s ∷ l)
+
+  unfoldable pub any : (A → Bool) → List A → Bool
+  any t [] = false
+  any t (s ∷ l) = t s || any t l
+
+unfoldable pub edges : List Corner → List (Link Corner)
+edges cs = around cs
+
+unfoldable pub turns : List Corner → List (Link (Link Corner))
+turns cs = around (edges cs)
+
+unfoldable pub changes : Axis → Link Corner → Bool
+changes a e = not (eqb (coordinate a (e .from)) (coordinate a (e .to)))
+
+unfoldable pub odd : ℕ → Bool
+odd n = eqb (n % 2) 1
+
+unfoldable pub both : Link Corner → Bool
+both e = changes X e && changes Y e
+
+unfoldable pub neither : Link Corner → Bool
+neither e = not (changes X e) && not (changes Y e)
+
+unfoldable pub same : Axis → Link (Link Corner) → Bool
+same a t = changes a (t .from) && changes a (t .to)
+
+unfoldable pub alike : Link (Link Corner) → Bool
+alike t = same X t || same Y t
+
+unfoldable pub slanted : List Corner → Bool
+slanted cs = any both (edges cs)
+
+unfoldable pub unturned : List Corner → Bool
+unturned cs = any neither (edges cs) || any alike (turns cs)

@@ -1,0 +1,4 @@
+pub mod Corners
+pub mod Figure
+pub mod Inside
+pub mod Steps

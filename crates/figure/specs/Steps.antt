@@ -1,0 +1,36 @@
+-- Inner: what the functions on the way to a refusal promise of one ring. Nobody has to believe these.
+--
+--   corner l k, edge l k, turn l k   == the corner k of the list l, the edge that ends at it, and that edge with the one before
+--   before k n                       == the number before k of n, once round
+--   Right f                          == the figure f passes 2, 3 and 4
+use Prim.Native.Nat.{ℕ, zero, suc, _-_}
+use mathlib.Core.Path.{_≡_}
+use mathlib.Core.Bool.{false}
+use mathlib.Core.List.{List}
+use lib.ListN.{getD}
+use Rattle.figure.specs.Corners.{Corner, Link, corners, edges, turns, slanted, unturned}
+use Rattle.figure.specs.Figure.{Figure, cornersOf, badFigure}
+
+unfoldable pub origin : Corner
+origin = record { x = 0; y = 0 }
+
+unfoldable pub still : {A : Type 0} → A → Link A
+still a = record { from = a; to = a }
+
+unfoldable pub corner : List ℕ → ℕ → Corner
+corner l k = getD (corners l) k origin
+
+unfoldable pub edge : List ℕ → ℕ → Link Corner
+edge l k = getD (edges (corners l)) k (still origin)
+
+unfoldable pub turn : List ℕ → ℕ → Link (Link Corner)
+turn l k = getD (turns (corners l)) k (still (still origin))
+
+unfoldable pub before : ℕ → ℕ → ℕ
+before zero n = n - 1
+before (suc k) n = k
+
+pub record Right (f : Figure) : Type 0 where
+  pub figure-good : badFigure f ≡ false
+  pub slanted-none : slanted (cornersOf f) ≡ false
+  pub unturned-none : unturned (cornersOf f) ≡ false

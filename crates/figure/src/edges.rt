@@ -1,0 +1,119 @@
+// The edges of a ring, and refusals 2, 3 and 4.
+ghost use mathlib.Core.Path.{_≡_};
+ghost use Prim.Native.Nat.{_/_, _<_};
+ghost use lib.ListN.{length};
+ghost use Rattle.figure.specs.Corners as corner;
+ghost use Rattle.figure.specs.Figure.{figure, badFigure};
+ghost use Rattle.figure.specs.Steps as step;
+use crate::Axis;
+use crate::MOST_CORNERS;
+use crate::Place;
+
+// The place of corner k along an axis.
+pub fn along(corners: &[u16], k: usize, axis: Axis) -> Place
+    requires { ⌜ k < length (now corners) / 2 ⌝ }
+    ensures { λ r. ⌜ r .0 ≡ corner.coordinate axis (step.corner (now (corners .entry)) k) ⌝ }
+{
+    match axis {
+        Axis::X => Place(corners[2 * k]),
+        Axis::Y => Place(corners[2 * k + 1]),
+    }
+}
+
+// The corner before corner k of `count`, once round: the last is before the first.
+pub fn before(k: usize, count: usize) -> usize
+    requires { ⌜ k < count ⌝ }
+    ensures { λ r. ⌜ (r ≡ step.before k count) × (r < count) ⌝ }
+{
+    if k == 0 { count - 1 } else { k - 1 }
+}
+
+// Whether the edge that ends at corner k changes the coordinate along an axis.
+pub fn changes(corners: &[u16], k: usize, axis: Axis) -> bool
+    requires { ⌜ k < length (now corners) / 2 ⌝ }
+    ensures { λ r. ⌜ r ≡ corner.changes axis (step.edge (now (corners .entry)) k) ⌝ }
+{
+    let from = along(corners, before(k, corners.len() / 2), axis);
+    let to = along(corners, k, axis);
+    from.0 != to.0
+}
+
+// Whether the edge that ends at corner k changes both coordinates.
+fn both(corners: &[u16], k: usize) -> bool
+    requires { ⌜ k < length (now corners) / 2 ⌝ }
+    ensures { λ r. ⌜ r ≡ corner.both (step.edge (now (corners .entry)) k) ⌝ }
+{
+    let x = changes(corners, k, Axis::X);
+    let y = changes(corners, k, Axis::Y);
+    x && y
+}
+
+// Whether the edge that ends at corner k changes neither coordinate.
+fn neither(corners: &[u16], k: usize) -> bool
+    requires { ⌜ k < length (now corners) / 2 ⌝ }
+    ensures { λ r. ⌜ r ≡ corner.neither (step.edge (now (corners .entry)) k) ⌝ }
+{
+    let x = changes(corners, k, Axis::X);
+    let y = changes(corners, k, Axis::Y);
+    !x && !y
+}
+
+// Whether the edge that ends at corner k and the one before it both change the coordinate along an axis.
+fn same(corners: &[u16], k: usize, axis: Axis) -> bool
+    requires { ⌜ k < length (now corners) / 2 ⌝ }
+    ensures { λ r. ⌜ r ≡ corner.same axis (step.turn (now (corners .entry)) k) ⌝ }
+{
+    let first = changes(corners, before(k, corners.len() / 2), axis);
+    let second = changes(corners, k, axis);
+    first && second
+}
+
+// Whether the edge that ends at corner k and the one before it change the same coordinate.
+fn alike(corners: &[u16], k: usize) -> bool
+    requires { ⌜ k < length (now corners) / 2 ⌝ }
+    ensures { λ r. ⌜ r ≡ corner.alike (step.turn (now (corners .entry)) k) ⌝ }
+{
+    let x = same(corners, k, Axis::X);
+    let y = same(corners, k, Axis::Y);
+    x || y
+}
+
+// 2: the list's length is odd, under 8 or over 64.
+pub fn bad_length(corners: &[u16]) -> bool
+    ensures { λ r. ⌜ r ≡ badFigure (figure (now (corners .entry))) ⌝ }
+{
+    let n = corners.len();
+    if n % 2 == 1 {
+        return true;
+    }
+    n < 8 || 2 * MOST_CORNERS < n
+}
+
+// 3: an edge changes both coordinates. The edge that ends at corner 0 is the closing one.
+pub fn slanted(corners: &[u16]) -> bool
+    ensures { λ r. ⌜ r ≡ corner.slanted (corner.corners (now (corners .entry))) ⌝ }
+{
+    let count = corners.len() / 2;
+    for end in 0..count {
+        if both(corners, end) {
+            return true;
+        }
+    }
+    false
+}
+
+// 4: an edge changes neither coordinate, or it and the one before it change the same one.
+pub fn unturned(corners: &[u16]) -> bool
+    ensures { λ r. ⌜ r ≡ corner.unturned (corner.corners (now (corners .entry))) ⌝ }
+{
+    let count = corners.len() / 2;
+    for turn in 0..count {
+        if neither(corners, turn) {
+            return true;
+        }
+        if alike(corners, turn) {
+            return true;
+        }
+    }
+    false
+}

@@ -1,0 +1,40 @@
+// A figure: what depends on its corners alone.
+use refusal::Refusal;
+ghost use mathlib.Core.Path.{_≡_};
+ghost use Rattle.figure.specs.Figure.{figure, fault, shapeNo};
+
+pub mod edges;
+
+// A place in whole nanometres.
+pub struct Place(pub u16);
+
+// A direction: places along x, or along y.
+pub enum Axis {
+    X,
+    Y,
+}
+
+// No figure has more corners.
+pub const MOST_CORNERS: usize = 32;
+
+// What the corners alone say of a figure: it is right-angled, or the first of 2, 3, 4 whose condition holds.
+pub enum Shape {
+    Right,
+    Refused(Refusal),
+}
+
+// The shape of a figure, from the list x, y, x, y, .. of its corners. Each of 2, 3, 4 is tried over all of it before the next.
+pub fn shape_of(corners: &[u16]) -> Shape
+    ensures settled { λ r. ⌜ shapeNo r ≡ fault (figure (now (corners .entry))) ⌝ }
+{
+    if edges::bad_length(corners) {
+        return Shape::Refused(Refusal::Length);
+    }
+    if edges::slanted(corners) {
+        return Shape::Refused(Refusal::Slanted);
+    }
+    if edges::unturned(corners) {
+        return Shape::Refused(Refusal::Unturned);
+    }
+    Shape::Right
+}

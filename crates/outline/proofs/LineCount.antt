@@ -1,0 +1,37 @@
+-- How many lines a figure has that passes 3 and 4. Assumes nothing.
+--
+--   lines-some     == 2 at least across each axis
+--   lines-most     == and no more than half as many as it has corners
+use Prim.Native.Nat.{ℕ, _*_, _≤_, _<_}
+use mathlib.Core.List.{List, map, List·Memᴰ as Member, Memᴰ·map}
+use native.Mathlib.Omega.{arith}
+use lib.ListN.{length}
+use Rattle.sum.proofs.Lists.{All-at, All-map}
+use Rattle.figure.specs.declared.Axis.{Axis}
+use Rattle.figure.specs.Corners.{coordinate, edges, changes}
+use Rattle.figure.specs.Figure.{Figure, cornersOf, edgesOf}
+use Rattle.figure.specs.Steps.{Right}
+use Rattle.figure.proofs.Corners.{length-around}
+use Rattle.figure.proofs.Turns.{kept, length-kept, corners-kept, edges-half, tally-some, changed, ends}
+use Rattle.outline.specs.Lines.{rising, lines}
+use Rattle.outline.proofs.Lines.{rising-most, rising-two}
+
+module _ (f : Figure) (right : Right f) where
+  pub lines-most : (a : Axis) → 2 * length (lines a (cornersOf f)) ≤ length (cornersOf f)
+  unfolding lines edges
+  lines-most a =
+      omega (
+        arith,
+        rising-most (map (coordinate a) (cornersOf f)) (kept a (edgesOf f)) (All-map (λ v. Member v (kept a (edgesOf f))) (coordinate a) (cornersOf f) (corners-kept (cornersOf f) (right .slanted-none) (right .unturned-none) a)),
+        length-kept a (edgesOf f),
+        edges-half (cornersOf f) (right .slanted-none) (right .unturned-none) a,
+        length-around (cornersOf f),
+      )
+
+  pub lines-some : (a : Axis) → 0 < length (cornersOf f) → 2 ≤ length (lines a (cornersOf f))
+  unfolding lines
+  lines-some a h =
+      tally-some (changes a) (edgesOf f) (2 ≤ length (rising (map (coordinate a) (cornersOf f)))) (omega (arith, edges-half (cornersOf f) (right .slanted-none) (right .unturned-none) a))
+      (λ e m c.
+      let i = All-at (λ e. Member (e .from) (cornersOf f) × Member (e .to) (cornersOf f)) m (ends (cornersOf f) (right .slanted-none) (right .unturned-none)) in
+      rising-two (map (coordinate a) (cornersOf f)) (coordinate a (e .from)) (coordinate a (e .to)) (Memᴰ·map (coordinate a) (i .0)) (Memᴰ·map (coordinate a) (i .1)) (changed a e c))
