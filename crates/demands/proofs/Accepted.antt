@@ -1,7 +1,7 @@
 -- What an outcome that filled the table gives, for the demands. Assumes nothing.
 --
 --   passed               == it has passed 1 to 6
---   shown, sound, light, whole   == so the grid shows the figure and is sound, the weight is in range, the frame is a piece
+--   shown, right, sound, light, framed-piece   == so the grid shows the figure and is sound, the weight is in range, the frame is a piece
 --   filled-table, front-table, table-room, entry-at   == the table begins with the costs; what it has for a piece is the piece's cost
 --   measured, sliver-at, charge-at   == measures at unit squares and measures of pieces agree
 --   lined, framed        == the grid's lines are the corners' coordinates, and its frame is the corners' frame
@@ -20,124 +20,137 @@ use Rattle.sum.proofs.Lists.{sumOf-same, sumOf-map, All-imp}
 use Rattle.recurrence.specs.Choice.{least}
 use Rattle.recurrence.specs.Scheme.{outside, full, mixed}
 use Rattle.recurrence.proofs.Choice.{least-one, least-same}
+use Rattle.refusal.specs.declared.Refusal.{Refusal}
+use Rattle.refusal.specs.declared.Refusal.the-variants as because
+use Rattle.refusal.specs.Refusals.{refusalNo}
 use Rattle.rule.specs.Rules.{inRange}
-use Rattle.outline.specs.declared.Axis.the-variants.{X, Y}
+use Rattle.shot.specs.Shot.{Shot}
+use Rattle.figure.specs.declared.Axis.the-variants.{X, Y}
+use Rattle.figure.specs.Figure.{cornersOf}
+use Rattle.figure.specs.Inside.{insideAt}
+use Rattle.figure.specs.Steps.{Right}
 use Rattle.outline.specs.Grid.{Sound}
-use Rattle.outline.specs.Corners.{corners}
-use Rattle.piece.specs.Piece.{Piece, leftPart, rightPart, lowerPart, upperPart, frame, kind, sliver, charge}
+use Rattle.piece.specs.Piece.{Piece, rectangle, leftPart, rightPart, lowerPart, upperPart, frame, kind, sliver, charge}
 use Rattle.piece.specs.Straight.{Cut, cuts, parts, shots, cost, choice}
 use Rattle.piece.proofs.Straight.{ends, cuts-all, shots-outside, shots-full, cost-outside, cost-full, shots-part}
 use Rattle.piece.proofs.Choice.{choice-cost, choice-least, shots-choice}
 use Rattle.table.specs.Entry.{entryCount, entryOf, costs}
 use Rattle.table.proofs.Entry.{entry-below, costs-length, costs-at}
-use Rattle.demands.specs.Promise.{rule, drawn, reportedTable, Reason, ruleHigh, lengthBad, slantedEdge, straightOn, tableShort, listShort, number, Outcome, written, test, accepted, short, outcome}
-use Rattle.demands.specs.Square.{Shot, sliverOf, chargeOf}
+use Rattle.demands.specs.Promise.{Asked, drawn, ruleOf, Outcome, written, outcome}
+use Rattle.demands.specs.Square.{shotSliver, shotCharge}
 use Rattle.demands.specs.Ways.{On, frameOf}
-use Rattle.demands.specs.Demands.{Words, PieceOf, figure, entry, Filled, partsCost, Recurrence}
-use Rattle.demands.proofs.Outcome.{written-front, written-at, outcome-number, outcome-zero, outcome-seven}
-use Rattle.demands.proofs.Refusals.{test-true, number-first, number-none}
-use Rattle.demands.proofs.Square.{Shows, rectangle, sliver-squares, charge-squares}
+use Rattle.demands.specs.Demands.{Words, PieceOf, entry, Filled, partsCost, Recurrence}
+use Rattle.demands.proofs.Outcome.{accepted, short, written-front, written-at, outcome-zero, outcome-seven}
+use Rattle.demands.proofs.Refusals.{test, outcome-number, test-true, number-first, number-none}
+use Rattle.demands.proofs.Square.{Shows, sliver-squares, charge-squares}
 use Rattle.demands.proofs.Ways as ways
-use Rattle.demands.proofs.Figure.{outline-sound, outline-shows, outline-lined, outline-frame}
+use Rattle.demands.proofs.Figure.{figure-sound, figure-shows, figure-lined, figure-frame}
 
-module _ (l : List ℕ) (t w : ℕ) (table list : List ℕ) where
+module _ (ask : Asked) where
   abbrev o : Outcome
-  o = outcome l t w table list
+  o = outcome ask
 
   abbrev F : ℕ → ℕ → Bool
-  F = figure l
+  F = insideAt (ask .figure)
 
   abbrev E : Piece → ℕ
-  E = entry o (drawn l)
+  E = entry o (drawn ask)
 
-  pub passed : Filled o → (c : Reason) → number c < 7 → test l t w table list c ≡ false
-  unfolding number
-  passed f c h = go (test l t w table list c) refl f
+  pub passed : Filled o → (c : Refusal) → refusalNo c < 7 → test ask c ≡ false
+  passed f c h = go (test ask c) refl f
     where
-      go : (b : Bool) → test l t w table list c ≡ b → Filled o → b ≡ false
+      go : (b : Bool) → test ask c ≡ b → Filled o → b ≡ false
       go false e f = refl
-      go true e (inl q) = absurd (number-none l t w table list (sym (outcome-number l t w table list) ∙ q) c (test-true l t w table list c e))
-      go true e (inr q) = absurd (number-first l t w table list listShort (sym (outcome-number l t w table list) ∙ q) .before c h (test-true l t w table list c e))
+      go true e (inl q) = absurd (number-none ask (sym (outcome-number ask) ∙ q) c (test-true ask c e))
+      go true e (inr q) = absurd (number-first ask because.List (sym (outcome-number ask) ∙ q) .before c h (test-true ask c e))
 
-  pub shown : Filled o → Shows (drawn l) F
-  unfolding drawn test number
-  shown f = outline-shows (corners l) (passed f slantedEdge (omega arith))
+  pub shown : Filled o → Shows (drawn ask) F
+  unfolding drawn test
+  shown f = figure-shows (ask .figure) (passed f because.Slanted (omega arith))
 
-  pub sound : Words l → Filled o → Sound (drawn l)
-  unfolding drawn test number
-  sound words f =
-      outline-sound l words (passed f lengthBad (omega arith)) (passed f slantedEdge (omega arith)) (passed f straightOn (omega arith))
+  pub right : Filled o → Right (ask .figure)
+  unfolding test
+  right f =
+      record {
+        figure-good = passed f because.Length (omega arith);
+        slanted-none = passed f because.Slanted (omega arith);
+        unturned-none = passed f because.Unturned (omega arith);
+      }
 
-  pub light : Filled o → w ≤ 1000
-  unfolding test number inRange
-  light f = go (leb t 1000) (leb w 1000) refl (passed f ruleHigh (omega arith))
+  pub sound : Words (ask .figure) → Filled o → Sound (drawn ask)
+  unfolding drawn test
+  sound words f = figure-sound (ask .figure) words (right f)
+
+  pub light : Filled o → ask .weight ≤ 1000
+  unfolding test inRange
+  light f = go (leb (ask .threshold) 1000) (leb (ask .weight) 1000) refl (passed f because.Rule (omega arith))
     where
-      go : (a b : Bool) → leb w 1000 ≡ b → not (a && b) ≡ false → w ≤ 1000
+      go : (a b : Bool) → leb (ask .weight) 1000 ≡ b → not (a && b) ≡ false → ask .weight ≤ 1000
       go a true e h = leb-true _ _ e
       go true false e h = absurd (true≢false h)
       go false false e h = absurd (true≢false h)
 
-  pub whole : Words l → Filled o → PieceOf l (frame (drawn l))
+  pub framed-piece : Words (ask .figure) → Filled o → PieceOf (drawn ask) (frame (drawn ask))
   unfolding frame
-  whole words f =
+  framed-piece words f =
       let s = sound words f in record { ac = s .columns-some; cx = omega arith; bd = s .rows-some; dy = omega arith }
 
   -- The table
 
-  pub filled-table : Filled o → o .table ≡ written (reportedTable l t w) table
+  pub filled-table : Filled o → o .table ≡ written (costs (drawn ask) (ruleOf ask)) (ask .table)
   unfolding accepted short
-  filled-table (inl e) = ap (λ o. o .table) (outcome-zero l t w table list e)
-  filled-table (inr e) = ap (λ o. o .table) (outcome-seven l t w table list e)
+  filled-table (inl e) = ap (λ o. o .table) (outcome-zero ask e)
+  filled-table (inr e) = ap (λ o. o .table) (outcome-seven ask e)
 
-  pub entry-at : Filled o → (p : Piece) → PieceOf l p → E p ≡ cost (drawn l) (rule t w) p
-  unfolding entry reportedTable
+  pub entry-at : Filled o → (p : Piece) → PieceOf (drawn ask) p → E p ≡ cost (drawn ask) (ruleOf ask) p
+  unfolding entry
   entry-at f p v =
-      ap (λ m. getD m (entryOf (drawn l .columns) (drawn l .rows) p) 0) (filled-table f)
-      ∙ written-at (costs (drawn l) (rule t w)) table (entryOf (drawn l .columns) (drawn l .rows) p)
-      (omega (arith, entry-below (drawn l .columns) (drawn l .rows) p v, costs-length (drawn l) (rule t w)))
-      ∙ costs-at (drawn l) (rule t w) p v
+      ap (λ m. getD m (entryOf (drawn ask .columns) (drawn ask .rows) p) 0) (filled-table f)
+      ∙ written-at (costs (drawn ask) (ruleOf ask)) (ask .table) (entryOf (drawn ask .columns) (drawn ask .rows) p)
+      (omega (arith, entry-below (drawn ask .columns) (drawn ask .rows) p v, costs-length (drawn ask) (ruleOf ask)))
+      ∙ costs-at (drawn ask) (ruleOf ask) p v
 
-  pub front-table : Filled o → take (length (reportedTable l t w)) (o .table) ≡ reportedTable l t w
-  front-table f = ap (take (length (reportedTable l t w))) (filled-table f) ∙ written-front (reportedTable l t w) table
+  pub front-table : Filled o → take (length (costs (drawn ask) (ruleOf ask))) (o .table) ≡ costs (drawn ask) (ruleOf ask)
+  front-table f = ap (take (length (costs (drawn ask) (ruleOf ask)))) (filled-table f) ∙ written-front (costs (drawn ask) (ruleOf ask)) (ask .table)
 
-  pub table-room : Filled o → length (reportedTable l t w) ≤ length table
-  unfolding reportedTable test number
-  table-room f = omega (arith, costs-length (drawn l) (rule t w), ltb-false (length table) (entryCount (drawn l .columns) (drawn l .rows)) (passed f tableShort (omega arith)))
+  pub table-room : Filled o → length (costs (drawn ask) (ruleOf ask)) ≤ length (ask .table)
+  unfolding test
+  table-room f = omega (arith, costs-length (drawn ask) (ruleOf ask), ltb-false (length (ask .table)) (entryCount (drawn ask .columns) (drawn ask .rows)) (passed f because.Table (omega arith)))
 
   -- The shots
 
   -- a measure of shots at unit squares that agrees with one of pieces, over the shots of a piece
   pub measured : (f : Shot → ℕ) (h : Piece → ℕ)
-      → ((p : Piece) → PieceOf l p → f (rectangle (drawn l) p) ≡ h p)
-      → (p : Piece) → p .c ≤ drawn l .columns → p .d ≤ drawn l .rows
-      → sumOf f (map (rectangle (drawn l)) (shots (drawn l) (rule t w) p)) ≡ sumOf h (shots (drawn l) (rule t w) p)
+      → ((p : Piece) → PieceOf (drawn ask) p → f (rectangle (drawn ask) p) ≡ h p)
+      → (p : Piece) → p .c ≤ drawn ask .columns → p .d ≤ drawn ask .rows
+      → sumOf f (map (rectangle (drawn ask)) (shots (drawn ask) (ruleOf ask) p)) ≡ sumOf h (shots (drawn ask) (ruleOf ask) p)
   measured f h same p hc hd =
-      sumOf-map f (rectangle (drawn l)) (shots (drawn l) (rule t w) p)
-      ∙ sumOf-same _ h (shots (drawn l) (rule t w) p)
+      sumOf-map f (rectangle (drawn ask)) (shots (drawn ask) (ruleOf ask) p)
+      ∙ sumOf-same _ h (shots (drawn ask) (ruleOf ask) p)
       (All-imp
       (λ s q. same s (record { ac = q .ac; cx = omega (arith, q .c); bd = q .bd; dy = omega (arith, q .d) }))
-      (shots (drawn l) (rule t w) p)
-      (shots-part (drawn l) (rule t w) p))
+      (shots (drawn ask) (ruleOf ask) p)
+      (shots-part (drawn ask) (ruleOf ask) p))
 
-  pub sliver-at : Words l → Filled o → (p : Piece) → PieceOf l p
-      → sliverOf F t (rectangle (drawn l) p) ≡ sliver (drawn l) (rule t w) p
+  pub sliver-at : Words (ask .figure) → Filled o → (p : Piece) → PieceOf (drawn ask) p
+      → shotSliver F (ruleOf ask) (rectangle (drawn ask) p) ≡ sliver (drawn ask) (ruleOf ask) p
   sliver-at words f p v =
       let ac = v .ac in
       let bd = v .bd in
-      sliver-squares (drawn l) F (sound words f) (shown f) t w p (omega arith) (v .cx) (omega arith) (v .dy)
+      sliver-squares (drawn ask) F (sound words f) (shown f) (ruleOf ask) p (omega arith) (v .cx) (omega arith) (v .dy)
 
-  pub charge-at : Words l → Filled o → (p : Piece) → PieceOf l p
-      → chargeOf F t w (rectangle (drawn l) p) ≡ charge (drawn l) (rule t w) p
+  pub charge-at : Words (ask .figure) → Filled o → (p : Piece) → PieceOf (drawn ask) p
+      → shotCharge F (ruleOf ask) (rectangle (drawn ask) p) ≡ charge (drawn ask) (ruleOf ask) p
   charge-at words f p v =
       let ac = v .ac in
       let bd = v .bd in
-      charge-squares (drawn l) F (sound words f) (shown f) t w p (omega arith) (v .cx) (omega arith) (v .dy)
+      charge-squares (drawn ask) F (sound words f) (shown f) (ruleOf ask) p (omega arith) (v .cx) (omega arith) (v .dy)
 
   -- The recurrence
 
   -- the table's own sums are those of the costs
-  parts-cost : Filled o → (p : Piece) → PieceOf l p
-      → All (λ k. partsCost E p k ≡ sumOf (cost (drawn l) (rule t w)) (parts p k)) (cuts p)
+  parts-cost : Filled o → (p : Piece) → PieceOf (drawn ask) p
+      → All (λ k. partsCost E p k ≡ sumOf (cost (drawn ask) (ruleOf ask)) (parts p k)) (cuts p)
   unfolding partsCost parts sumOf
   parts-cost f p v =
       cuts-all _ p
@@ -148,49 +161,49 @@ module _ (l : List ℕ) (t w : ℕ) (table list : List ℕ) where
       ap₂ (λ m n. m + (n + 0)) (entry-at f (lowerPart p j) (record { ac = v .ac; cx = v .cx; bd = h; dy = omega (arith, v .dy) }))
       (entry-at f (upperPart p j) (record { ac = v .ac; cx = v .cx; bd = k; dy = v .dy })))
 
-  pub recurrent : Filled o → (p : Piece) → PieceOf l p → Recurrence (drawn l) (rule t w) E p
+  pub recurrent : Filled o → (p : Piece) → PieceOf (drawn ask) p → Recurrence (drawn ask) (ruleOf ask) E p
   recurrent f p v =
       record {
-        outside = λ e. (entry-at f p v ∙ cost-outside (drawn l) (rule t w) p e, shots-outside (drawn l) (rule t w) p e);
-        full = λ e. (entry-at f p v ∙ cost-full (drawn l) (rule t w) p e, shots-full (drawn l) (rule t w) p e);
-        mixed = λ e. go e (cuts p) refl (ends (drawn l) (rule t w) .some p e);
+        outside = λ e. (entry-at f p v ∙ cost-outside (drawn ask) (ruleOf ask) p e, shots-outside (drawn ask) (ruleOf ask) p e);
+        full = λ e. (entry-at f p v ∙ cost-full (drawn ask) (ruleOf ask) p e, shots-full (drawn ask) (ruleOf ask) p e);
+        mixed = λ e. go e (cuts p) refl (ends (drawn ask) (ruleOf ask) .some p e);
       }
     where
       value : Cut → ℕ
-      value k = sumOf (cost (drawn l) (rule t w)) (parts p k)
+      value k = sumOf (cost (drawn ask) (ruleOf ask)) (parts p k)
 
-      go : kind (drawn l) p ≡ mixed → (m : List Cut) → cuts p ≡ m → Some m
+      go : kind (drawn ask) p ≡ mixed → (m : List Cut) → cuts p ≡ m → Some m
           → (k : Cut) × (ks : List Cut) × (cuts p ≡ k ∷ ks)
           × (E p ≡ partsCost E p (least (partsCost E p) k ks))
-          × (shots (drawn l) (rule t w) p ≡ join (shots (drawn l) (rule t w)) (parts p (least (partsCost E p) k ks)))
+          × (shots (drawn ask) (ruleOf ask) p ≡ join (shots (drawn ask) (ruleOf ask)) (parts p (least (partsCost E p) k ks)))
       go e [] q s = absurd s
-      go e (k ∷ ks) q s = (k, ks, q, costs-so, shots-choice (drawn l) (rule t w) p e ∙ ap (λ c. join (shots (drawn l) (rule t w)) (parts p c)) chosen)
+      go e (k ∷ ks) q s = (k, ks, q, costs-so, shots-choice (drawn ask) (ruleOf ask) p e ∙ ap (λ c. join (shots (drawn ask) (ruleOf ask)) (parts p c)) chosen)
         where
           same : All (λ k. partsCost E p k ≡ value k) (k ∷ ks)
           same = subst (All (λ k. partsCost E p k ≡ value k)) q (parts-cost f p v)
 
-          chosen : choice (drawn l) (rule t w) p ≡ least (partsCost E p) k ks
-          chosen = choice-least (drawn l) (rule t w) p e k ks q ∙ sym (least-same (partsCost E p) value k ks (same .0) (same .1))
+          chosen : choice (drawn ask) (ruleOf ask) p ≡ least (partsCost E p) k ks
+          chosen = choice-least (drawn ask) (ruleOf ask) p e k ks q ∙ sym (least-same (partsCost E p) value k ks (same .0) (same .1))
 
           costs-so : E p ≡ partsCost E p (least (partsCost E p) k ks)
           costs-so =
               entry-at f p v
-              ∙ choice-cost (drawn l) (rule t w) p e
+              ∙ choice-cost (drawn ask) (ruleOf ask) p e
               ∙ ap value chosen
               ∙ sym (least-one (partsCost E p) (λ c. partsCost E p c ≡ value c) k ks (same .0) (same .1))
 
   -- Lines and frame
 
   abbrev OnX : ℕ → Type 0
-  OnX = On X (corners l)
+  OnX = On X (cornersOf (ask .figure))
 
   abbrev OnY : ℕ → Type 0
-  OnY = On Y (corners l)
+  OnY = On Y (cornersOf (ask .figure))
 
-  pub lined : Words l → Filled o → ways.Lined (drawn l) OnX OnY
+  pub lined : Words (ask .figure) → Filled o → ways.Lined (drawn ask) OnX OnY
   unfolding drawn
-  lined words f = let s = sound words f in outline-lined (corners l) (s .columns-some) (s .rows-some)
+  lined words f = let s = sound words f in figure-lined (ask .figure) (s .columns-some) (s .rows-some)
 
-  pub framed : Words l → Filled o → rectangle (drawn l) (frame (drawn l)) ≡ frameOf (corners l)
+  pub framed : Words (ask .figure) → Filled o → rectangle (drawn ask) (frame (drawn ask)) ≡ frameOf (cornersOf (ask .figure))
   unfolding drawn
-  framed words f = let s = sound words f in outline-frame (corners l) (s .columns-some) (s .rows-some)
+  framed words f = let s = sound words f in figure-frame (ask .figure) (s .columns-some) (s .rows-some)

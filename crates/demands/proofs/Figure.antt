@@ -1,54 +1,38 @@
--- The grid of an outline and the figure of its corners: what the outline's laws say of unit squares. Assumes nothing.
+-- The grid of a figure and the figure at the nanometre: what the laws of lines and cells say of unit squares. Assumes nothing.
 --
 --   words-corners        == the coordinates of corners are numbers of the list
---   outline-sound        == the grid of a list of 16-bit numbers that passes 2, 3 and 4 is sound
---   outline-shows        == it shows the figure: the odd count at a unit square is that of the cell that holds it
---   outline-lined        == its lines are the coordinates of the corners
---   outline-frame        == its frame is the corners' frame
-use Prim.Native.Nat.{ℕ, zero, suc, _-_, _≤_, _<_, min, max}
-use mathlib.Core.Path.{_≡_, refl, sym, subst}
-use mathlib.Core.Bool.{Bool, true, false, _||_, true≢false}
+--   figure-sound         == the grid of a figure of 16-bit numbers that passes 2, 3 and 4 is sound
+--   figure-shows         == it shows the figure: the odd count at a unit square is that of the cell that holds it
+--   figure-lined         == its lines are the coordinates of the corners
+--   figure-frame         == its frame is the corners' frame
+use Prim.Native.Nat.{ℕ, zero, suc, _-_, _≤_, _<_, max}
+use mathlib.Core.Path.{_≡_, sym, subst}
+use mathlib.Core.Bool.{false}
 use mathlib.Core.List.{List, [], _∷_, map, List·Memᴰ as Member, List·Memᴰ·head, List·Memᴰ·tail, List·Memᴰ·not-nil}
-use mathlib.Core.Logic.{inl, inr}
 use native.Mathlib.Omega.{arith}
-use lib.Dec.{ltb}
 use lib.ListN.{length}
-use borrow.Author.Tests.{ltb-false}
 use Rattle.sum.specs.Sum.{All}
-use Rattle.sum.proofs.Sum.{le-or}
 use Rattle.sum.proofs.Lists.{All-imp, All-at}
-use Rattle.outline.specs.declared.Axis.{Axis}
-use Rattle.outline.specs.declared.Axis.the-variants.{X, Y}
-use Rattle.outline.specs.Corners.{Corner, corners, coordinate, odd, badLength, slanted, straight}
+use Rattle.figure.specs.declared.Axis.{Axis}
+use Rattle.figure.specs.declared.Axis.the-variants.{X, Y}
+use Rattle.figure.specs.Corners.{Corner, corners, coordinate, slanted}
+use Rattle.figure.specs.Figure.{Figure, cornersOf}
+use Rattle.figure.specs.Inside.{insideAt}
+use Rattle.figure.specs.Steps.{Right}
+use Rattle.figure.proofs.Corners.{length-corners}
+use Rattle.figure.proofs.Turns.{All-both}
+use Rattle.figure.proofs.Inside.{min-max}
+use Rattle.figure.proofs.Fault.{length-good}
 use Rattle.outline.specs.Lines.{rising, lines, place}
 use Rattle.outline.specs.Grid.{Sound}
-use Rattle.outline.specs.Inside.{gridOf, grid, insideAt}
-use Rattle.outline.proofs.Corners.{length-corners}
+use Rattle.outline.specs.Inside.{gridOf, grid}
 use Rattle.outline.proofs.Lines.{lowest, highest, rising-back, rising-lines, rising-values}
-use Rattle.outline.proofs.Turns.{All-both}
 use Rattle.outline.proofs.Inside.{lines-up, inside-cell, inside-left, inside-right, inside-below, inside-above, grid-sound}
-use Rattle.piece.specs.Piece.{frame}
+use Rattle.piece.specs.Piece.{frame, rectangle}
 use Rattle.demands.specs.Ways.{On, leastOf, mostOf, frameOf}
-use Rattle.demands.proofs.Square.{Shows, rectangle}
+use Rattle.demands.specs.Demands.{Words}
+use Rattle.demands.proofs.Square.{Shows}
 use Rattle.demands.proofs.Ways.{Lined}
-
-min-max : (Q : ℕ → Type 0) (a b : ℕ) → Q a → Q b → Q (min a b) × Q (max a b)
-min-max Q a b h k = elim (le-or a b) [
-  | inl q ↦ (subst Q (low a b q) h, subst Q (high a b q) k)
-  | inr q ↦ (subst Q (low′ a b q) k, subst Q (high′ a b q) h)
-]
-  where
-    low : (a b : ℕ) → a ≤ b → a ≡ min a b
-    low a b q = omega arith
-
-    high : (a b : ℕ) → a ≤ b → b ≡ max a b
-    high a b q = omega arith
-
-    low′ : (a b : ℕ) → b < a → b ≡ min a b
-    low′ a b q = omega arith
-
-    high′ : (a b : ℕ) → b < a → a ≡ max a b
-    high′ a b q = omega arith
 
 Kept : ℕ → ℕ → ℕ → Type 0
 Kept lo hi v = (lo ≤ v) × (v ≤ hi)
@@ -137,24 +121,27 @@ module _ (a : Axis) (cs : List Corner) (some : 1 ≤ length (lines a cs) - 1) wh
         All-at (λ v. v ≤ mostOf (map (coordinate a) cs)) (line-on (length (lines a cs) - 1) (omega arith)) (most-bound (map (coordinate a) cs)),
       )
 
-module _ (cs : List Corner) (columns : 1 ≤ grid cs .columns) (rows : 1 ≤ grid cs .rows) where
-  pub outline-lined : Lined (grid cs) (On X cs) (On Y cs)
+module _ (f : Figure) (columns : 1 ≤ grid f .columns) (rows : 1 ≤ grid f .rows) where
+  abbrev cs : List Corner
+  cs = cornersOf f
+
+  pub figure-lined : Lined (grid f) (On X cs) (On Y cs)
   unfolding grid gridOf
-  outline-lined = record { x-line = on-line X cs columns; y-line = on-line Y cs rows; x-on = line-on X cs columns; y-on = line-on Y cs rows }
+  figure-lined = record { x-line = on-line X cs columns; y-line = on-line Y cs rows; x-on = line-on X cs columns; y-on = line-on Y cs rows }
 
-  pub outline-frame : rectangle (grid cs) (frame (grid cs)) ≡ frameOf cs
+  pub figure-frame : rectangle (grid f) (frame (grid f)) ≡ frameOf cs
   unfolding grid gridOf frame frameOf
-  outline-frame = let a = first-line X cs columns in let b = last-line X cs columns in let c = first-line Y cs rows in let d = last-line Y cs rows in cc
+  figure-frame = let a = first-line X cs columns in let b = last-line X cs columns in let c = first-line Y cs rows in let d = last-line Y cs rows in cc
 
--- The outline's laws, in one place
+-- The laws of lines and cells, in one place
 
-pub outline-shows : (cs : List Corner) → slanted cs ≡ false → Shows (grid cs) (insideAt cs)
-outline-shows cs h = record {
-  cell = λ i j x y. inside-cell cs x y i j;
-  left-none = inside-left cs;
-  right-none = λ x y. inside-right cs x y h;
-  below-none = inside-below cs;
-  above-none = inside-above cs;
+pub figure-shows : (f : Figure) → slanted (cornersOf f) ≡ false → Shows (grid f) (insideAt f)
+figure-shows f h = record {
+  cell = λ i j x y. inside-cell f x y i j;
+  left-none = inside-left f;
+  right-none = λ x y. inside-right f x y h;
+  below-none = inside-below f;
+  above-none = inside-above f;
 }
 
 -- a list's numbers, two by two
@@ -165,18 +152,8 @@ words-corners Q (u ∷ []) h a = tt
 words-corners Q (u ∷ v ∷ l) h X = (h .0, words-corners Q l (h .1 .1) X)
 words-corners Q (u ∷ v ∷ l) h Y = (h .1 .0, words-corners Q l (h .1 .1) Y)
 
-lengths : (l : List ℕ) → badLength l ≡ false → (8 ≤ length l) × (length l ≤ 64)
-unfolding badLength
-lengths l = go (odd (length l)) (ltb (length l) 8) refl (ltb 64 (length l)) refl
-  where
-    go : (a b : Bool) → ltb (length l) 8 ≡ b → (c : Bool) → ltb 64 (length l) ≡ c → (a || (b || c)) ≡ false → (8 ≤ length l) × (length l ≤ 64)
-    go false false e false f h = (ltb-false _ _ e, ltb-false _ _ f)
-    go false false e true f h = absurd (true≢false h)
-    go false true e c f h = absurd (true≢false h)
-    go true b e c f h = absurd (true≢false h)
-
-pub outline-sound : (l : List ℕ) → All (λ v. v ≤ 65535) l → badLength l ≡ false → slanted (corners l) ≡ false → straight (corners l) ≡ false
-    → Sound (grid (corners l))
-outline-sound l words h s t =
-    let n = lengths l h in
-    grid-sound (corners l) s t (omega (arith, length-corners l)) (omega (arith, length-corners l)) (words-corners (λ v. v ≤ 65535) l words)
+pub figure-sound : (f : Figure) → Words f → Right f → Sound (grid f)
+figure-sound f words right =
+    let n = length-good f (right .figure-good) in
+    let m = length-corners (f .numbers) in
+    grid-sound f right (omega arith) (omega arith) (words-corners (λ v. v ≤ 65535) (f .numbers) words)

@@ -6,5 +6,4 @@ pub mod Figure
 pub mod Accepted
 pub mod Demands
 pub mod Room
-pub mod Promise
 pub mod Rows

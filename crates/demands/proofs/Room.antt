@@ -6,7 +6,6 @@
 use Prim.Native.Nat.{ℕ, zero, suc, _*_, _≤_, _<_}
 use mathlib.Core.Path.{_≡_, sym, _∙_, ap}
 use mathlib.Core.Logic.{_⊎_, inl, inr}
-use mathlib.Core.List.{List}
 use native.Mathlib.Omega.{arith}
 use native.Mathlib.Nat.{le-trans, mul-le-mul}
 use lib.ListN.{length}
@@ -15,55 +14,56 @@ use Rattle.outline.specs.Grid.{Sound}
 use Rattle.piece.specs.Piece.{frame}
 use Rattle.piece.proofs.Choice.{numbers-length}
 use Rattle.piece.proofs.Bound.{count-most}
-use Rattle.table.specs.Entry.{pairsBelow, pairCount, entryCount}
+use Rattle.refusal.specs.declared.Refusal.{Refusal}
+use Rattle.refusal.specs.declared.Refusal.the-variants as because
+use Rattle.refusal.specs.Refusals.{refusalNo}
+use Rattle.refusal.proofs.Refusals.{refusal-some}
+use Rattle.table.specs.Entry.{pairsBelow, pairCount, entryCount, costs}
 use Rattle.table.proofs.Entry.{below-zero, below-suc, below-up}
-use Rattle.demands.specs.Promise.{rule, drawn, reportedShots, reportedList, reportedTable, Reason, lengthBad, slantedEdge, straightOn, tableShort, listShort, number, Outcome, test, numberOf, accepted, short, refused, outcome}
+use Rattle.demands.specs.Promise.{Asked, drawn, ruleOf, frameShots, frameNumbers, Outcome, refused, outcome}
 use Rattle.demands.specs.Refusals.{Condition, First}
 use Rattle.demands.specs.Demands.{Words, Filled}
-use Rattle.demands.proofs.Outcome.{written-length, outcome-number, outcome-zero, outcome-seven, outcome-other}
-use Rattle.demands.proofs.Refusals.{number-some, number-most, number-first, number-none, number-known, test-false}
-use Rattle.demands.proofs.Figure.{outline-sound}
+use Rattle.demands.proofs.Outcome.{accepted, short, written-length, outcome-zero, outcome-seven, outcome-other}
+use Rattle.demands.proofs.Refusals.{test, numberOf, outcome-number, number-first, number-none, number-known, test-false}
+use Rattle.demands.proofs.Figure.{figure-sound}
 use Rattle.demands.proofs.Accepted.{filled-table, table-room}
 
-module _ (l : List ℕ) (t w : ℕ) (table list : List ℕ) where
+module _ (ask : Asked) where
   abbrev o : Outcome
-  o = outcome l t w table list
+  o = outcome ask
 
-  list-room : o .number ≡ 0 → length (reportedList l t w) ≤ length list
-  unfolding reportedList Condition
-  list-room e = elim (le-or (4 * length (reportedShots l t w)) (length list)) [
-    | inl h ↦ omega (arith, numbers-length (drawn l) (reportedShots l t w))
-    | inr h ↦ absurd (number-none l t w table list (sym (outcome-number l t w table list) ∙ e) listShort h)
+  list-room : o .number ≡ 0 → length (frameNumbers (drawn ask) (ruleOf ask)) ≤ length (ask .list)
+  unfolding frameNumbers Condition
+  list-room e = elim (le-or (4 * length (frameShots (drawn ask) (ruleOf ask))) (length (ask .list))) [
+    | inl h ↦ omega (arith, numbers-length (drawn ask) (frameShots (drawn ask) (ruleOf ask)))
+    | inr h ↦ absurd (number-none ask (sym (outcome-number ask) ∙ e) because.List h)
   ]
 
   -- a table that was filled keeps its length
-  table-length : Filled o → length (o .table) ≡ length table
-  table-length f = ap length (filled-table l t w table list f) ∙ written-length (reportedTable l t w) table (table-room l t w table list f)
+  table-length : Filled o → length (o .table) ≡ length (ask .table)
+  table-length f = ap length (filled-table ask f) ∙ written-length (costs (drawn ask) (ruleOf ask)) (ask .table) (table-room ask f)
 
-  pub lengths-kept : (length (o .table) ≡ length table) × (length (o .list) ≡ length list)
+  pub lengths-kept : (length (o .table) ≡ length (ask .table)) × (length (o .list) ≡ length (ask .list))
   unfolding accepted short refused
-  lengths-kept = go (number-known l t w table list)
+  lengths-kept = go (number-known ask)
     where
-      known : (n : ℕ) → numberOf l t w table list ≡ n → o .number ≡ n
-      known n e = outcome-number l t w table list ∙ e
+      known : (n : ℕ) → numberOf ask ≡ n → o .number ≡ n
+      known n e = outcome-number ask ∙ e
 
-      go : (numberOf l t w table list ≡ 0) ⊎ ((c : Reason) × (numberOf l t w table list ≡ number c))
-          → (length (o .table) ≡ length table) × (length (o .list) ≡ length list)
+      go : (numberOf ask ≡ 0) ⊎ ((c : Refusal) × (refusalNo c ≤ 7) × (numberOf ask ≡ refusalNo c))
+          → (length (o .table) ≡ length (ask .table)) × (length (o .list) ≡ length (ask .list))
       go (inl e) = (
         table-length (inl (known 0 e)),
-        ap (λ o. length (o .list)) (outcome-zero l t w table list (known 0 e)) ∙ written-length (reportedList l t w) list (list-room (known 0 e)),
+        ap (λ o. length (o .list)) (outcome-zero ask (known 0 e)) ∙ written-length (frameNumbers (drawn ask) (ruleOf ask)) (ask .list) (list-room (known 0 e)),
       )
-      go (inr c) = elim (le-or 7 (number (c .0))) [
+      go (inr c) = elim (le-or 7 (refusalNo (c .0))) [
         | inl h ↦
-            (let e : o .number ≡ 7 = known 7 (c .1 ∙ seven (c .0) h) in
-            (table-length (inr e), ap (λ o. length (o .list)) (outcome-seven l t w table list e)))
+            (let e : o .number ≡ 7 = known 7 (omega (arith, c .1, c .2)) in
+            (table-length (inr e), ap (λ o. length (o .list)) (outcome-seven ask e)))
         | inr h ↦
-            (let q = outcome-other l t w table list (number (c .0)) (number-some (c .0)) h (known (number (c .0)) (c .1)) in
+            (let q = outcome-other ask (refusalNo (c .0)) (refusal-some (c .0)) h (known (refusalNo (c .0)) (c .2)) in
             (ap (λ o. length (o .table)) q, ap (λ o. length (o .list)) q))
       ]
-        where
-          seven : (c : Reason) → 7 ≤ number c → number c ≡ 7
-          seven c h = omega (arith, number-most c)
 
 -- Room that always suffices
 
@@ -79,29 +79,31 @@ pub entries-most : (m n : ℕ) → m ≤ 15 → n ≤ 15 → entryCount m n ≤ 
 unfolding entryCount
 entries-most m n h k = mul-le-mul (pairs-most m h) (pairs-most n k)
 
-module _ (l : List ℕ) (t w : ℕ) (table list : List ℕ) (words : Words l) (entries : 14400 ≤ length table) (room : 900 ≤ length list) where
+module _ (ask : Asked) (words : Words (ask .figure)) (entries : 14400 ≤ length (ask .table)) (room : 900 ≤ length (ask .list)) where
   -- a refusal that comes after 4 is of a sound grid
-  late : (c : Reason) → 4 < number c → First l t w table list c → Sound (drawn l)
-  unfolding drawn test number
+  late : (c : Refusal) → 4 < refusalNo c → First ask c → Sound (drawn ask)
+  unfolding drawn test
   late c h f =
-      outline-sound l words
-      (test-false l t w table list lengthBad (f .before lengthBad (omega arith)))
-      (test-false l t w table list slantedEdge (f .before slantedEdge (omega arith)))
-      (test-false l t w table list straightOn (f .before straightOn (omega arith)))
+      figure-sound (ask .figure) words
+      (record {
+        figure-good = test-false ask because.Length (f .before because.Length (omega arith));
+        slanted-none = test-false ask because.Slanted (f .before because.Slanted (omega arith));
+        unturned-none = test-false ask because.Unturned (f .before because.Unturned (omega arith));
+      })
 
-  pub ample : (outcome l t w table list .number ≡ 6 → ⊥) × (outcome l t w table list .number ≡ 7 → ⊥)
-  unfolding Condition number reportedShots frame
+  pub ample : (outcome ask .number ≡ 6 → ⊥) × (outcome ask .number ≡ 7 → ⊥)
+  unfolding Condition frameShots frame
   ample = (
     λ e.
-        let f = number-first l t w table list tableShort (sym (outcome-number l t w table list) ∙ e) in
-        let s = late tableShort (omega arith) f in
-        omega (arith, f .holds, entries-most (drawn l .columns) (drawn l .rows) (s .columns-most) (s .rows-most)),
+        let f = number-first ask because.Table (sym (outcome-number ask) ∙ e) in
+        let s = late because.Table (omega arith) f in
+        omega (arith, f .holds, entries-most (drawn ask .columns) (drawn ask .rows) (s .columns-most) (s .rows-most)),
     λ e.
-        let f = number-first l t w table list listShort (sym (outcome-number l t w table list) ∙ e) in
-        let s = late listShort (omega arith) f in
+        let f = number-first ask because.List (sym (outcome-number ask) ∙ e) in
+        let s = late because.List (omega arith) f in
         omega (
           arith,
           f .holds,
-          count-most (drawn l) (rule t w) s (frame (drawn l)) (omega arith) (omega arith) (omega arith) (omega arith),
+          count-most (drawn ask) (ruleOf ask) s (frame (drawn ask)) (omega arith) (omega arith) (omega arith) (omega arith),
         ),
   )

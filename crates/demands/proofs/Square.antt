@@ -2,8 +2,6 @@
 --
 --   Shows g F            == the grid g shows the figure F: the cell that holds a unit square says whether it is inside, and beyond the
 --                           frame nothing is
---   rectangle g p        == the four numbers of a piece
---   numbers-shots        == the shots that the numbers of a list of pieces say are their rectangles
 --   sliver-squares, charge-squares   == sliver length and charge of a piece, worked out anew at unit squares
 --   square-cell          == a unit square that a piece holds lies in one of its cells
 --   cover-squares        == each unit square is in one shot if it is inside, else in none
@@ -20,13 +18,14 @@ use Rattle.sum.proofs.Sum as sum
 use Rattle.sum.proofs.Lists.{sumOf-same, sumOf-map, All-imp}
 use Rattle.rule.specs.declared.Rule.{Rule}
 use Rattle.outline.specs.Grid.{Grid, Sound}
-use Rattle.piece.specs.Piece.{Piece, before, lowSide, highSide, width, height, left, right, bottom, top, cellSum, frame, sliver, charge}
-use Rattle.piece.specs.Straight.{numbers, shots}
+use Rattle.piece.specs.Piece.{Piece, rectangle, before, lowSide, highSide, width, height, left, right, bottom, top, cellSum, frame, sliver, charge}
+use Rattle.piece.specs.Straight.{shots}
 use Rattle.piece.proofs.Cells.{Within, sum-same}
 use Rattle.piece.proofs.Turn.{turned, turn, sound-turn}
 use Rattle.piece.proofs.Straight.{cover, shots-part}
-use Rattle.demands.specs.Promise.{rule}
-use Rattle.demands.specs.Square.{Shot, shotsIn, holds, prior, exposed, leftOf, rightOf, bottomOf, topOf, sliverOf, chargeOf}
+use Rattle.rule.specs.Charge.{sliverOf, chargeOf}
+use Rattle.shot.specs.Shot.{holds}
+use Rattle.demands.specs.Square.{prior, exposed, leftOf, rightOf, bottomOf, topOf, shotSliver, shotCharge}
 
 pub record Shows (g : Grid) (F : ℕ → ℕ → Bool) : Type 0 where
   pub cell : (i j x y : ℕ) → i < g .columns → j < g .rows → g .x i ≤ x → x < g .x (suc i) → g .y j ≤ y → y < g .y (suc j) → F x y ≡ g .inside i j
@@ -44,14 +43,6 @@ shows-turn g F s = record {
   below-none = λ x y. s .left-none y x;
   above-none = λ x y. s .right-none y x;
 }
-
-abbrev pub rectangle : Grid → Piece → Shot
-rectangle g p = record { xlow = g .x (p .a); ylow = g .y (p .b); xhigh = g .x (p .c); yhigh = g .y (p .d) }
-
-pub numbers-shots : (g : Grid) (l : List Piece) → shotsIn (numbers g l) ≡ map (rectangle g) l
-unfolding numbers join shotsIn
-numbers-shots g [] = refl
-numbers-shots g (s ∷ l) = ap (λ m. rectangle g s ∷ m) (numbers-shots g l)
 
 -- stretches of 1 nm, line by line: what is the same between neighbouring lines is counted by their distance
 stretches : (f : ℕ → ℕ) → ((i : ℕ) → f i ≤ f (suc i)) → (h k : ℕ → Bool) (a c : ℕ) → a ≤ c
@@ -112,15 +103,14 @@ module _ (g : Grid) (F : ℕ → ℕ → Bool) (sound : Sound g) (shows : Shows 
       stretches (g .y) (sound .y-up) _ _ (p .b) (p .d) h
       (λ j y q r c d. ap₂ (λ u v. u && not v) (left-of (p .c) j y hc (omega arith) c d) (right-of (p .c) j y hc (omega arith) c d))
 
-module _ (g : Grid) (F : ℕ → ℕ → Bool) (sound : Sound g) (shows : Shows g F) (t w : ℕ) where
+module _ (g : Grid) (F : ℕ → ℕ → Bool) (sound : Sound g) (shows : Shows g F) (r : Rule) where
   pub sliver-squares : (p : Piece) → p .a ≤ p .c → p .c ≤ g .columns → p .b ≤ p .d → p .d ≤ g .rows
-      → sliverOf F t (rectangle g p) ≡ sliver g (rule t w) p
-  unfolding sliverOf sliver width height
+      → shotSliver F r (rectangle g p) ≡ sliver g r p
+  unfolding shotSliver sliver width height
   sliver-squares p ac hc bd hd =
-      ap₂ _+_
-      (ap (only (ltb (width g (p .a) (p .c)) t))
-      (ap₂ _+_ (left-squares g F sound shows p (omega arith) bd hd) (right-squares g F sound shows p hc bd hd)))
-      (ap (only (ltb (height g (p .b) (p .d)) t)) (ap₂ _+_ low high))
+      ap₂ (sliverOf r (g .x (p .c) - g .x (p .a)) (g .y (p .d) - g .y (p .b)))
+      (ap₂ _+_ (left-squares g F sound shows p (omega arith) bd hd) (right-squares g F sound shows p hc bd hd))
+      (ap₂ _+_ low high)
     where
       low : bottomOf F (rectangle g p) ≡ bottom g p
       low =
@@ -133,9 +123,9 @@ module _ (g : Grid) (F : ℕ → ℕ → Bool) (sound : Sound g) (shows : Shows 
           right-squares (turned g) (λ x y. F y x) (sound-turn g sound) (shows-turn g F shows) (turn p) hd ac hc
 
   pub charge-squares : (p : Piece) → p .a ≤ p .c → p .c ≤ g .columns → p .b ≤ p .d → p .d ≤ g .rows
-      → chargeOf F t w (rectangle g p) ≡ charge g (rule t w) p
-  unfolding chargeOf charge
-  charge-squares p ac hc bd hd = ap (λ n. 1000 + w * n) (sliver-squares p ac hc bd hd)
+      → shotCharge F r (rectangle g p) ≡ charge g r p
+  unfolding shotCharge charge
+  charge-squares p ac hc bd hd = ap (chargeOf r) (sliver-squares p ac hc bd hd)
 
 -- Cover
 

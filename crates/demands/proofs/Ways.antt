@@ -20,17 +20,18 @@ use Rattle.sum.proofs.Sum.{le-or, rise}
 use Rattle.sum.proofs.Lists.{sumOf-append, All-at}
 use Rattle.recurrence.proofs.Scheme as scheme
 use Rattle.outline.specs.Grid.{Grid, Sound}
-use Rattle.piece.specs.Piece.{Piece, leftPart, rightPart, lowerPart, upperPart, cells}
+use Rattle.piece.specs.Piece.{Piece, rectangle, leftPart, rightPart, lowerPart, upperPart, cells}
 use Rattle.piece.specs.Straight.{Cut, vertical, horizontal, parts, straight, shots, cost}
 use Rattle.piece.proofs.Cells.{Within}
 use Rattle.piece.proofs.Kind.{outside-cell, full-cell, kind-none, kind-all}
 use Rattle.piece.proofs.Straight.{ends, cuts-all, cuts-at, fair, cost-outside, cost-full, across-vertical, across-horizontal}
 use Rattle.piece.proofs.Choice.{InPiece}
 use Rattle.table.specs.Entry.{Valid}
-use Rattle.demands.specs.Promise.{rule}
-use Rattle.demands.specs.Square.{Shot, holds, chargeOf}
-use Rattle.demands.specs.Ways.{westOf, eastOf, southOf, northOf, Way, leave, shoot, upright, level, shotsBy}
-use Rattle.demands.proofs.Square.{Shows, rectangle, charge-squares}
+use Rattle.rule.specs.declared.Rule.{Rule}
+use Rattle.shot.specs.Shot.{Shot, holds}
+use Rattle.demands.specs.Square.{shotCharge}
+use Rattle.demands.specs.Ways.{westOf, eastOf, southOf, northOf, Way, leave, shoot, upright, level, shotsOf}
+use Rattle.demands.proofs.Square.{Shows, charge-squares}
 
 pub record Lined (g : Grid) (onX onY : ℕ → Type 0) : Type 0 where
   pub x-line : (v : ℕ) → onX v → (i : ℕ) × (i ≤ g .columns) × (g .x i ≡ v)
@@ -130,20 +131,20 @@ module _ (g : Grid) (F : ℕ → ℕ → Bool) (sound : Sound g) (shows : Shows 
   squares-nothing h i j hi hj =
       sym (shows .cell i j (g .x i) (g .y j) hi hj (omega arith) (sound .x-rises i hi) (omega arith) (sound .y-rises j hj)) ∙ h (g .x i) (g .y j)
 
-  module _ (onX onY : ℕ → Type 0) (lined : Lined g onX onY) (t w : ℕ) where
+  module _ (onX onY : ℕ → Type 0) (lined : Lined g onX onY) (r : Rule) where
     pub never-cheaper : {s : Shot} (way : Way F onX onY s) (p : Piece) → Valid (g .columns) (g .rows) p → rectangle g p ≡ s
-        → cost g (rule t w) p ≤ sumOf (chargeOf F t w) (shotsBy F onX onY way)
-    unfolding shotsBy sumOf
+        → cost g r p ≤ sumOf (shotCharge F r) (shotsOf F onX onY way)
+    unfolding shotsOf sumOf
     never-cheaper (leave h) p v e =
-        omega (arith, cost-outside g (rule t w) p (kind-none g p (cell-square p v false (λ x y k. h x y (ap (holds x y) (sym e) ∙ k)))))
+        omega (arith, cost-outside g r p (kind-none g p (cell-square p v false (λ x y k. h x y (ap (holds x y) (sym e) ∙ k)))))
     never-cheaper (shoot {s = s} h) p v e =
         let ac = v .ac in
         let bd = v .bd in
         omega (
           arith,
-          cost-full g (rule t w) p (kind-all g p ac bd (cell-square p v true (λ x y k. h x y (ap (holds x y) (sym e) ∙ k)))),
-          charge-squares g F sound shows t w p (omega arith) (v .cx) (omega arith) (v .dy),
-          ap (chargeOf F t w) e,
+          cost-full g r p (kind-all g p ac bd (cell-square p v true (λ x y k. h x y (ap (holds x y) (sym e) ∙ k)))),
+          charge-squares g F sound shows r p (omega arith) (v .cx) (omega arith) (v .dy),
+          ap (shotCharge F r) e,
         )
     never-cheaper (upright u o h k low high) p v e =
         let m = lined .x-line u o in
@@ -151,11 +152,11 @@ module _ (g : Grid) (F : ℕ → ℕ → Bool) (sound : Sound g) (shows : Shows 
         let ic : m .0 < p .c = between-lines (g .x) (sound .x-up) (m .0) (p .c) (omega (arith, m .2, ap (λ s. s .xhigh) e)) in
         omega (
           arith,
-          cuts-at _ p (fair g (rule t w) sound p) .0 (m .0) ai ic,
-          across-vertical g (rule t w) p (m .0),
+          cuts-at _ p (fair g r sound p) .0 (m .0) ai ic,
+          across-vertical g r p (m .0),
           never-cheaper low (leftPart p (m .0)) (record { ac = ai; cx = m .1; bd = v .bd; dy = v .dy }) (ap₂ westOf e (m .2)),
           never-cheaper high (rightPart p (m .0)) (record { ac = ic; cx = v .cx; bd = v .bd; dy = v .dy }) (ap₂ eastOf e (m .2)),
-          sumOf-append (chargeOf F t w) (shotsBy F onX onY low) (shotsBy F onX onY high),
+          sumOf-append (shotCharge F r) (shotsOf F onX onY low) (shotsOf F onX onY high),
         )
     never-cheaper (level u o h k low high) p v e =
         let m = lined .y-line u o in
@@ -163,20 +164,20 @@ module _ (g : Grid) (F : ℕ → ℕ → Bool) (sound : Sound g) (shows : Shows 
         let jd : m .0 < p .d = between-lines (g .y) (sound .y-up) (m .0) (p .d) (omega (arith, m .2, ap (λ s. s .yhigh) e)) in
         omega (
           arith,
-          cuts-at _ p (fair g (rule t w) sound p) .1 (m .0) bj jd,
-          across-horizontal g (rule t w) p (m .0),
+          cuts-at _ p (fair g r sound p) .1 (m .0) bj jd,
+          across-horizontal g r p (m .0),
           never-cheaper low (lowerPart p (m .0)) (record { ac = v .ac; cx = v .cx; bd = bj; dy = m .1 }) (ap₂ southOf e (m .2)),
           never-cheaper high (upperPart p (m .0)) (record { ac = v .ac; cx = v .cx; bd = jd; dy = v .dy }) (ap₂ northOf e (m .2)),
-          sumOf-append (chargeOf F t w) (shotsBy F onX onY low) (shotsBy F onX onY high),
+          sumOf-append (shotCharge F r) (shotsOf F onX onY low) (shotsOf F onX onY high),
         )
 
     -- a way to cut a piece's rectangle that has these shots
     Reached : Piece → List Piece → Type 0
-    Reached p l = Valid (g .columns) (g .rows) p → (way : Way F onX onY (rectangle g p)) × (shotsBy F onX onY way ≡ map (rectangle g) l)
+    Reached p l = Valid (g .columns) (g .rows) p → (way : Way F onX onY (rectangle g p)) × (shotsOf F onX onY way ≡ map (rectangle g) l)
 
-    reached-cut : (p : Piece) (k : Cut) → InPiece p k → All (λ q. Reached q (shots g (rule t w) q)) (parts p k)
-        → Reached p (join (shots g (rule t w)) (parts p k))
-    unfolding parts join Reached shotsBy
+    reached-cut : (p : Piece) (k : Cut) → InPiece p k → All (λ q. Reached q (shots g r q)) (parts p k)
+        → Reached p (join (shots g r) (parts p k))
+    unfolding parts join Reached shotsOf
     reached-cut p (vertical i) k h v =
         let i-most : i ≤ g .columns = omega (arith, v .cx, k .1) in
         let low = h .0 (record { ac = k .0; cx = i-most; bd = v .bd; dy = v .dy }) in
@@ -186,7 +187,7 @@ module _ (g : Grid) (F : ℕ → ℕ → Bool) (sound : Sound g) (shows : Shows 
               (omega (arith, rise (g .x) (sound .x-up) (suc i) (p .c) (k .1), sound .x-rises i (omega (arith, v .cx, k .1))))
               (low .0)
               (high .0),
-          ap₂ _++_ (low .1) (high .1) ∙ two (rectangle g) (shots g (rule t w) (leftPart p i)) (shots g (rule t w) (rightPart p i)),
+          ap₂ _++_ (low .1) (high .1) ∙ two (rectangle g) (shots g r (leftPart p i)) (shots g r (rightPart p i)),
         )
     reached-cut p (horizontal j) k h v =
         let j-most : j ≤ g .rows = omega (arith, v .dy, k .1) in
@@ -197,14 +198,14 @@ module _ (g : Grid) (F : ℕ → ℕ → Bool) (sound : Sound g) (shows : Shows 
               (omega (arith, rise (g .y) (sound .y-up) (suc j) (p .d) (k .1), sound .y-rises j (omega (arith, v .dy, k .1))))
               (low .0)
               (high .0),
-          ap₂ _++_ (low .1) (high .1) ∙ two (rectangle g) (shots g (rule t w) (lowerPart p j)) (shots g (rule t w) (upperPart p j)),
+          ap₂ _++_ (low .1) (high .1) ∙ two (rectangle g) (shots g r (lowerPart p j)) (shots g r (upperPart p j)),
         )
 
     pub way-attained : (p : Piece) → Valid (g .columns) (g .rows) p
-        → (way : Way F onX onY (rectangle g p)) × (shotsBy F onX onY way ≡ map (rectangle g) (shots g (rule t w) p))
-    unfolding shots Reached shotsBy
+        → (way : Way F onX onY (rectangle g p)) × (shotsOf F onX onY way ≡ map (rectangle g) (shots g r p))
+    unfolding shots Reached shotsOf
     way-attained =
-        scheme.along (straight g (rule t w)) cells (ends g (rule t w)) Reached
+        scheme.along (straight g r) cells (ends g r) Reached
         (λ p e v. (leave (λ x y h. let m = square-cell p v x y h in m .3 ∙ outside-cell g p e (m .0) (m .1) (m .2)), refl))
         (λ p e v. (shoot (λ x y h. let m = square-cell p v x y h in m .3 ∙ full-cell g p e (m .0) (m .1) (m .2)), refl))
         (λ p k e m h. reached-cut p k (All-at (InPiece p) m (cuts-all (InPiece p) p (λ j a b. (a, b)) (λ j a b. (a, b)))) h)

@@ -1,9 +1,8 @@
--- What the demands speak of, beside the outcome.
+-- To believe: what the demands speak of, beside the outcome.
 --
---   Words l            == an outline is a list of 16-bit numbers
---   figure l x y       == the unit square at (x, y) is inside, by the odd count on the raw corners
+--   Words f            == a figure is given by 16-bit numbers
+--   PieceOf g p        == p is a piece of the grid g
 --   reported o         == the shots in the list of an outcome: its first 4 x shots numbers, four by four
---   PieceOf l p        == p is a piece of the outline's grid
 --   entry o g p        == what the table of an outcome has for the piece p
 --   answer o           == the answer of an outcome, without the buffers
 --   Filled o           == the table was filled: on success, and beside 7
@@ -14,55 +13,43 @@
 use Prim.Native.Nat.{ℕ, _*_, _≤_}
 use mathlib.Core.Path.{_≡_}
 use mathlib.Core.Logic.{_⊎_}
-use mathlib.Core.Bool.{Bool}
 use mathlib.Core.List.{List, [], _∷_}
 use lib.ListN.{take, getD}
 use Rattle.sum.specs.Sum.{All, sumOf, join}
 use Rattle.recurrence.specs.Choice.{least}
 use Rattle.recurrence.specs.Scheme.{outside, full, mixed}
+use Rattle.refusal.specs.declared.Refusal.the-variants as because
+use Rattle.refusal.specs.Refusals.{refusalNo}
 use Rattle.rule.specs.declared.Rule.{Rule}
+use Rattle.figure.specs.Figure.{Figure}
 use Rattle.outline.specs.Grid.{Grid}
-use Rattle.outline.specs.Corners.{corners}
-use Rattle.outline.specs.Inside.{insideAt}
+use Rattle.shot.specs.Shot.{Shot, shotsIn}
 use Rattle.piece.specs.Piece.{Piece, kind, charge}
 use Rattle.piece.specs.Straight.{Cut, cuts, parts, shots}
 use Rattle.table.specs.Entry.{entryOf, Valid}
-use Rattle.demands.specs.Promise.{Outcome, drawn}
-use Rattle.demands.specs.Square.{Shot, shotsIn}
+use Rattle.demands.specs.Promise.{Outcome}
 
--- 16-bit numbers
-abbrev pub Words : List ℕ → Type 0
-Words l = All (λ v. v ≤ 65535) l
+abbrev pub Words : Figure → Type 0
+Words f = All (λ v. v ≤ 65535) (f .numbers)
 
--- inside at the nanometre, from the raw corners
-abbrev pub figure : List ℕ → ℕ → ℕ → Bool
-figure l = insideAt (corners l)
+abbrev pub PieceOf : Grid → Piece → Type 0
+PieceOf g p = Valid (g .columns) (g .rows) p
 
--- the list's first 4 x shots numbers, four by four
 unfoldable pub reported : Outcome → List Shot
 reported o = shotsIn (take (4 * o .shots) (o .list))
 
--- a piece of the outline's grid
-abbrev pub PieceOf : List ℕ → Piece → Type 0
-PieceOf l p = Valid (drawn l .columns) (drawn l .rows) p
-
--- the table's entry of the piece p
 unfoldable pub entry : Outcome → Grid → Piece → ℕ
 entry o g p = getD (o .table) (entryOf (g .columns) (g .rows) p) 0
 
--- number and values, no buffers
 unfoldable pub answer : Outcome → Outcome
 answer o = record { number = o .number; shots = o .shots; cost = o .cost; sliver = o .sliver; table = []; list = [] }
 
--- a success, or 7
 abbrev pub Filled : Outcome → Type 0
-Filled o = (o .number ≡ 0) ⊎ (o .number ≡ 7)
+Filled o = (o .number ≡ 0) ⊎ (o .number ≡ refusalNo because.List)
 
--- both parts of a cut, by a table
 unfoldable pub partsCost : (Piece → ℕ) → Piece → Cut → ℕ
 partsCost E p k = sumOf E (parts p k)
 
--- equation (2) with the tie order
 pub record Recurrence (g : Grid) (r : Rule) (E : Piece → ℕ) (p : Piece) : Type 0 where
   pub outside : kind g p ≡ outside → (E p ≡ 0) × (shots g r p ≡ [])
   pub full : kind g p ≡ full → (E p ≡ charge g r p) × (shots g r p ≡ p ∷ [])

@@ -1,51 +1,62 @@
--- When a fracture is refused: document 01's conditions 1 to 7, said of the input alone.
+-- To believe: when a fracture is refused: document 01's conditions 1 to 7, said of the input alone.
 --
 --   Changes a e        == the edge e changes the coordinate along the axis a
 --   Keeps a e          == it does not
---   Condition c        == what document 01 says of the reason c
+--   Condition c        == what document 01 says of the refusal c; no fracture is refused for any but the first seven
 --   First c            == the condition of c holds, and none of a lower number does
 use Prim.Native.Nat.{ℕ, _*_, _<_, _%_}
 use mathlib.Core.Path.{_≡_}
 use mathlib.Core.Logic.{_⊎_}
 use mathlib.Core.Bool.{false}
-use mathlib.Core.List.{List, List·Memᴰ as Member}
+use mathlib.Core.List.{List·Memᴰ as Member}
 use lib.ListN.{length}
-use Rattle.outline.specs.declared.Axis.{Axis}
-use Rattle.outline.specs.declared.Axis.the-variants.{X, Y}
-use Rattle.outline.specs.Corners.{Corner, Link, corners, coordinate, edges, turns}
+use Rattle.refusal.specs.declared.Refusal.{Refusal}
+use Rattle.refusal.specs.declared.Refusal.the-variants as because
+use Rattle.refusal.specs.Refusals.{refusalNo}
+use Rattle.rule.specs.Rules.{limit}
+use Rattle.figure.specs.declared.Axis.{Axis}
+use Rattle.figure.specs.declared.Axis.the-variants.{X, Y}
+use Rattle.figure.specs.Corners.{Corner, Link, coordinate}
+use Rattle.figure.specs.Figure.{edgesOf, turnsOf}
 use Rattle.table.specs.Entry.{entryCount}
-use Rattle.demands.specs.Promise.{drawn, reportedShots, Reason, ruleHigh, lengthBad, slantedEdge, straightOn, nothingInside, tableShort, listShort, number}
+use Rattle.demands.specs.Promise.{Asked, drawn, ruleOf, frameShots}
 
--- the edge has the same coordinate at both ends
 abbrev pub Keeps : Axis → Link Corner → Type 0
 Keeps a e = coordinate a (e .from) ≡ coordinate a (e .to)
 
--- the edge does not
 abbrev pub Changes : Axis → Link Corner → Type 0
 Changes a e = Keeps a e → ⊥
 
-module _ (l : List ℕ) (t w : ℕ) (table list : List ℕ) where
-  -- document 01, "When the answer is no"
-  unfoldable pub Condition : Reason → Type 0
+module _ (ask : Asked) where
+  unfoldable pub Condition : Refusal → Type 0
   -- threshold or weight above 1,000
-  Condition ruleHigh = (1000 < t) ⊎ (1000 < w)
+  Condition because.Rule = (limit < ask .threshold) ⊎ (limit < ask .weight)
   -- list length odd, under 8 or over 64
-  Condition lengthBad = (length l % 2 ≡ 1) ⊎ ((length l < 8) ⊎ (64 < length l))
+  Condition because.Length =
+      (length (ask .figure .numbers) % 2 ≡ 1) ⊎ ((length (ask .figure .numbers) < 8) ⊎ (64 < length (ask .figure .numbers)))
   -- an edge changes both coordinates
-  Condition slantedEdge = (e : Link Corner) × Member e (edges (corners l)) × Changes X e × Changes Y e
+  Condition because.Slanted = (e : Link Corner) × Member e (edgesOf (ask .figure)) × Changes X e × Changes Y e
   -- an edge changes neither, or two neighbours change the same one
-  Condition straightOn =
-      ((e : Link Corner) × Member e (edges (corners l)) × Keeps X e × Keeps Y e)
-      ⊎ ((n : Link (Link Corner)) × Member n (turns (corners l))
+  Condition because.Unturned =
+      ((e : Link Corner) × Member e (edgesOf (ask .figure)) × Keeps X e × Keeps Y e)
+      ⊎ ((n : Link (Link Corner)) × Member n (turnsOf (ask .figure))
       × ((Changes X (n .from) × Changes X (n .to)) ⊎ (Changes Y (n .from) × Changes Y (n .to))))
   -- no cell is inside
-  Condition nothingInside = (i j : ℕ) → i < drawn l .columns → j < drawn l .rows → drawn l .inside i j ≡ false
+  Condition because.Empty = (i j : ℕ) → i < drawn ask .columns → j < drawn ask .rows → drawn ask .inside i j ≡ false
   -- cost table has fewer entries than there are pieces
-  Condition tableShort = length table < entryCount (drawn l .columns) (drawn l .rows)
+  Condition because.Table = length (ask .table) < entryCount (drawn ask .columns) (drawn ask .rows)
   -- shot list holds fewer than 4 x shots numbers
-  Condition listShort = length list < 4 * length (reportedShots l t w)
+  Condition because.List = length (ask .list) < 4 * length (frameShots (drawn ask) (ruleOf ask))
+  -- the others are for bytes, buffers and presets
+  Condition because.Ends = ⊥
+  Condition because.Padded = ⊥
+  Condition because.Range = ⊥
+  Condition because.Extra = ⊥
+  Condition because.Long = ⊥
+  Condition because.Missing = ⊥
+  Condition because.Room = ⊥
+  Condition because.Preset = ⊥
 
-  -- it holds, and none of a lower number does
-  pub record First (c : Reason) : Type 0 where
+  pub record First (c : Refusal) : Type 0 where
     pub holds : Condition c
-    pub before : (s : Reason) → number s < number c → Condition s → ⊥
+    pub before : (s : Refusal) → refusalNo s < refusalNo c → Condition s → ⊥

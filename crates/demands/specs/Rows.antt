@@ -1,4 +1,4 @@
--- The ten proved rows of document 01, "Drawings to test on".
+-- To believe: the ten proved rows of document 01, "Drawings to test on".
 --
 --   By                 == the rule that a row is for: one of threshold and weight, or any in range
 --   Meant b t w        == the row is for the rule of threshold t and weight w
@@ -17,7 +17,10 @@ use Rattle.sum.specs.Sum.{sumOf, All}
 use Rattle.rule.specs.Rules.{inRange}
 use Rattle.piece.specs.Piece.{frame}
 use Rattle.piece.specs.Straight.{Cut, vertical, horizontal, parts, cost as costOf}
-use Rattle.demands.specs.Promise.{rule, drawn, Outcome, outcome}
+use Rattle.rule.specs.declared.Rule.{Rule}
+use Rattle.figure.specs.Figure.{Figure, figure}
+use Rattle.outline.specs.Inside.{grid}
+use Rattle.demands.specs.Promise.{Asked, ruleOf, Outcome, outcome}
 
 -- the rule that a row is for
 pub data By : Type 0 where
@@ -36,7 +39,7 @@ pub record Rival : Type 0 where
 
 -- a row of the table
 pub record Row : Type 0 where
-  pub outline : List ℕ
+  pub figure : Figure
   pub by : By
   pub number : ℕ
   pub cost : ℕ
@@ -45,32 +48,33 @@ pub record Row : Type 0 where
   pub rivals : List Rival
 
 -- what a row says of an outcome
-pub record Says (row : Row) (t w : ℕ) (o : Outcome) : Type 0 where
+pub record Says (row : Row) (r : Rule) (o : Outcome) : Type 0 where
   pub number : o .number ≡ row .number
   pub cost : o .cost ≡ row .cost
   pub sliver : o .sliver ≡ row .sliver
   pub count : 4 * o .shots ≡ length (row .list)
   pub list : take (4 * o .shots) (o .list) ≡ row .list
-  pub rivals : All (λ k. sumOf (costOf (drawn (row .outline)) (rule t w)) (parts (frame (drawn (row .outline))) (k .cut)) ≡ k .cost) (row .rivals)
+  pub rivals : All (λ k. sumOf (costOf (grid (row .figure)) r) (parts (frame (grid (row .figure))) (k .cut)) ≡ k .cost) (row .rivals)
 
 -- room is ample: 14,400 entries and 225 shots
 abbrev pub Holds : Row → Type 0
 Holds row =
-    (t w : ℕ) → Meant (row .by) t w → inRange t w ≡ true
-    → (table list : List ℕ) → 14400 ≤ length table → 900 ≤ length list
-    → Says row t w (outcome (row .outline) t w table list)
+    (ask : Asked) → ask .figure ≡ row .figure → Meant (row .by) (ask .threshold) (ask .weight)
+    → inRange (ask .threshold) (ask .weight) ≡ true
+    → 14400 ≤ length (ask .table) → 900 ≤ length (ask .list)
+    → Says row (ruleOf ask) (outcome ask)
 
--- an accepted outline
-abbrev good : List ℕ → ℕ → ℕ → ℕ → ℕ → List ℕ → List Rival → Row
-good o t w c s l k = record { outline = o; by = only-by t w; number = 0; cost = c; sliver = s; list = l; rivals = k }
+-- an accepted figure
+abbrev good : Figure → ℕ → ℕ → ℕ → ℕ → List ℕ → List Rival → Row
+good f t w c s l k = record { figure = f; by = only-by t w; number = 0; cost = c; sliver = s; list = l; rivals = k }
 
--- the outline of "The job program"
-abbrev pub L : List ℕ
-L = 0 ∷ 0 ∷ 100 ∷ 0 ∷ 100 ∷ 20 ∷ 60 ∷ 20 ∷ 60 ∷ 80 ∷ 0 ∷ 80 ∷ []
+-- the drawing of "The job program"
+abbrev pub L : Figure
+L = figure (0 ∷ 0 ∷ 100 ∷ 0 ∷ 100 ∷ 20 ∷ 60 ∷ 20 ∷ 60 ∷ 80 ∷ 0 ∷ 80 ∷ [])
 
 -- the block with a nose of 10 nm
-abbrev pub B : List ℕ
-B = 0 ∷ 0 ∷ 200 ∷ 0 ∷ 200 ∷ 50 ∷ 210 ∷ 50 ∷ 210 ∷ 150 ∷ 200 ∷ 150 ∷ 200 ∷ 200 ∷ 0 ∷ 200 ∷ []
+abbrev pub B : Figure
+B = figure (0 ∷ 0 ∷ 200 ∷ 0 ∷ 200 ∷ 50 ∷ 210 ∷ 50 ∷ 210 ∷ 150 ∷ 200 ∷ 150 ∷ 200 ∷ 200 ∷ 0 ∷ 200 ∷ [])
 
 -- the line of y = 20 is the second y line of L
 abbrev pub rows : List Row
@@ -80,12 +84,12 @@ rows =
     ∷ good B 25 40 3000 0 (0 ∷ 0 ∷ 200 ∷ 50 ∷ 0 ∷ 50 ∷ 210 ∷ 150 ∷ 0 ∷ 150 ∷ 200 ∷ 200 ∷ []) []
     ∷ good B 25 10 3000 100 (0 ∷ 0 ∷ 200 ∷ 200 ∷ 200 ∷ 50 ∷ 210 ∷ 150 ∷ []) []
     ∷ good B 25 9 2900 100 (0 ∷ 0 ∷ 200 ∷ 200 ∷ 200 ∷ 50 ∷ 210 ∷ 150 ∷ []) []
-    ∷ good (0 ∷ 0 ∷ 100 ∷ 0 ∷ 100 ∷ 24 ∷ 0 ∷ 24 ∷ []) 25 40 9000 200 (0 ∷ 0 ∷ 100 ∷ 24 ∷ []) []
-    ∷ good (0 ∷ 0 ∷ 100 ∷ 0 ∷ 100 ∷ 24 ∷ 0 ∷ 24 ∷ []) 24 40 1000 0 (0 ∷ 0 ∷ 100 ∷ 24 ∷ []) []
-    ∷ good (0 ∷ 0 ∷ 10 ∷ 0 ∷ 10 ∷ 10 ∷ 0 ∷ 10 ∷ []) 25 40 2600 40 (0 ∷ 0 ∷ 10 ∷ 10 ∷ []) []
-    ∷ good (0 ∷ 0 ∷ 10 ∷ 0 ∷ 10 ∷ 20 ∷ 20 ∷ 20 ∷ 20 ∷ 10 ∷ 0 ∷ 10 ∷ []) 0 40 2000 0 (0 ∷ 0 ∷ 10 ∷ 10 ∷ 10 ∷ 10 ∷ 20 ∷ 20 ∷ []) []
+    ∷ good (figure (0 ∷ 0 ∷ 100 ∷ 0 ∷ 100 ∷ 24 ∷ 0 ∷ 24 ∷ [])) 25 40 9000 200 (0 ∷ 0 ∷ 100 ∷ 24 ∷ []) []
+    ∷ good (figure (0 ∷ 0 ∷ 100 ∷ 0 ∷ 100 ∷ 24 ∷ 0 ∷ 24 ∷ [])) 24 40 1000 0 (0 ∷ 0 ∷ 100 ∷ 24 ∷ []) []
+    ∷ good (figure (0 ∷ 0 ∷ 10 ∷ 0 ∷ 10 ∷ 10 ∷ 0 ∷ 10 ∷ [])) 25 40 2600 40 (0 ∷ 0 ∷ 10 ∷ 10 ∷ []) []
+    ∷ good (figure (0 ∷ 0 ∷ 10 ∷ 0 ∷ 10 ∷ 20 ∷ 20 ∷ 20 ∷ 20 ∷ 10 ∷ 0 ∷ 10 ∷ [])) 0 40 2000 0 (0 ∷ 0 ∷ 10 ∷ 10 ∷ 10 ∷ 10 ∷ 20 ∷ 20 ∷ []) []
     ∷ record {
-      outline = 0 ∷ 0 ∷ 1 ∷ 0 ∷ 1 ∷ 1 ∷ 0 ∷ 1 ∷ 0 ∷ 0 ∷ 1 ∷ 0 ∷ 1 ∷ 1 ∷ 0 ∷ 1 ∷ [];
+      figure = figure (0 ∷ 0 ∷ 1 ∷ 0 ∷ 1 ∷ 1 ∷ 0 ∷ 1 ∷ 0 ∷ 0 ∷ 1 ∷ 0 ∷ 1 ∷ 1 ∷ 0 ∷ 1 ∷ []);
       by = any;
       number = 5;
       cost = 0;

@@ -8,6 +8,7 @@
 --   cells-empty, cells-some      == where no cell in memory is 1 no cell is inside, and the other way round
 --   refusal-2, -3, -4, -5, -0    == the refusal, by the tests in their order
 --   refusal-first, answer-first  == a refusal is given exactly when it is the first whose condition holds
+--   refusal-most                 == no refusal of a drawing has a number above 5
 --   right-sound                  == the grid of an outline that passes 2 to 4 is sound
 --   promise-refused, promise-empty, promise-accepted   == each way a drawing ends keeps the promise
 --   promise-unique               == any two drawings that keep the promise are equal, and so is what they leave in the lent lists
@@ -380,3 +381,14 @@ promise-unique f r s xs ys cells xs′ ys′ cells′ p q =
       ap (λ (m : Memory). m .ys) e,
       ap (λ (m : Memory). m .cells) e,
     )
+
+pub refusal-most : (f : Figure) → refusal f ≤ 5
+unfolding refusal fault
+refusal-most f = most (badFigure f) (slanted (cornersOf f)) (unturned (cornersOf f)) (empty (grid f))
+  where
+    most : (a b c d : Bool) → cond (eqb (cond a 2 (cond b 3 (cond c 4 0))) 0) (cond d 5 0) (cond a 2 (cond b 3 (cond c 4 0))) ≤ 5
+    most true b c d = omega arith
+    most false true c d = omega arith
+    most false false true d = omega arith
+    most false false false true = omega arith
+    most false false false false = omega arith
