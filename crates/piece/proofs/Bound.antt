@@ -2,7 +2,7 @@
 --
 --   sideways g i j     == the exposed left and right sides of the cell (i, j), in nm; of the turned grid: bottom and top
 --   cost-due           == a piece costs at most 1,000 for each of its cells and the weight of their exposed sides
---   cost-most          == a piece of a sound grid costs at most 2,097,345,000 under a rule in range
+--   cost-most          == a piece of a sound grid costs at most `mostCost` under a rule in range
 --   slivers-most       == its shots have at most 2,097,120 nm of sliver together
 --   count-most         == and they are at most 225
 use Prim.Native.Nat.{ℕ, zero, suc, _+_, _*_, _-_, _≤_, _<_}
@@ -17,9 +17,10 @@ use Rattle.sum.proofs.Sum.{only-most}
 use Rattle.sum.proofs.Lists.{sumOf-le, sumOf-ones, All-imp}
 use Rattle.outline.specs.Grid.{Grid, Sound}
 use Rattle.rule.specs.declared.Rule.{Rule}
+use Rattle.rule.specs.Rules.{limit}
 use Rattle.rule.specs.Charge.{chargeOf}
 use Rattle.rule.proofs.Charge.{sliver-most}
-use Rattle.piece.specs.Piece.{Piece, before, cellSum, cells, charge, sliver, left, right, bottom, top, width, height, lowSide, highSide, frame}
+use Rattle.piece.specs.Piece.{Piece, before, cellSum, cells, charge, mostCost, sliver, left, right, bottom, top, width, height, lowSide, highSide, frame}
 use Rattle.piece.specs.Straight.{shots, cost}
 use Rattle.piece.proofs.Cells.{sum-add, sum-mul, sum-le, sum-part, cells-some, cells-product}
 use Rattle.piece.proofs.Turn.{turned, turn, sum-turn}
@@ -181,7 +182,7 @@ module _ (g : Grid) (r : Rule) where
               (omega (arith, s .x-most (g .columns))),
         )
 
-    pub cost-most : r .weight ≤ 1000 → cost g r p ≤ 2097345000
+    pub cost-most : r .weight ≤ limit → cost g r p ≤ mostCost
     cost-most hw = omega (arith, cost-due p, area-most, mul-le-mul hw sides-most)
 
     pub slivers-most : sumOf (sliver g r) (shots g r p) ≤ 2097120

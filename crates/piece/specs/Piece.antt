@@ -20,6 +20,7 @@
 --   width, height             == from line to line, in nm
 --   sliver g r p              == p's sliver length under the rule r
 --   charge g r p              == 1,000 + weight x sliver length
+--   mostCost                  == document 01's bound: no total exceeds it
 use Prim.Native.Nat.{ℕ, zero, suc, _+_, _*_, _-_}
 use mathlib.Core.Bool.{Bool, true, false, not, _&&_}
 use lib.Dec.{leb, ltb, eqb}
@@ -134,3 +135,6 @@ module _ (g : Grid) where
     -- equation (1) of the paper, times 1,000
     unfoldable pub charge : Piece → ℕ
     charge p = chargeOf r (sliver p)
+
+abbrev pub mostCost : ℕ
+mostCost = 2097345000

@@ -267,7 +267,7 @@ module _ (g : Grid) (r : Rule) where
       → ((p : Piece) → Valid (g .columns) (g .rows) p → getD u (entryOf (g .columns) (g .rows) p) 0 ≡ cost g r p)
       → ((k : ℕ) → entryCount (g .columns) (g .rows) ≤ k → getD u k 0 ≡ getD t k 0)
       → u ≡ costs g r ++ drop (length (costs g r)) t
-  costs-whole t u room long right past =
+  costs-whole t u room long right beyond =
       sym (take-append-drop n u)
       ∙ ap₂ _++_ (ext-getD 0 (take n u) (costs g r) (length-take-le n u room ∙ sym costs-length) front) (back ∙ ap (λ k. drop k t) (sym costs-length))
     where
@@ -285,4 +285,4 @@ module _ (g : Grid) (r : Rule) where
           at-piece (p .0) (p .1) i (p .2) l
 
       back : drop n u ≡ drop n t
-      back = ext-getD 0 (drop n u) (drop n t) (omega (arith, length-drop n u, length-drop n t)) (λ i q. getD-drop n u i 0 ∙ past (n + i) (omega arith) ∙ sym (getD-drop n t i 0))
+      back = ext-getD 0 (drop n u) (drop n t) (omega (arith, length-drop n u, length-drop n t)) (λ i q. getD-drop n u i 0 ∙ beyond (n + i) (omega arith) ∙ sym (getD-drop n t i 0))

@@ -2,8 +2,8 @@
 --
 --   parted-fits        == the costs of a cut's two parts fit together
 --   row-lowest         == the least of the vertical cuts of each piece of the strip, by costs
---   strip-filled, strip-past
---                      == the table with the strip's row settled, and past the entries
+--   strip-reached, strip-beyond
+--                      == the table with the strip's row settled, and beyond the entries
 --   strip-recurs       == the costs of a strip's pieces satisfy the recurrence by its sums and its vertical cuts
 use Prim.Native.Nat.{ℕ, zero, suc, _+_, _*_, _-_, _≤_, _<_, _^_, min}
 use mathlib.Core.Path.{_≡_, refl, sym, _∙_, ap, ap₂, subst}
@@ -16,10 +16,11 @@ use lib.Dec.{ltb, eqb}
 use borrow.Author.Tests.{eqb-true}
 use lib.ListN.{length, getD, drop}
 use Rattle.sum.proofs.Sum.{le-or, rise}
-use Rattle.recurrence.specs.Scheme.{outside, full, mixed}
+use Rattle.recurrence.specs.Scheme.{mixed}
 use Rattle.outline.specs.Grid.{Grid, Sound, Drawn, stored}
 use Rattle.rule.specs.declared.Rule.{Rule}
-use Rattle.piece.specs.Piece.{Piece, box, cells, kind, insideCells, leftPart, rightPart, lowerPart, upperPart}
+use Rattle.rule.specs.Rules.{limit}
+use Rattle.piece.specs.Piece.{Piece, box, mostCost, cells, kind, insideCells, leftPart, rightPart, lowerPart, upperPart}
 use Rattle.piece.specs.Straight.{cost}
 use Rattle.piece.proofs.Cells.{cells-product, cells-some}
 use Rattle.piece.proofs.Kind.{kind-outside, kind-full, kind-mixed, inside-most}
@@ -30,19 +31,19 @@ use Rattle.table.specs.Run.{Lowest}
 use Rattle.table.specs.Strip.{uncut, countIn, Measured, Recurs, Solvable}
 use Rattle.table.specs.Tally.{beforeAt, Spare, ColumnAdded, FlanksMeasured}
 use Rattle.table.specs.Vertical.{parted, Lowered, rowOf, Beside}
-use Rattle.table.specs.Fill.{Ready, Tallied, Flanked, Filled, Past, Advanced}
+use Rattle.table.specs.Fill.{Ready, Tallied, Flanked, Reached, Beyond, Advanced}
 use Rattle.table.proofs.Entry
 use Rattle.table.proofs.Measure
 use Rattle.table.proofs.Run
 use Rattle.table.proofs.Strip
 use Rattle.table.proofs.Vertical
 
-module _ (g : Grid) (r : Rule) (xs ys cs : List ℕ) (sound : Sound g) (drawn : Drawn g xs ys cs) (hw : r .weight ≤ 1000) (a c : ℕ) (h : a < c) (k : c ≤ g .columns)
+module _ (g : Grid) (r : Rule) (xs ys cs : List ℕ) (sound : Sound g) (drawn : Drawn g xs ys cs) (hw : r .weight ≤ limit) (a c : ℕ) (h : a < c) (k : c ≤ g .columns)
   where
     abbrev pub price : ℕ → ℕ → ℕ
     price b d = cost g r (box a c b d)
 
-    pub price-most : (a c : ℕ) → a < c → c ≤ g .columns → (b d : ℕ) → b < d → d ≤ g .rows → cost g r (box a c b d) ≤ 2097345000
+    pub price-most : (a c : ℕ) → a < c → c ≤ g .columns → (b d : ℕ) → b < d → d ≤ g .rows → cost g r (box a c b d) ≤ mostCost
     price-most a c h k b d q l = cost-most g r sound (box a c b d) (omega arith) k (omega arith) l hw
 
     module _ (u : List ℕ) (w : Tallied g a c u) (f : Flanked g r a c u) where
@@ -73,7 +74,7 @@ module _ (g : Grid) (r : Rule) (xs ys cs : List ℕ) (sound : Sound g) (drawn : 
           low-x : (j : ℕ) → a < j → j < c → v ≤ cost g r (box a j b d) + cost g r (box j c b d)
           low-x j p t = omega (arith, y .first, x .each j p t)
 
-          up : v ≤ 2097345000
+          up : v ≤ mostCost
           up = omega (arith, cost-one g r (λ i. v ≤ i) (box a c b d) e low-x (y .each), price-most a c h k b d q l)
 
           one : (v ≡ m) ⊎ ((j : ℕ) × (b < j) × (j < d) × (v ≡ cost g r (box a c b j) + cost g r (box a c j d)))
@@ -91,7 +92,7 @@ module _ (g : Grid) (r : Rule) (xs ys cs : List ℕ) (sound : Sound g) (drawn : 
           record {
             most = price-most a c h k;
             none = λ b d q l z. cost-outside g r (box a c b d) (kind-outside g (box a c b d) (sym (counted b d l) ∙ z));
-            whole =
+            full =
                 λ b d q l n z. cost-full g r (box a c b d)
                 (kind-full g (box a c b d) (sym (counted b d l) ∙ z ∙ all b d q) (cells-some (box a c b d) h q))
                 ∙ sym (Measure.shot-charge g r xs ys cs sound drawn a c h k u w f b d q l);
@@ -100,7 +101,7 @@ module _ (g : Grid) (r : Rule) (xs ys cs : List ℕ) (sound : Sound g) (drawn : 
           }
 
     -- the costs of the parts are in the table
-    module _ (t : List ℕ) (done : Filled g r t a c) where
+    module _ (t : List ℕ) (done : Reached g r t a c) where
       part-low : (b d j : ℕ) → b < d → d ≤ g .rows → a < j → j < c
           → getD t (pairNo (g .columns) a j * pairCount (g .rows) + pairNo (g .rows) b d) 0 ≡ cost g r (box a j b d)
       part-low b d j q l p x =
@@ -176,8 +177,8 @@ module _ (g : Grid) (r : Rule) (xs ys cs : List ℕ) (sound : Sound g) (drawn : 
                 ∙ sym (Vertical.row-at v (pairCount (g .rows)) (pairNo (g .columns) a c) (pairNo (g .rows) b d) (Entry.pair-below (g .rows) b d q l))
                 ∙ right b d q l
 
-            pub strip-filled : Filled g r v a (c + 1)
-            strip-filled = record { right = λ p w o. go p w o }
+            pub strip-reached : Reached g r v a (c + 1)
+            strip-reached = record { right = λ p w o. go p w o }
               where
                 other : (p : Piece) → Valid (g .columns) (g .rows) p → (a < p .a) ⊎ ((p .a ≡ a) × (p .c < c)) → getD v (entryOf (g .columns) (g .rows) p) 0 ≡ cost g r p
                 other p w o = away p w (λ e. apart (Entry.pair-same (g .columns) (p .a) (p .c) a c (w .ac) (w .cx) h k e) o) ∙ done .right p w o
@@ -196,9 +197,9 @@ module _ (g : Grid) (r : Rule) (xs ys cs : List ℕ) (sound : Sound g) (drawn : 
                       subst (λ q. getD v (entryOf (g .columns) (g .rows) q) 0 ≡ cost g r q) f (here (p .b) (p .d) (w .bd) (w .dy)))
                 ]
 
-            pub strip-past : (m : ℕ) → entryCount (g .columns) (g .rows) ≤ m → getD v m 0 ≡ getD t m 0
+            pub strip-beyond : (m : ℕ) → entryCount (g .columns) (g .rows) ≤ m → getD v m 0 ≡ getD t m 0
             unfolding entryCount
-            strip-past m q =
+            strip-beyond m q =
                 kept m
                 (inr (omega (arith, Vertical.row-before (pairNo (g .columns) a c) (pairCount (g .columns)) (pairCount (g .rows)) (Entry.pair-below (g .columns) a c h k))))
 
@@ -280,7 +281,7 @@ module _ (columns rows : ℕ) (xs ys cs : List ℕ) (r : Rule) (t : List ℕ) (r
     Measure.flanked G xs ys cs (ready .sound) (ready .drawn) a c h k r s₁ s₂ o,
   )
 
-  module _ (done : Filled G r t a c) (pairs : ℕ) (e : pairs ≡ pairCount rows) where
+  module _ (done : Reached G r t a c) (pairs : ℕ) (e : pairs ≡ pairCount rows) where
     pub asks-vertical : (first : ℕ) → first ≡ pairsBelow columns a
         → ((columns ≤ 15) × ((pairs ≤ 225) × (pairCount columns * pairs ≤ length t)))
         × (((a < c) × ((c ≤ columns) × (first ≡ pairsBelow columns a))) × ((j i : ℕ) → a < j → j < c → i < pairs → parted t columns pairs a c i j < 2 ^ 32))
@@ -340,11 +341,11 @@ module _ (columns rows : ℕ) (xs ys cs : List ℕ) (r : Rule) (t : List ℕ) (r
       told-settle v settled b =
           record {
             tallied = w .0;
-            filled = strip-filled G r xs ys cs (ready .sound) (ready .drawn) (ready .weight-most) a c h k t done u lowered v beside right;
-            past =
+            reached = strip-reached G r xs ys cs (ready .sound) (ready .drawn) (ready .weight-most) a c h k t done u lowered v beside right;
+            beyond =
                 record {
                   long = b .long ∙ low .long;
-                  kept = strip-past G r xs ys cs (ready .sound) (ready .drawn) (ready .weight-most) a c h k t done u lowered v beside right;
+                  kept = strip-beyond G r xs ys cs (ready .sound) (ready .drawn) (ready .weight-most) a c h k t done u lowered v beside right;
                 };
           }
         where
@@ -357,28 +358,28 @@ module _ (columns rows : ℕ) (xs ys cs : List ℕ) (r : Rule) (t : List ℕ) (r
               ∙ settled (λ b d. cost G r (box a c b d)) solvable .right b d (omega arith) q l
 
 -- along the fill
-pub past-none : (n : ℕ) (t : List ℕ) → Past n t t
-past-none n t = record { long = refl; kept = λ k h. refl }
+pub beyond-none : (n : ℕ) (t : List ℕ) → Beyond n t t
+beyond-none n t = record { long = refl; kept = λ k h. refl }
 
-pub past-trans : (n : ℕ) (t u v : List ℕ) → Past n t u → Past n u v → Past n t v
-past-trans n t u v p q = record { long = q .long ∙ p .long; kept = λ k h. q .kept k h ∙ p .kept k h }
+pub beyond-trans : (n : ℕ) (t u v : List ℕ) → Beyond n t u → Beyond n u v → Beyond n t v
+beyond-trans n t u v p q = record { long = q .long ∙ p .long; kept = λ k h. q .kept k h ∙ p .kept k h }
 
 -- what was asked of a table is met by each later one
-pub ready-later : (g : Grid) (r : Rule) (xs ys cs t u : List ℕ) (n : ℕ) → Past n t u → Ready g r xs ys cs t → Ready g r xs ys cs u
+pub ready-later : (g : Grid) (r : Rule) (xs ys cs t u : List ℕ) (n : ℕ) → Beyond n t u → Ready g r xs ys cs t → Ready g r xs ys cs u
 ready-later g r xs ys cs t u n p k =
     record { sound = k .sound; drawn = k .drawn; weight-most = k .weight-most; room = omega (arith, k .room, p .long) }
 
 -- no strip yet
-pub filled-none : (g : Grid) (r : Rule) (t : List ℕ) → Filled g r t (g .columns) (g .columns + 1)
-filled-none g r t = record { right = λ p v o. absurd (go p v o) }
+pub reached-none : (g : Grid) (r : Rule) (t : List ℕ) → Reached g r t (g .columns) (g .columns + 1)
+reached-none g r t = record { right = λ p v o. absurd (go p v o) }
   where
     go : (p : Piece) → Valid (g .columns) (g .rows) p → (g .columns < p .a) ⊎ ((p .a ≡ g .columns) × (p .c < g .columns + 1)) → ⊥
     go p v (inl h) = omega (arith, v .ac, v .cx)
     go p v (inr h) = omega (arith, v .ac, v .cx, h .0)
 
 -- all strips from a line on: those that begin above the line before it
-pub filled-back : (g : Grid) (r : Rule) (t : List ℕ) (a : ℕ) → 0 < a → Filled g r t a (g .columns + 1) → Filled g r t (a - 1) (a - 1 + 1)
-filled-back g r t a h f = record { right = λ p v o. f .right p v (go p v o) }
+pub reached-back : (g : Grid) (r : Rule) (t : List ℕ) (a : ℕ) → 0 < a → Reached g r t a (g .columns + 1) → Reached g r t (a - 1) (a - 1 + 1)
+reached-back g r t a h f = record { right = λ p v o. f .right p v (go p v o) }
   where
     go : (p : Piece) → Valid (g .columns) (g .rows) p → (a - 1 < p .a) ⊎ ((p .a ≡ a - 1) × (p .c < a - 1 + 1)) → (a < p .a) ⊎ ((p .a ≡ a) × (p .c < g .columns + 1))
     go p v (inl q) = elim (le-or (p .a) a) [
@@ -387,14 +388,14 @@ filled-back g r t a h f = record { right = λ p v o. f .right p v (go p v o) }
     ]
     go p v (inr q) = absurd (omega (arith, q .0, q .1, v .ac))
 
-pub filled-at : (g : Grid) (r : Rule) (t : List ℕ) (a c d : ℕ) → c ≡ d → Filled g r t a c → Filled g r t a d
-filled-at g r t a c d e f = subst (Filled g r t a) e f
+pub reached-at : (g : Grid) (r : Rule) (t : List ℕ) (a c d : ℕ) → c ≡ d → Reached g r t a c → Reached g r t a d
+reached-at g r t a c d e f = subst (Reached g r t a) e f
 
 -- all strips
-pub filled-all : (g : Grid) (r : Rule) (xs ys cs t u : List ℕ) (a : ℕ) → a ≤ 0 → Ready g r xs ys cs t → Past (entryCount (g .columns) (g .rows)) t u
-    → Filled g r u a (g .columns + 1)
+pub reached-all : (g : Grid) (r : Rule) (xs ys cs t u : List ℕ) (a : ℕ) → a ≤ 0 → Ready g r xs ys cs t → Beyond (entryCount (g .columns) (g .rows)) t u
+    → Reached g r u a (g .columns + 1)
     → u ≡ costs g r ++ drop (length (costs g r)) t
-filled-all g r xs ys cs t u a h k p f =
+reached-all g r xs ys cs t u a h k p f =
     Entry.costs-whole g r t u (omega (arith, k .room, p .long)) (p .long) (λ q v. f .right q v (go q v)) (p .kept)
   where
     go : (q : Piece) → Valid (g .columns) (g .rows) q → (a < q .a) ⊎ ((q .a ≡ a) × (q .c < g .columns + 1))
@@ -433,24 +434,24 @@ module _ (columns rows : ℕ) (xs ys cs : List ℕ) (r : Rule) (t : List ℕ) (r
       let e : c ≡ c + 1 - 1 = omega arith in
       subst (λ n. Tallied (stored columns rows xs ys cs) a n sums) e (w .tallied)
 
-  pub from-past : (a c : ℕ) (u v sums : List ℕ) → Advanced (stored columns rows xs ys cs) r a c u v sums → Past (entryCount columns rows) u v
+  pub from-beyond : (a c : ℕ) (u v sums : List ℕ) → Advanced (stored columns rows xs ys cs) r a c u v sums → Beyond (entryCount columns rows) u v
   unfolding stored
-  from-past a c u v sums w = w .past
+  from-beyond a c u v sums w = w .beyond
 
   -- the fill from the highest line down
-  pub fill-none : Filled (stored columns rows xs ys cs) r t columns (columns + 1)
+  pub fill-none : Reached (stored columns rows xs ys cs) r t columns (columns + 1)
   unfolding stored
-  fill-none = filled-none (stored columns rows xs ys cs) r t
+  fill-none = reached-none (stored columns rows xs ys cs) r t
 
   pub fill-limits : (1 ≤ columns) × ((columns ≤ 15) × ((1 ≤ rows) × (rows ≤ 15)))
   unfolding stored
   fill-limits = (ready .sound .columns-some, (ready .sound .columns-most, (ready .sound .rows-some, ready .sound .rows-most)))
 
-  pub fill-back : (u : List ℕ) (a : ℕ) → 0 < a → Filled (stored columns rows xs ys cs) r u a (columns + 1) → Filled (stored columns rows xs ys cs) r u (a - 1) (a - 1 + 1)
+  pub fill-back : (u : List ℕ) (a : ℕ) → 0 < a → Reached (stored columns rows xs ys cs) r u a (columns + 1) → Reached (stored columns rows xs ys cs) r u (a - 1) (a - 1 + 1)
   unfolding stored
-  fill-back u a h f = filled-back (stored columns rows xs ys cs) r u a h f
+  fill-back u a h f = reached-back (stored columns rows xs ys cs) r u a h f
 
-  pub fill-all : (u : List ℕ) (a : ℕ) → a ≤ 0 → Past (entryCount columns rows) t u → Filled (stored columns rows xs ys cs) r u a (columns + 1)
+  pub fill-all : (u : List ℕ) (a : ℕ) → a ≤ 0 → Beyond (entryCount columns rows) t u → Reached (stored columns rows xs ys cs) r u a (columns + 1)
       → u ≡ costs (stored columns rows xs ys cs) r ++ drop (length (costs (stored columns rows xs ys cs) r)) t
   unfolding stored
-  fill-all u a h p f = filled-all (stored columns rows xs ys cs) r xs ys cs t u a h ready p f
+  fill-all u a h p f = reached-all (stored columns rows xs ys cs) r xs ys cs t u a h ready p f

@@ -18,6 +18,7 @@ use lib.Seq.{getD-set-same, getD-set-other}
 use Rattle.sum.specs.Sum.{over}
 use Rattle.sum.proofs.Sum.{le-or, over-none, over-cut, over-last}
 use Rattle.rule.specs.declared.Rule.{Rule}
+use Rattle.piece.specs.Piece.{mostCost}
 use Rattle.table.specs.Entry.{pairsBelow, pairCount, pairNo}
 use Rattle.table.specs.Run.{Wrote, weighedApart, Lowest}
 use Rattle.table.specs.Strip.{uncut, countIn, flankIn, shotCost, Judged, Recurs}
@@ -169,7 +170,7 @@ module _ (s : ℕ → ℕ → ℕ) (rows h : ℕ) (row side : List ℕ) where
   level-more : (b at v : ℕ) (row₂ side₂ : List ℕ) → 0 < h → b + h ≤ rows → rows ≤ 15 → length row ≡ pairCount rows → length side ≡ 256
       → at ≡ pairNo rows b (b + h)
       → v ≡ s b (b + h)
-      → v ≤ 2097345000
+      → v ≤ mostCost
       → Level b row₂ side₂
       → Level (b + 1) (set row₂ at v) (set side₂ (16 * (h - 1) + b) v)
   unfolding sideAt
@@ -219,7 +220,7 @@ module _ (s : ℕ → ℕ → ℕ) (rows h : ℕ) (row side : List ℕ) where
       before i (inl o) = inl o
       before i (inr o) = inr (omega arith)
 
-      low-cheap : (i : ℕ) → i ≤ 16 * (h - 1) + b → getD (set side₂ (16 * (h - 1) + b) v) i 0 ≤ 2097345000
+      low-cheap : (i : ℕ) → i ≤ 16 * (h - 1) + b → getD (set side₂ (16 * (h - 1) + b) v) i 0 ≤ mostCost
       low-cheap i z = elim (le-or (16 * (h - 1) + b) i) [
         | inl y ↦
             (let e : 16 * (h - 1) + b ≡ i = omega arith in
@@ -312,7 +313,7 @@ module _ (s : ℕ → ℕ → ℕ) (sums ys : List ℕ) (r : Rule) (rows wide : 
       record {
         most = e .most;
         none = e .none;
-        whole = e .whole;
+        full = e .full;
         cut = λ b d z p q n m v w. absurd (omega arith);
         right = λ b d z p q. k .settled b d p q (omega arith);
       }

@@ -19,6 +19,7 @@ use Rattle.sum.specs.Sum.{only, over}
 use Rattle.sum.proofs.Sum.{le-or, over-none, over-last, over-one, over-le, over-same, over-part, over-steps, over-add, over-swap, only-over, only-most, rise}
 use Rattle.outline.specs.Grid.{Grid, Sound, Drawn}
 use Rattle.rule.specs.declared.Rule.{Rule}
+use Rattle.rule.specs.Rules.{limit}
 use Rattle.rule.specs.Charge.{sliverOf, chargeOf}
 use Rattle.piece.specs.Piece.{Piece, box, before, lowSide, highSide, cellSum, cells, insideCells, width, height, left, right, bottom, top, sliver, charge}
 use Rattle.piece.proofs.Cells.{cells-product, sum-horizontal}
@@ -243,7 +244,7 @@ module _ (g : Grid) (r : Rule) (xs ys cs : List ℕ) (sound : Sound g) (drawn : 
   unfolding top width
   top-most b d = span-most (g .x) (sound .x-up) (sound .x-most) (λ i. highSide (g .inside i) d) a c (omega arith)
 
-  pub measured : r .weight ≤ 1000 → Measured u ys r (g .rows) (c - a)
+  pub measured : r .weight ≤ limit → Measured u ys r (g .rows) (c - a)
   measured hw =
       record {
         sums-length = w .long;
@@ -273,7 +274,7 @@ module _ (g : Grid) (r : Rule) (xs ys cs : List ℕ) (sound : Sound g) (drawn : 
           )
 
   pub shot-charge : (b d : ℕ) → b < d → d ≤ g .rows → shotCost u ys r b d ≡ charge g r (box a c b d)
-  unfolding shotCost charge chargeOf sliver sliverOf height
+  unfolding shotCost charge sliver sliverOf height
   shot-charge b d q l =
-      ap (λ n. 1000 + r .weight * n)
+      ap (chargeOf r)
       (ap₂ _+_ (flank-in b d l) (ap₂ only (ap (λ n. ltb n (r .threshold)) (ap₂ _-_ (drawn .y-at d l) (drawn .y-at b (omega arith)))) (ends-at b d q l)))

@@ -21,27 +21,30 @@ use borrow.Author.Tests.{lt-ltb, le-ltb, eqb-true, eqb-false}
 use Rattle.sum.specs.Sum.{only, over}
 use Rattle.sum.proofs.Sum.{le-or, over-last, over-none}
 use Rattle.rule.specs.declared.Rule.{Rule}
+use Rattle.rule.specs.Charge.{chargeOf}
 use Rattle.table.specs.Entry.{pairsBelow, pairCount, pairNo}
 use Rattle.table.specs.Run.{Lowest}
 use Rattle.table.specs.Strip.{countIn, flankIn, endsAt, shotCost, partsAt, Judged, Measured, Recurs}
 use Rattle.table.proofs.Entry
 use Rattle.table.proofs.Run
 
-module _ (w flanks ends height threshold r : ℕ) where
-  pub charge-low : height < threshold → r ≡ 1000 + w * (flanks + ends) → r ≡ 1000 + w * (flanks + only (ltb height threshold) ends)
-  charge-low h e = e ∙ ap (λ t. 1000 + w * (flanks + only t ends)) (sym (lt-ltb height threshold h))
+module _ (r : Rule) (flanks ends height v : ℕ) where
+  pub charge-low : height < r .threshold → v ≡ chargeOf r (flanks + ends)
+      → v ≡ chargeOf r (flanks + only (ltb height (r .threshold)) ends)
+  charge-low h e = e ∙ ap (λ t. chargeOf r (flanks + only t ends)) (sym (lt-ltb height (r .threshold) h))
 
-  pub charge-high : threshold ≤ height → r ≡ 1000 + w * flanks → r ≡ 1000 + w * (flanks + only (ltb height threshold) ends)
+  pub charge-high : r .threshold ≤ height → v ≡ chargeOf r flanks
+      → v ≡ chargeOf r (flanks + only (ltb height (r .threshold)) ends)
   charge-high h e =
-      e ∙ ap (λ n. 1000 + w * n) (omega arith) ∙ ap (λ t. 1000 + w * (flanks + only t ends)) (sym (le-ltb height threshold h))
+      e ∙ ap (chargeOf r) (omega arith) ∙ ap (λ t. chargeOf r (flanks + only t ends)) (sym (le-ltb height (r .threshold) h))
 
-pub shot-at : (sums ys : List ℕ) (r : Rule) (b d flanks top bottom high low v : ℕ) → flanks ≡ flankIn sums b d
-    → bottom ≡ getD sums (16 + b) 0 → top ≡ getD sums (31 + d) 0 → high ≡ getD ys d 0 → low ≡ getD ys b 0
-    → v ≡ 1000 + r .weight * (flanks + only (ltb (high - low) (r .threshold)) (bottom + top))
+pub shot-at : (sums ys : List ℕ) (r : Rule) (b d flanks ends height v : ℕ) → flanks ≡ flankIn sums b d → ends ≡ endsAt sums b d
+    → height ≡ getD ys d 0 - getD ys b 0
+    → v ≡ chargeOf r (flanks + only (ltb height (r .threshold)) ends)
     → v ≡ shotCost sums ys r b d
-unfolding shotCost endsAt
-shot-at sums ys r b d flanks top bottom high low v f g h k l e =
-    e ∙ ap₂ (λ m n. 1000 + r .weight * (m + n)) f (ap₂ (λ m n. only (ltb m (r .threshold)) n) (ap₂ _-_ k l) (ap₂ _+_ g h))
+unfolding shotCost
+shot-at sums ys r b d flanks ends height v f g h e =
+    e ∙ ap₂ (λ m n. chargeOf r (m + n)) f (ap₂ (λ m n. only (ltb m (r .threshold)) n) h g)
 
 -- the sums from row to row
 pub count-none : (sums : List ℕ) (b : ℕ) → countIn sums b (b + 1 - 1) ≡ 0
@@ -123,7 +126,7 @@ judged-cost s sums ys r rows wide row low known b d n m v best l h k en em o j =
     go (inl z) q =
         let e : n ≡ 0 = omega arith in
         j .none e ∙ sym (known .none b d h k (sym en ∙ e))
-    go (inr z) (inl q) = j .whole z q ∙ sym (known .whole b d h k (subst (λ i. 0 < i) en z) (sym en ∙ q ∙ em))
+    go (inr z) (inl q) = j .full z q ∙ sym (known .full b d h k (subst (λ i. 0 < i) en z) (sym en ∙ q ∙ em))
     go (inr z) (inr q) = j .cut z q ∙ known .cut b d l h k (subst (λ i. 0 < i) en z) (λ e. q (en ∙ e ∙ sym em)) best (o z q)
 
 module _ (s : ℕ → ℕ → ℕ) (rows b : ℕ) where
@@ -189,7 +192,7 @@ module _ (s : ℕ → ℕ → ℕ) (rows b : ℕ) where
         record {
           most = known .most;
           none = known .none;
-          whole = known .whole;
+          full = known .full;
           cut =
               λ b′ d′ p q t n m v w. known .cut b′ d′ (omega arith) q t n m v
               (subst (λ i. Lowest (λ k. s b′ k + s k d′) b′ d′ i v) (a .other (pairNo rows b′ d′) (inl (below b′ d′ p q t))) w);
@@ -230,7 +233,7 @@ running-none sums rows wide b first h e =
     }
 
 -- the numbers of the piece between b and d
-pub record Reached (sums : List ℕ) (wide b count cells flanks d : ℕ) : Type 0 where
+pub record Amounts (sums : List ℕ) (wide b count cells flanks d : ℕ) : Type 0 where
   pub counted : count ≡ countIn sums b d
   pub celled : cells ≡ (d - b) * wide
   pub flanked : flanks ≡ flankIn sums b d
@@ -240,8 +243,8 @@ pub record Reached (sums : List ℕ) (wide b count cells flanks d : ℕ) : Type 
 
 module _ (sums ys : List ℕ) (r : Rule) (rows wide b count cells flanks at d : ℕ) (m : Measured sums ys r rows wide)
     (w : Running sums rows wide b count cells flanks at d) (l : d ≤ rows) where
-  pub reached : Reached sums wide b (count + getD sums (d - 1) 0) (cells + wide) (flanks + getD sums (47 + d) 0) d
-  reached =
+  pub amounts : Amounts sums wide b (count + getD sums (d - 1) 0) (cells + wide) (flanks + getD sums (47 + d) 0) d
+  amounts =
       record {
         counted = ec;
         celled = en;
@@ -265,9 +268,9 @@ module _ (sums ys : List ℕ) (r : Rule) (rows wide b count cells flanks at d : 
       record {
         above = omega (arith, w .above);
         within = omega arith;
-        counted = reached .counted ∙ ap (countIn sums b) back;
-        celled = reached .celled ∙ ap (λ n. n * wide) (omega arith);
-        flanked = reached .flanked ∙ ap (flankIn sums b) back;
+        counted = amounts .counted ∙ ap (countIn sums b) back;
+        celled = amounts .celled ∙ ap (λ n. n * wide) (omega arith);
+        flanked = amounts .flanked ∙ ap (flankIn sums b) back;
         placed = omega (arith, w .placed, w .above);
       }
     where
@@ -285,7 +288,7 @@ module _ (sums ys : List ℕ) (r : Rule) (rows wide b count cells flanks at d : 
       → Along s rows b (d + 1) (at + 1) row₀ (set row at v)
   running-along s row₀ row best v long k a o j =
       along-more s rows b sums ys r wide row₀ row k d at (w .above) l (w .placed) a v (omega (arith, running-place))
-      (along-judged s rows b sums ys r wide row₀ row k d at (w .above) l (w .placed) a (count + getD sums (d - 1) 0) (cells + wide) v best (reached .counted) (reached .celled) o j)
+      (along-judged s rows b sums ys r wide row₀ row k d at (w .above) l (w .placed) a (count + getD sums (d - 1) 0) (cells + wide) v best (amounts .counted) (amounts .celled) o j)
 
 -- the lines from the top down
 module _ (s : ℕ → ℕ → ℕ) (sums ys : List ℕ) (r : Rule) (rows wide : ℕ) (row : List ℕ) (b : ℕ) (h : 0 < b) where

@@ -1,8 +1,9 @@
--- The pieces of a strip height by height: those of one height stand side by side, in the order of their low lines.
+-- Inner: the pieces of a strip height by height (nobody has to believe these).
+-- Those of one height stand side by side, in the order of their low lines.
 --
 --   sideAt h b            == where the piece of the height h, in rows of cells, that begins at the y line b stands
 --   cutAt side h b k      == what its two parts cost together, cut k rows above b, by the costs that stand in side
---   Cheap side            == no number in side is above document 01's bound on costs
+--   Cheap side            == no number in side is above `mostCost`, as no cost is
 --   Summed sums rows upto == upto has at d the inside cells of the strip below the y line d, and at 16 + d its exposed flanks there
 --   Raised s sums ys r rows wide row₀ row side h
 --                         == s b d being the costs that recur in row₀: each piece lower than h has its cost in the row and in side,
@@ -14,6 +15,7 @@ use mathlib.Core.Path.{_≡_}
 use mathlib.Core.List.{List}
 use lib.ListN.{length, getD}
 use Rattle.rule.specs.declared.Rule.{Rule}
+use Rattle.piece.specs.Piece.{mostCost}
 use Rattle.table.specs.Entry.{pairNo}
 use Rattle.table.specs.Strip.{countIn, flankIn, Recurs}
 
@@ -24,7 +26,7 @@ unfoldable pub cutAt : List ℕ → ℕ → ℕ → ℕ → ℕ
 cutAt side h b k = getD side (sideAt k b) 0 + getD side (sideAt (h - k) (b + k)) 0
 
 pub record Cheap (side : List ℕ) : Type 0 where
-  pub most : (i : ℕ) → getD side i 0 ≤ 2097345000
+  pub most : (i : ℕ) → getD side i 0 ≤ mostCost
 
 pub record Summed (sums : List ℕ) (rows : ℕ) (upto : List ℕ) : Type 0 where
   pub long : length upto ≡ 32

@@ -1,4 +1,5 @@
--- Runs of numbers in a list, and the least of several: what the steps of the fill say of the numbers that they go over.
+-- Inner: runs of numbers in a list, and the least of several (nobody has to believe these).
+-- The steps of the fill say by them what becomes of the numbers that they go over.
 --
 --   Wrote f at n t u     == u is the list t with f i at the place at + i for each i < n, and as t everywhere else
 --   bare near far len    == the exposed length of a stretch of len nm: len where the cell within (near) is inside and the cell

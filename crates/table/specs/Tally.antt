@@ -1,4 +1,5 @@
--- Tallying a strip: its sums as it grows by a column, and its flanks. `near` is where a column of cells begins: 16 x its number.
+-- Inner: tallying a strip, its sums as it grows by a column, and its flanks (nobody has to believe these).
+-- `near` is where a column of cells begins: 16 x its number.
 --
 --   belowAt cells near j  == the cell below the row j of a column; below the lowest row there is none
 --   beforeAt a            == where the column before the line a begins; column 15, which lies beyond every frame, stands in for the

@@ -1,4 +1,5 @@
--- The vertical cuts of a strip, weighed row by row: the pieces of one x pair stand side by side in the table, a row of `pairs` costs.
+-- Inner: the vertical cuts of a strip, weighed row by row (nobody has to believe these).
+-- The pieces of one x pair stand side by side in the table, a row of `pairs` costs.
 --
 --   parted t columns pairs a c i j  == what the table t has for the two parts of the i-th piece between the x lines a and c,
 --                                      cut at the line j

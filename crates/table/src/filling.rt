@@ -11,7 +11,7 @@ ghost use Prim.Native.Nat.{ℕ, suc, _+_, _*_, _-_, _<_, _≤_, _^_};
 ghost use lib.ListN.{length, getD, drop};
 ghost use Rattle.outline.specs.Grid.{stored};
 ghost use Rattle.table.specs.Entry.{pairsBelow, pairCount, pairNo, entryCount, costs};
-ghost use Rattle.table.specs.Fill.{Ready, Tallied, Filled, Advanced, Past};
+ghost use Rattle.table.specs.Fill.{Ready, Tallied, Reached, Advanced, Beyond};
 ghost use Rattle.table.specs.Strip.{Measured, Recurs, Solvable};
 ghost use Rattle.table.specs.Vertical.{parted, Lowered, rowOf, Beside};
 
@@ -56,7 +56,7 @@ fn fill_strip(
     requires { ⌜ Ready (stored columns rows (now xs) (now ys) (now cells)) rule (now xs) (now ys) (now cells) (now table) ⌝ }
     requires { ⌜ (a .0 < c .0) × ((c .0 ≤ columns) × ((first ≡ pairsBelow columns (a .0)) × (pairs ≡ pairCount rows))) ⌝ }
     requires { ⌜ Tallied (stored columns rows (now xs) (now ys) (now cells)) (a .0) (c .0 - 1) (now sums) ⌝ }
-    requires { ⌜ Filled (stored columns rows (now xs) (now ys) (now cells)) rule (now table) (a .0) (c .0) ⌝ }
+    requires { ⌜ Reached (stored columns rows (now xs) (now ys) (now cells)) rule (now table) (a .0) (c .0) ⌝ }
     ensures { λ _. ⌜ Advanced (stored columns rows (now (xs .entry)) (now (ys .entry)) (now (cells .entry))) rule (a .0) (c .0) (now (table .entry)) (now (table .exit)) (now (sums .exit)) ⌝ }
 {
     let low = a.0;
@@ -93,9 +93,9 @@ fn fill_from(
 )
     requires { ⌜ Ready (stored columns rows (now xs) (now ys) (now cells)) rule (now xs) (now ys) (now cells) (now table) ⌝ }
     requires { ⌜ (a .0 < columns) × ((first ≡ pairsBelow columns (a .0)) × (pairs ≡ pairCount rows)) ⌝ }
-    requires { ⌜ Filled (stored columns rows (now xs) (now ys) (now cells)) rule (now table) (a .0) (a .0 + 1) ⌝ }
-    ensures { λ _. ⌜ Filled (stored columns rows (now (xs .entry)) (now (ys .entry)) (now (cells .entry))) rule (now (table .exit)) (a .0) (columns + 1) ⌝ }
-    ensures { λ _. ⌜ Past (entryCount columns rows) (now (table .entry)) (now (table .exit)) ⌝ }
+    requires { ⌜ Reached (stored columns rows (now xs) (now ys) (now cells)) rule (now table) (a .0) (a .0 + 1) ⌝ }
+    ensures { λ _. ⌜ Reached (stored columns rows (now (xs .entry)) (now (ys .entry)) (now (cells .entry))) rule (now (table .exit)) (a .0) (columns + 1) ⌝ }
+    ensures { λ _. ⌜ Beyond (entryCount columns rows) (now (table .entry)) (now (table .exit)) ⌝ }
 {
     let low = a.0;
     let mut sums = [0u32; 64];
@@ -120,7 +120,7 @@ fn fill_from(
 }
 
 // Fills the table with the cost of every piece of the grid, in the order of entries. What it held there has no influence, and what lies
-// past the entries stays as it was.
+// beyond the entries stays as it was.
 pub fn fill(
     xs: &[u16],
     ys: &[u16],

@@ -1,7 +1,7 @@
 // Settling a row height by height: the pieces of one height stand side by side, so that a cut of all of them is weighed at once. `side`
 // has the cost of the piece of height h (in rows of cells) that begins at the y line b at 16 * (h - 1) + b.
+use crate::charging;
 use crate::runs;
-use crate::settling;
 use outline::Line;
 use rule::Rule;
 ghost use mathlib.Core.Path.{_≡_};
@@ -101,7 +101,7 @@ fn settle_height(
         let count = upto[d] - upto[b];
         let flanks = upto[16 + d] - upto[16 + b];
         let cut = runs::lesser(row[at], best[b]);
-        let cost = settling::settle_piece(
+        let cost = charging::settle_piece(
             ys,
             sums,
             rule,

@@ -1,8 +1,9 @@
 // The cost table: the entry of each piece, and the fill.
+mod charging;
 pub mod filling;
-pub mod heights;
+mod heights;
 pub mod numbering;
-pub mod runs;
-pub mod settling;
-pub mod tallying;
-pub mod weighing;
+mod runs;
+mod settling;
+mod tallying;
+mod weighing;

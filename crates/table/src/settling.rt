@@ -1,85 +1,15 @@
 // Settling a row: the costs of the pieces of a strip, from the sums of its cells and the least of their vertical cuts.
+use crate::charging;
 use crate::heights;
 use crate::runs;
 use outline::Line;
 use rule::Rule;
 ghost use mathlib.Core.Path.{_≡_};
-ghost use Prim.Native.Nat.{ℕ, _+_, _*_, _-_, _<_, _≤_, _^_};
-ghost use lib.Dec.{ltb};
-ghost use lib.ListN.{length, getD};
-ghost use Rattle.sum.specs.Sum.{only};
+ghost use Prim.Native.Nat.{ℕ, _+_, _-_, _<_, _≤_, _^_};
+ghost use lib.ListN.{length};
 ghost use Rattle.table.specs.Entry.{pairsBelow, pairCount};
 ghost use Rattle.table.specs.Run.{Lowest};
-ghost use Rattle.table.specs.Strip.{flankIn, endsAt, shotCost, partsAt, Judged, Measured, Recurs, Solvable};
-
-// What a shot with so many nm of sliver costs, in thousandths of a shot.
-fn shot_cost(sliver: u32, weight: u32) -> u32
-    requires { ⌜ (sliver ≤ 262140) × (weight ≤ 1000) ⌝ }
-    ensures { λ r. ⌜ r ≡ 1000 + weight * sliver ⌝ }
-{
-    1000 + weight * sliver
-}
-
-// A place, to reckon with.
-fn wide(place: u16) -> u32
-    ensures { λ r. ⌜ r ≡ place ⌝ }
-{
-    place as u32
-}
-
-// The charge of a full piece: bottom and top count where its height is below the threshold.
-fn charge(flanks: u32, ends: u32, height: u32, rule: Rule) -> u32
-    requires { ⌜ (flanks ≤ 131070) × ((ends ≤ 131070) × (rule .weight ≤ 1000)) ⌝ }
-    ensures { λ r. ⌜ r ≡ 1000 + rule .weight * (flanks + only (ltb height (rule .threshold)) ends) ⌝ }
-{
-    let threshold = rule.threshold;
-    let weight = rule.weight;
-    if height < threshold {
-        shot_cost(flanks + ends, weight)
-    } else {
-        shot_cost(flanks, weight)
-    }
-}
-
-// The charge of the piece between the y lines b and d of a strip.
-fn charge_at(ys: &[u16], sums: &[u32], rule: Rule, b: Line, d: Line, flanks: u32) -> u32
-    requires { ⌜ (length (now ys) ≡ 16) × ((length (now sums) ≡ 64) × (rule .weight ≤ 1000)) ⌝ }
-    requires { ⌜ (b .0 < d .0) × ((d .0 ≤ 15) × (getD (now ys) (b .0) 0 ≤ getD (now ys) (d .0) 0)) ⌝ }
-    requires { ⌜ (flanks ≡ flankIn (now sums) (b .0) (d .0)) × ((flanks ≤ 131070) × (endsAt (now sums) (b .0) (d .0) ≤ 131070)) ⌝ }
-    ensures { λ r. ⌜ r ≡ shotCost (now (sums .entry)) (now (ys .entry)) rule (b .0) (d .0) ⌝ }
-{
-    let low = b.0;
-    let high = d.0;
-    let ends = sums[16 + low] + sums[31 + high];
-    let height = wide(ys[high]) - wide(ys[low]);
-    charge(flanks, ends, height, rule)
-}
-
-// The cost of the piece between the y lines b and d, which has `count` inside cells of `cells` and whose best cut costs `best`.
-pub fn settle_piece(
-    ys: &[u16],
-    sums: &[u32],
-    rule: Rule,
-    b: Line,
-    d: Line,
-    count: u32,
-    cells: u32,
-    flanks: u32,
-    best: u32,
-) -> u32
-    requires { ⌜ (length (now ys) ≡ 16) × ((length (now sums) ≡ 64) × (rule .weight ≤ 1000)) ⌝ }
-    requires { ⌜ (b .0 < d .0) × ((d .0 ≤ 15) × (getD (now ys) (b .0) 0 ≤ getD (now ys) (d .0) 0)) ⌝ }
-    requires { ⌜ (flanks ≡ flankIn (now sums) (b .0) (d .0)) × ((flanks ≤ 131070) × (endsAt (now sums) (b .0) (d .0) ≤ 131070)) ⌝ }
-    ensures { λ r. ⌜ Judged count cells (shotCost (now (sums .entry)) (now (ys .entry)) rule (b .0) (d .0)) best r ⌝ }
-{
-    if count == 0 {
-        return 0;
-    }
-    if count == cells {
-        return charge_at(ys, sums, rule, b, d, flanks);
-    }
-    best
-}
+ghost use Rattle.table.specs.Strip.{partsAt, Measured, Recurs, Solvable};
 
 // The least of `best` and of the horizontal cuts of the piece between the y lines b and d, by the costs of their parts in the row.
 // `first` is the number of the first pair whose low line is b. `upper` runs two past the high part, so that it is never below 0.
@@ -155,7 +85,7 @@ fn settle_from(
         cells += wide;
         flanks += sums[47 + d];
         let cut = best_cut(row, rows, b, Line(d), first, row[at], count, cells);
-        row[at] = settle_piece(ys, sums, rule, b, Line(d), count, cells, flanks, cut);
+        row[at] = charging::settle_piece(ys, sums, rule, b, Line(d), count, cells, flanks, cut);
         at += 1;
         d += 1;
     }

@@ -1,6 +1,7 @@
 // Tallying a strip: the sums of its rows of cells, as it grows by a column, and its exposed flanks.
 use crate::runs;
 use outline::Line;
+use outline::place_of;
 ghost use mathlib.Core.Path.{_≡_};
 ghost use Prim.Native.Nat.{ℕ, suc, _+_, _*_, _-_, _<_, _≤_};
 ghost use lib.Dec.{ltb};
@@ -9,15 +10,13 @@ ghost use Rattle.table.specs.Run.{Wrote};
 ghost use Rattle.table.specs.Tally.{belowAt, beforeAt, Spare, CellAdded, ColumnAdded, flankOf, FlanksMeasured};
 
 // From the place of one line to that of a higher one, in nm.
-fn span(lines: &[u16], from: Line, to: Line) -> u32
+pub fn span(lines: &[u16], from: Line, to: Line) -> u32
     requires { ⌜ (from .0 < length (now lines)) × ((to .0 < length (now lines)) × (getD (now lines) (from .0) 0 ≤ getD (now lines) (to .0) 0)) ⌝ }
     ensures { λ r. ⌜ (r ≡ getD (now (lines .entry)) (to .0) 0 - getD (now (lines .entry)) (from .0) 0) × (r ≤ 65535) ⌝ }
 {
-    let first = from.0;
-    let last = to.0;
-    let low = lines[first] as u32;
-    let high = lines[last] as u32;
-    high - low
+    let low = place_of(lines, from);
+    let high = place_of(lines, to);
+    (high.0 - low.0) as u32
 }
 
 // Adds a cell to the sums of the row j: it counts where it is inside, and its bottom and top where the cells below and above are not.

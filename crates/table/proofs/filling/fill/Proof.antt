@@ -4,15 +4,15 @@ use mathlib.Core.Path.{_≡_}
 use native.Mathlib.Omega.{arith}
 use Rattle.outline.specs.Grid.{stored}
 use Rattle.table.specs.Entry.{pairsBelow, entryCount}
-use Rattle.table.specs.Fill.{Filled, Past}
+use Rattle.table.specs.Fill.{Reached, Beyond}
 use Rattle.table.proofs.Strip.{first-all, first-back, first-enough}
-use Rattle.table.proofs.Fill.{past-none, past-trans, ready-later, fill-limits, fill-none, fill-back, fill-all}
+use Rattle.table.proofs.Fill.{beyond-none, beyond-trans, ready-later, fill-limits, fill-none, fill-back, fill-all}
 use borrow.Author.Needs.{needs}
 use Rattle.table.proofs.filling.fill.Statement.{statement}
 use Rattle.table.proofs.filling.fill.Tie as tie
 
 abbrev Inv-loop : tie.InvT-loop
-Inv-loop xs ys cells columns rows rule table₀ pairs first₀ a₀ table first a = (a ≤ columns) × ((first ≡ pairsBelow columns a) × (Filled (stored columns rows xs ys cells) rule table a (columns + 1) × Past (entryCount columns rows) table₀ table))
+Inv-loop xs ys cells columns rows rule table₀ pairs first₀ a₀ table first a = (a ≤ columns) × ((first ≡ pairsBelow columns a) × (Reached (stored columns rows xs ys cells) rule table a (columns + 1) × Beyond (entryCount columns rows) table₀ table))
 
 abbrev μ-loop : tie.MeasureT-loop
 μ-loop xs ys cells columns rows rule table₀ pairs first₀ a₀ table first a = a
@@ -26,7 +26,7 @@ pair-count-requires-2 c κs = fill-limits _ _ _ _ _ _ _ (c .before .before .befo
 loop-holds : tie.Need-loop-holds Inv-loop μ-loop
 loop-holds c =
     let s = c .before .before .before .before .before .before in
-    (omega arith, (first-all _ _ (c .pair-count2 .ensures .0), (fill-none _ _ _ _ _ _ _ (s .pre), past-none _ _)))
+    (omega arith, (first-all _ _ (c .pair-count2 .ensures .0), (fill-none _ _ _ _ _ _ _ (s .pre), beyond-none _ _)))
 
 sub-a : tie.Need-sub-a Inv-loop μ-loop
 sub-a c = search needs
@@ -55,7 +55,7 @@ loop-again c =
     let l = c .before .before .before .before .before .loop in
     let t = c .before .before .before .before .loop-test .taken in
     let e = c .before .before .fill-from .ensures in
-    (omega arith, (first-back _ _ _ t (l .inv .1 .0), (e .0, past-trans _ _ _ _ (l .inv .1 .1 .1) (e .1))))
+    (omega arith, (first-back _ _ _ t (l .inv .1 .0), (e .0, beyond-trans _ _ _ _ (l .inv .1 .1 .1) (e .1))))
 
 same-length : tie.Need-same-length Inv-loop μ-loop
 same-length c = c .before .loop .inv .1 .1 .1 .long

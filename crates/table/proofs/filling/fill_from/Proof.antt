@@ -5,14 +5,14 @@ use mathlib.Core.Path.{refl}
 use native.Mathlib.Omega.{arith}
 use Rattle.outline.specs.Grid.{stored}
 use Rattle.table.specs.Entry.{entryCount}
-use Rattle.table.specs.Fill.{Tallied, Filled, Past}
-use Rattle.table.proofs.Fill.{past-none, past-trans, ready-later, filled-at, from-none, from-tallied, from-past, fill-limits, allZero}
+use Rattle.table.specs.Fill.{Tallied, Reached, Beyond}
+use Rattle.table.proofs.Fill.{beyond-none, beyond-trans, ready-later, reached-at, from-none, from-tallied, from-beyond, fill-limits, allZero}
 use borrow.Author.Needs.{needs}
 use Rattle.table.proofs.filling.fill_from.Statement.{statement}
 use Rattle.table.proofs.filling.fill_from.Tie as tie
 
 abbrev Inv-loop : tie.InvT-loop
-Inv-loop xs ys cells columns rows rule a first pairs table₀ low sums₀ c₀ table sums c = (a .0 < c) × ((c ≤ columns + 1) × (Tallied (stored columns rows xs ys cells) (a .0) (c - 1) sums × (Filled (stored columns rows xs ys cells) rule table (a .0) c × Past (entryCount columns rows) table₀ table)))
+Inv-loop xs ys cells columns rows rule a first pairs table₀ low sums₀ c₀ table sums c = (a .0 < c) × ((c ≤ columns + 1) × (Tallied (stored columns rows xs ys cells) (a .0) (c - 1) sums × (Reached (stored columns rows xs ys cells) rule table (a .0) c × Beyond (entryCount columns rows) table₀ table)))
 
 abbrev μ-loop : tie.MeasureT-loop
 μ-loop xs ys cells columns rows rule a first pairs table₀ low sums₀ c₀ table sums c = columns + 1 - c
@@ -24,7 +24,7 @@ loop-holds : tie.Need-loop-holds Inv-loop μ-loop
 unfolding allZero
 loop-holds c =
     let s = c .before .before .before .before in
-    (omega arith, (omega arith, (from-none _ _ _ _ _ _ _ (s .pre .0) _ _ refl refl, (s .pre .1 .1, past-none _ _))))
+    (omega arith, (omega arith, (from-none _ _ _ _ _ _ _ (s .pre .0) _ _ refl refl, (s .pre .1 .1, beyond-none _ _))))
 
 slice-aggregate-fill-strip : tie.Need-slice-aggregate-fill-strip Inv-loop μ-loop
 slice-aggregate-fill-strip c = search needs
@@ -54,7 +54,7 @@ loop-again c =
         omega (arith, c .before .before .before .before .before .before .loop-test .taken),
         (
           from-tallied _ _ _ _ _ _ _ (s .pre .0) _ _ _ _ _ e,
-          (e .filled, past-trans _ _ _ _ (l .inv .1 .1 .1 .1) (from-past _ _ _ _ _ _ _ (s .pre .0) _ _ _ _ _ e)),
+          (e .reached, beyond-trans _ _ _ _ (l .inv .1 .1 .1 .1) (from-beyond _ _ _ _ _ _ _ (s .pre .0) _ _ _ _ _ e)),
         ),
       ),
     )
@@ -65,7 +65,7 @@ same-length c = c .before .loop .inv .1 .1 .1 .1 .long
 returns : tie.Need-returns Inv-loop μ-loop
 returns c =
     let l = c .before .loop in
-    (filled-at _ _ _ _ _ _ (omega (arith, l .inv .1 .0, c .loop-test .left)) (l .inv .1 .1 .1 .0), l .inv .1 .1 .1 .1)
+    (reached-at _ _ _ _ _ _ (omega (arith, l .inv .1 .0, c .loop-test .left)) (l .inv .1 .1 .1 .0), l .inv .1 .1 .1 .1)
 
 pub fill-from-spec : {M : Type 1} → statement M
 fill-from-spec =

@@ -5,7 +5,7 @@ use native.Mathlib.Omega.{arith}
 use lib.ListN.{length, length-set}
 use Rattle.table.specs.Strip.{Recurs}
 use Rattle.table.proofs.Entry.{count-most}
-use Rattle.table.proofs.Strip.{Running, running-none, reached, running-more, running-place, running-along, Along, along-none, along-fits, along-all}
+use Rattle.table.proofs.Strip.{Running, running-none, amounts, running-more, running-place, running-along, Along, along-none, along-fits, along-all}
 use borrow.Author.Needs.{needs}
 use Rattle.table.proofs.settling.settle_from.Statement.{statement}
 use Rattle.table.proofs.settling.settle_from.Tie as tie
@@ -39,7 +39,7 @@ add-count c =
     let s = c .before .before .before .before .before .before in
     let l = c .before .before .loop in
     let t = c .before .loop-test .taken in
-    let r = reached _ _ _ _ _ _ _ _ _ _ _ (s .pre .0) (l .inv .0) t in
+    let r = amounts _ _ _ _ _ _ _ _ _ _ _ (s .pre .0) (l .inv .0) t in
     omega arith
 
 add-cells : tie.Need-add-cells Inv-loop μ-loop
@@ -47,7 +47,7 @@ add-cells c =
     let s = c .before .before .before .before .before .before in
     let l = c .before .before .loop in
     let t = c .before .loop-test .taken in
-    let r = reached _ _ _ _ _ _ _ _ _ _ _ (s .pre .0) (l .inv .0) t in
+    let r = amounts _ _ _ _ _ _ _ _ _ _ _ (s .pre .0) (l .inv .0) t in
     omega arith
 
 add-flanks : tie.Need-add-flanks Inv-loop μ-loop
@@ -64,7 +64,7 @@ add-flanks-2 c =
     let s = c .before .before .before .before .before .before .before in
     let l = c .before .before .before .loop in
     let t = c .before .before .loop-test .taken in
-    let r = reached _ _ _ _ _ _ _ _ _ _ _ (s .pre .0) (l .inv .0) t in
+    let r = amounts _ _ _ _ _ _ _ _ _ _ _ (s .pre .0) (l .inv .0) t in
     omega arith
 
 mul-best-cut : tie.Need-mul-best-cut Inv-loop μ-loop
@@ -97,7 +97,7 @@ settle-piece-requires c κs =
     let s = c .before .before .before .before .before .before .before .before .before in
     let l = c .before .before .before .before .before .loop in
     let t = c .before .before .before .before .loop-test .taken in
-    let r = reached _ _ _ _ _ _ _ _ _ _ _ (s .pre .0) (l .inv .0) t in
+    let r = amounts _ _ _ _ _ _ _ _ _ _ _ (s .pre .0) (l .inv .0) t in
     let m = s .pre .0 in (
       (m .ys-length, (m .sums-length, m .weight-most)),
       ((l .inv .0 .above, (omega (arith, m .rows-most), m .ys-up _ _ (l .inv .0 .above) t)), (r .flanked, (r .flanks-most, m .ends-most _ _ (l .inv .0 .above) t))),

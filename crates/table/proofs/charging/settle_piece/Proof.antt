@@ -1,7 +1,7 @@
--- `table::settling::settle_piece` meets its contract. Assumes nothing.
+-- `table::charging::settle_piece` meets its contract. Assumes nothing.
 use borrow.Author.Needs.{needs}
-use Rattle.table.proofs.settling.settle_piece.Statement.{statement}
-use Rattle.table.proofs.settling.settle_piece.Tie as tie
+use Rattle.table.proofs.charging.settle_piece.Statement.{statement}
+use Rattle.table.proofs.charging.settle_piece.Tie as tie
 
 returns : tie.Need-returns
 returns c = search needs
