@@ -1,7 +1,6 @@
 -- Laws of the promises said of lent numbers. Assumes nothing.
 --
 --   renumbered        == a refusal said by its number, where the number is known
---   reason-lent       == the number of a refused fracture and the shots beside it, where its case is known
 --   outline-fault     == a job that is refused as a whole refuses outline k
 --   outline-missing   == 13, for k not below the count of a sound job
 --   outline-part      == where outline k of a sound job stands
@@ -11,10 +10,9 @@ use mathlib.Core.List.{List}
 use native.Mathlib.Omega.{arith}
 use lib.ListN.{length, getD}
 use borrow.Author.Tests.{le-ltb, lt-ltb}
-use Rattle.number.specs.declared.Refusal.{Refusal}
-use Rattle.fracture.specs.declared.Refusal as refused
-use Rattle.fracture.specs.Told.{reason}
-use Rattle.number.specs.Reading.{read, fault, refusalNo}
+use Rattle.refusal.specs.declared.Refusal.{Refusal}
+use Rattle.refusal.specs.Refusals.{refusalNo}
+use Rattle.number.specs.Reading.{read, fault}
 use Rattle.job.specs.Job.{Header, Job, job}
 use Rattle.job.specs.Steps.{whole, located}
 use Rattle.job.specs.Calls.{noPart}
@@ -24,22 +22,19 @@ use Rattle.capi.specs.Lent.{OutlineSaid, outlineLent, jobPart, partSaid,
 pub renumbered : {A : Type 0} (said : ℕ → A) {n m : ℕ} {b : A} → n ≡ m → said m ≡ b → said n ≡ b
 renumbered said e f = ap said e ∙ f
 
-pub reason-lent : {why x : refused.Refusal} → why ≡ x → (reason x .0 ≡ reason why .0) × (reason x .1 ≡ reason why .1)
-reason-lent e = (ap (λ y. reason y .0) (sym e), ap (λ y. reason y .1) (sym e))
-
 module _ (s : List ℕ) (k : ℕ) where
   pub outline-fault : {r : Refusal} {p n : ℕ} → fault r p ≡ whole s → n ≡ refusalNo r → outlineLent n 0 0 p ≡ outlineSaid s k
   unfolding outlineSaid
   outline-fault {r} {p} e f = ap (λ n. outlineLent n 0 0 p) f ∙ sym (ap (jobPart k) (fault-whole s e))
 
   module _ {h : Header} {next : ℕ} (e : read h next ≡ whole s) where
-    pub outline-missing : h .count ≤ k → outlineLent 13 0 0 0 ≡ outlineSaid s k
+    pub outline-missing : {n : ℕ} → h .count ≤ k → n ≡ 13 → outlineLent n 0 0 0 ≡ outlineSaid s k
     unfolding outlineSaid
-    outline-missing c =
+    outline-missing c no =
         let w = read-whole s e in
         let j = job-said s (w .2) (w .3) in
         let p : outlineLent 13 0 0 0 ≡ jobPart k (read (w .0) (w .1)) = simp (le-ltb k (length (w .0 .parts)) (omega arith)) in
-        p ∙ sym (ap (jobPart k) (w .2))
+        ap (λ n. outlineLent n 0 0 0) no ∙ p ∙ sym (ap (jobPart k) (w .2))
 
     pub outline-part : {start end : ℕ} → k < h .count → read start end ≡ located s k next
         → outlineLent 0 start (end - start) 0 ≡ outlineSaid s k

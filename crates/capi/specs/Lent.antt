@@ -1,4 +1,4 @@
--- The promises of the calls, said of the numbers that the C interface lends them. A slice is lent as it is; a part of a job is told
+-- To believe: the promises of the calls, said of the numbers that the C interface lends them. A slice is lent as it is; a part of a job is told
 -- by where it starts and how long it is.
 --
 --   presetLent n t w           == the number returned, and the threshold and weight lent
@@ -14,8 +14,9 @@ use lib.Dec.{ltb}
 use lib.ListN.{length, getD}
 use Rattle.rule.specs.Rules.{Told}
 use Rattle.demands.specs.Promise.{Outcome}
-use Rattle.number.specs.Reading.{Reading, read, fault, refusalNo}
-use Rattle.number.specs.declared.Refusal.the-variants.{Missing}
+use Rattle.refusal.specs.declared.Refusal.the-variants.{Missing}
+use Rattle.refusal.specs.Refusals.{refusalNo}
+use Rattle.number.specs.Reading.{Reading, read, fault}
 use Rattle.job.specs.Job.{Job, Part, job}
 use Rattle.job.specs.Calls.{CheckSaid, UnpackSaid, WriteSaid, noPart}
 

@@ -1,29 +1,28 @@
 // The C interface, as include/pinarewhemi.h declares it. Each function returns the refusal's number, 0 on success, and writes
 // every number that it is lent on every path; its promise is that of its call, said of these numbers.
 use fracture::Fractured;
-use fracture::Refusal;
 use job::read;
 use job::read::Checked;
 use job::read::Head;
-use job::read::Place;
+use job::read::Located;
 use job::unpack;
 use job::unpack::Unpacked;
 use job::write;
-use job::write::Unwritable;
 use job::write::Written;
 use number::Cursor;
 use number::Read;
-use number::refusal_no;
+use refusal::Refusal;
+use refusal::refusal_no;
 use rule::Preset;
 use rule::Rule;
 ghost use mathlib.Core.Path.{_≡_};
 ghost use mathlib.Core.List.{List};
 ghost use Prim.Native.Nat.{ℕ};
 ghost use Rattle.rule.specs.Rules.{presetTold};
-ghost use Rattle.demands.specs.Promise.{outcome};
-ghost use Rattle.fracture.specs.Told.{told, reason};
+ghost use Rattle.demands.specs.Promise.{asked, outcome};
+ghost use Rattle.fracture.specs.Told.{told};
 ghost use Rattle.number.specs.Number.{number as readNumber};
-ghost use Rattle.job.specs.Calls.{checked, unpacked, headerWritten, outlineWritten, unwritableNo};
+ghost use Rattle.job.specs.Calls.{checked, unpacked, headerWritten, outlineWritten};
 ghost use Rattle.capi.specs.Lent.{presetLent, numberLent, numberSaid, checkLent, outlineLent, outlineSaid, unpackLent, writeLent, fractureLent};
 
 // The rule of a preset, or 15.
@@ -37,29 +36,10 @@ pub extern "C" fn pw_preset(number: u32, threshold: &mut u32, weight: &mut u32) 
             *weight = row.weight;
             0
         }
-        Preset::Unknown => {
+        Preset::Refused(why) => {
             *threshold = 0;
             *weight = 0;
-            15
-        }
-    }
-}
-
-// Document 01's number of a refused fracture; the shots needed are lent on.
-fn refuse(why: Refusal, shots: &mut u32) -> u32
-    ensures { λ r. ⌜ (r ≡ reason why .0) × (now (shots .exit) ≡ reason why .1) ⌝ }
-{
-    *shots = 0;
-    match why {
-        Refusal::Rule => 1,
-        Refusal::Length => 2,
-        Refusal::Slanted => 3,
-        Refusal::Straight => 4,
-        Refusal::Empty => 5,
-        Refusal::Table => 6,
-        Refusal::List(needed) => {
-            *shots = needed;
-            7
+            refusal_no(why)
         }
     }
 }
@@ -79,10 +59,11 @@ fn lend(answer: Fractured, shots: &mut u32, cost: &mut u32, sliver: &mut u32) ->
             *sliver = v;
             0
         }
-        Fractured::Refused(why) => {
+        Fractured::Refused(why, needed) => {
+            *shots = needed;
             *cost = 0;
             *sliver = 0;
-            refuse(why, shots)
+            refusal_no(why)
         }
     }
 }
@@ -99,7 +80,7 @@ pub extern "C" fn pw_fracture(
     cost: &mut u32,
     sliver: &mut u32,
 ) -> u32
-    ensures settled { λ r. ⌜ fractureLent r (now (shots .exit)) (now (cost .exit)) (now (sliver .exit)) (now (table .exit)) (now (list .exit)) ≡ outcome (now (corners .entry)) threshold weight (now (table .entry)) (now (list .entry)) ⌝ }
+    ensures settled { λ r. ⌜ fractureLent r (now (shots .exit)) (now (cost .exit)) (now (sliver .exit)) (now (table .exit)) (now (list .exit)) ≡ outcome (asked (now (corners .entry)) threshold weight (now (table .entry)) (now (list .entry))) ⌝ }
 {
     let answer = fracture::fracture(corners, threshold, weight, table, list);
     lend(answer, shots, cost, sliver)
@@ -115,7 +96,7 @@ pub extern "C" fn pw_fracture_default(
     cost: &mut u32,
     sliver: &mut u32,
 ) -> u32
-    ensures settled { λ r. ⌜ fractureLent r (now (shots .exit)) (now (cost .exit)) (now (sliver .exit)) (now (table .exit)) (now (list .exit)) ≡ outcome (now (corners .entry)) (presetTold 0 .threshold) (presetTold 0 .weight) (now (table .entry)) (now (list .entry)) ⌝ }
+    ensures settled { λ r. ⌜ fractureLent r (now (shots .exit)) (now (cost .exit)) (now (sliver .exit)) (now (table .exit)) (now (list .exit)) ≡ outcome (asked (now (corners .entry)) (presetTold 0 .threshold) (presetTold 0 .weight) (now (table .entry)) (now (list .entry))) ⌝ }
 {
     let answer = fracture::fracture_default(corners, table, list);
     lend(answer, shots, cost, sliver)
@@ -208,14 +189,14 @@ pub extern "C" fn pw_job_outline(
             next,
         } => {
             if count as usize <= k {
-                return 13;
+                return refusal_no(Refusal::Missing);
             }
             match read::locate(job, next, k) {
-                Place::Fault(r, p) => {
+                Located::Fault(r, p) => {
                     *offset = p;
                     refusal_no(r)
                 }
-                Place::Part(from, to) => {
+                Located::Part(from, to) => {
                     *start = from;
                     *length = to - from;
                     0
@@ -249,18 +230,6 @@ pub extern "C" fn pw_unpack(
     }
 }
 
-// Document 01's number of what a writer refuses.
-fn unwritable_no(u: Unwritable) -> u32
-    ensures { λ n. ⌜ n ≡ unwritableNo u ⌝ }
-{
-    match u {
-        Unwritable::Rule => 1,
-        Unwritable::Length => 2,
-        Unwritable::Outlines => 10,
-        Unwritable::Room => 14,
-    }
-}
-
 // How many bytes of a header were written; or 1, 10, 14.
 #[no_mangle]
 pub extern "C" fn pw_write_header(
@@ -278,7 +247,7 @@ pub extern "C" fn pw_write_header(
             *written = n;
             0
         }
-        Written::Refused(u) => unwritable_no(u),
+        Written::Refused(why) => refusal_no(why),
     }
 }
 
@@ -289,10 +258,10 @@ pub extern "C" fn pw_write_outline(corners: &[u16], out: &mut [u8], written: &mu
 {
     *written = 0;
     match write::write_outline(corners, out) {
-        Written::Bytes(n) => {
-            *written = n;
+        Written::Bytes(size) => {
+            *written = size;
             0
         }
-        Written::Refused(u) => unwritable_no(u),
+        Written::Refused(why) => refusal_no(why),
     }
 }

@@ -5,8 +5,8 @@ use job::read::Checked;
 use job::unpack;
 use job::unpack::Unpacked;
 use libc::STDOUT_FILENO;
-use number::Refusal;
-use number::refusal_no;
+use refusal::Refusal;
+use refusal::refusal_no;
 
 // What a fracture answers, as it is printed: document 01's number, and the shots, their cost and their sliver length.
 struct Answer {
@@ -77,25 +77,6 @@ fn print_refused(r: Refusal, at: usize) {
     print(b"\n");
 }
 
-// A refused fracture, by document 01's number.
-fn refused(why: fracture::Refusal) -> Answer {
-    let number = match why {
-        fracture::Refusal::Rule => 1,
-        fracture::Refusal::Length => 2,
-        fracture::Refusal::Slanted => 3,
-        fracture::Refusal::Straight => 4,
-        fracture::Refusal::Empty => 5,
-        fracture::Refusal::Table => 6,
-        fracture::Refusal::List(_) => 7,
-    };
-    Answer {
-        number,
-        shots: 0,
-        cost: 0,
-        sliver: 0,
-    }
-}
-
 // Fractures one outline.
 fn fracture_outline(
     corners: &[u16],
@@ -115,7 +96,12 @@ fn fracture_outline(
             cost,
             sliver,
         },
-        Fractured::Refused(why) => refused(why),
+        Fractured::Refused(why, _) => Answer {
+            number: refusal_no(why),
+            shots: 0,
+            cost: 0,
+            sliver: 0,
+        },
     }
 }
 

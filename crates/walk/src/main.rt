@@ -167,7 +167,7 @@ fn answer(corners: &[u16], threshold: u32, weight: u32, table: &mut [u32], list:
             text(b"\n");
             shots(list, count);
         }
-        Fractured::Refused(_) => {
+        Fractured::Refused(_, _) => {
             text(b": refused\n");
         }
     }

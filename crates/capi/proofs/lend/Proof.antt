@@ -1,5 +1,5 @@
 -- `lend` meets its contract: it lends on what each answer of a fracture tells. Assumes nothing.
-use mathlib.Core.Path.{_∙_, sym, ap, ap₂}
+use mathlib.Core.Path.{_∙_, sym, ap}
 use Rattle.fracture.specs.Told.{told}
 use Rattle.capi.specs.Lent.{fractureLent}
 use borrow.Author.Needs.{needs}
@@ -12,8 +12,8 @@ enum-known-answer c = search needs
 enum-known-answer-2 : tie.Need-enum-known-answer-2
 enum-known-answer-2 c = search needs
 
-refuse-requires : tie.Need-refuse-requires
-refuse-requires c κs = search needs
+refusal-no-requires : tie.Need-refusal-no-requires
+refusal-no-requires c κs = search needs
 
 returns : tie.Need-returns
 unfolding told
@@ -21,8 +21,8 @@ returns c = λ table list. sym (ap (λ a. told a table list) (c .before .answer 
 
 returns-2 : tie.Need-returns-2
 unfolding told
-returns-2 c = λ table list. ap₂ (λ n m. fractureLent n m 0 0 table list) (c .refuse .ensures .0) (c .refuse .ensures .1) ∙ sym (ap (λ a. told a table list) (c .before .before .before .answer2 .given .1))
+returns-2 c = λ table list. ap (λ n. fractureLent n _ 0 0 table list) (c .refusal-no .ensures) ∙ sym (ap (λ a. told a table list) (c .before .before .answer2 .given .1))
 
 pub lend-spec : {M : Type 1} → statement M
 lend-spec =
-    tie.close (tie.spec enum-known-answer enum-known-answer-2 refuse-requires returns returns-2)
+    tie.close (tie.spec enum-known-answer enum-known-answer-2 refusal-no-requires returns returns-2)

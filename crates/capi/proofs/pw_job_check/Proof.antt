@@ -1,5 +1,5 @@
 -- `pw_job_check` meets its contract: it lends on what the check tells. Assumes nothing.
-use Rattle.number.proofs.Reading.{told-as}
+use Rattle.refusal.proofs.Refusals.{told-as}
 use Rattle.capi.proofs.Lent.{renumbered}
 use Rattle.job.specs.Calls.{checkTold}
 use Rattle.capi.specs.Lent.{checkLent}

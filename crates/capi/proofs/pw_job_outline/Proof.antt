@@ -1,7 +1,7 @@
 -- `pw_job_outline` meets its contract: the job's fault, or 13, or the place that `locate` finds, which is outline k's. Assumes nothing.
 use native.Mathlib.Omega.{arith}
-use Rattle.number.proofs.Reading.{told-as}
-use Rattle.job.specs.Steps.{headTold, placeTold}
+use Rattle.refusal.proofs.Refusals.{told-as}
+use Rattle.job.specs.Steps.{headTold, locatedTold}
 use Rattle.job.proofs.Calls.{located-within, taken-never}
 use Rattle.capi.proofs.Lent.{outline-fault, outline-missing, outline-part}
 use borrow.Author.Needs.{needs}
@@ -39,16 +39,16 @@ enum-known-from : tie.Need-enum-known-from
 enum-known-from c = search needs
 
 sub-length : tie.Need-sub-length
-sub-length c = omega (arith, located-within _ _ _ (told-as placeTold (c .before .from .given .1) (c .before .before .before .locate .ensures)))
+sub-length c = omega (arith, located-within _ _ _ (told-as locatedTold (c .before .from .given .1) (c .before .before .before .locate .ensures)))
 
 returns-2 : tie.Need-returns-2
 returns-2 c = outline-fault _ _ (told-as headTold (c .before .before .r .given .1) (c .before .before .before .before .whole .ensures)) (c .refusal-no .ensures)
 
 returns-3 : tie.Need-returns-3
-returns-3 c = absurd (taken-never _ _ (told-as headTold (c .before .before .before .before .before .before .before .count .given .1) (c .before .before .before .before .before .before .before .before .before .whole .ensures)) (omega arith) (told-as placeTold (c .before .before .r2 .given .1) (c .before .before .before .before .locate .ensures)))
+returns-3 c = absurd (taken-never _ _ (told-as headTold (c .before .before .before .before .before .before .before .count .given .1) (c .before .before .before .before .before .before .before .before .before .whole .ensures)) (omega arith) (told-as locatedTold (c .before .before .r2 .given .1) (c .before .before .before .before .locate .ensures)))
 
 returns-4 : tie.Need-returns-4
-returns-4 c = outline-part _ _ (told-as headTold (c .before .before .before .before .before .before .count .given .1) (c .before .before .before .before .before .before .before .before .whole .ensures)) (omega arith) (told-as placeTold (c .before .from .given .1) (c .before .before .before .locate .ensures))
+returns-4 c = outline-part _ _ (told-as headTold (c .before .before .before .before .before .before .count .given .1) (c .before .before .before .before .before .before .before .before .whole .ensures)) (omega arith) (told-as locatedTold (c .before .from .given .1) (c .before .before .before .locate .ensures))
 
 pub pw-job-outline-spec : {M : Type 1} → statement M
 pw-job-outline-spec =

@@ -1,6 +1,6 @@
 -- `pw_number` meets its contract: it lends on what the number reader tells. Assumes nothing.
 use mathlib.Core.Path.{ap}
-use Rattle.number.proofs.Reading.{told-as}
+use Rattle.refusal.proofs.Refusals.{told-as}
 use Rattle.capi.proofs.Lent.{renumbered}
 use Rattle.number.specs.Number.{readTold}
 use Rattle.capi.specs.Lent.{numberLent, numberSaid}

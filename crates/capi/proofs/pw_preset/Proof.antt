@@ -1,5 +1,5 @@
 -- `pw_preset` meets its contract: it lends on what the preset call tells. Assumes nothing.
-use Rattle.number.proofs.Reading.{told-as}
+use Rattle.refusal.proofs.Refusals.{told-as}
 use Rattle.rule.specs.Rules.{rowTold}
 use borrow.Author.Needs.{needs}
 use Rattle.capi.proofs.pw_preset.Statement.{statement}

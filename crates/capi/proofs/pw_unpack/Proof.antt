@@ -1,5 +1,5 @@
 -- `pw_unpack` meets its contract: it lends on what unpacking tells. Assumes nothing.
-use Rattle.number.proofs.Reading.{told-as}
+use Rattle.refusal.proofs.Refusals.{told-as}
 use Rattle.capi.proofs.Lent.{renumbered}
 use Rattle.job.specs.Calls.{unpackTold}
 use Rattle.capi.specs.Lent.{unpackLent}

@@ -1,5 +1,5 @@
 -- `pw_write_header` meets its contract: it lends on what the writer tells. Assumes nothing.
-use Rattle.number.proofs.Reading.{told-as}
+use Rattle.refusal.proofs.Refusals.{told-as}
 use Rattle.capi.proofs.Lent.{renumbered}
 use Rattle.job.specs.Calls.{writeTold}
 use Rattle.capi.specs.Lent.{writeLent}
@@ -13,11 +13,11 @@ write-header-requires c κs = search needs
 enum-known-n : tie.Need-enum-known-n
 enum-known-n c = search needs
 
-enum-known-u : tie.Need-enum-known-u
-enum-known-u c = search needs
+enum-known-why : tie.Need-enum-known-why
+enum-known-why c = search needs
 
-unwritable-no-requires : tie.Need-unwritable-no-requires
-unwritable-no-requires c κs = search needs
+refusal-no-requires : tie.Need-refusal-no-requires
+refusal-no-requires c κs = search needs
 
 same-length : tie.Need-same-length
 same-length c = search needs
@@ -29,7 +29,7 @@ same-length-2 : tie.Need-same-length-2
 same-length-2 c = search needs
 
 returns-2 : tie.Need-returns-2
-returns-2 c = renumbered (λ n. writeLent n 0 (c .before .before .before .before .before .before .write-header .last .1 .1 .1 .0)) (c .unwritable-no .ensures) (told-as (λ u. writeTold u (c .before .before .before .before .before .before .write-header .last .1 .1 .1 .0)) (c .before .before .u .given .1) (c .before .before .before .before .before .before .write-header .ensures))
+returns-2 c = renumbered (λ n. writeLent n 0 (c .before .before .before .before .before .before .write-header .last .1 .1 .1 .0)) (c .refusal-no .ensures) (told-as (λ u. writeTold u (c .before .before .before .before .before .before .write-header .last .1 .1 .1 .0)) (c .before .before .why .given .1) (c .before .before .before .before .before .before .write-header .ensures))
 
 pub pw-write-header-spec : {M : Type 1} → statement M
 pw-write-header-spec =
@@ -37,8 +37,8 @@ pw-write-header-spec =
     (tie.spec
     write-header-requires
     enum-known-n
-    enum-known-u
-    unwritable-no-requires
+    enum-known-why
+    refusal-no-requires
     same-length
     returns
     same-length-2
