@@ -1,10 +1,10 @@
--- `fracture::judging::all_inside` meets its contract. The loop's invariant: every cell of the columns passed is inside. Assumes nothing.
+-- `verdict::all_inside` meets its contract. The loop's invariant: every cell of the columns passed is inside. Assumes nothing.
 use Prim.Native.Nat.{_≤_, _-_}
 use native.Mathlib.Omega.{arith}
 use borrow.Author.Needs.{needs}
-use Rattle.fracture.proofs.Search.{Clear, clear-none, clear-more, inside-not, inside-all}
-use Rattle.fracture.proofs.judging.all_inside.Statement.{statement}
-use Rattle.fracture.proofs.judging.all_inside.Tie as tie
+use Rattle.verdict.proofs.Search.{Clear, clear-none, clear-more, inside-not, inside-all}
+use Rattle.verdict.proofs.all_inside.Statement.{statement}
+use Rattle.verdict.proofs.all_inside.Tie as tie
 
 abbrev Inv-loop : tie.InvT-loop
 Inv-loop cells b d top end i₀ i = (i₀ ≤ i) × Clear cells i₀ (b .0) top i

@@ -19,7 +19,8 @@ use Rattle.recurrence.specs.Scheme.{Kind, outside, full, mixed}
 use Rattle.outline.specs.Grid.{Grid}
 use Rattle.rule.specs.declared.Rule.{Rule}
 use Rattle.piece.specs.Piece.{Piece, box, kind, leftPart, rightPart, lowerPart, upperPart}
-use Rattle.piece.specs.Straight.{Cut, cost}
+use Rattle.piece.specs.Meant.{meant}
+use Rattle.piece.specs.Straight.{cost}
 use Rattle.piece.proofs.Cells as cell
 use Rattle.piece.proofs.Kind.{kind-all, full-cell}
 use Rattle.piece.proofs.Straight.{cost-zero, cost-outside}
@@ -27,14 +28,14 @@ use Rattle.piece.proofs.Choice.{choice-vertical, choice-horizontal, choice-some
 use Rattle.piece.proofs.Bound.{cost-most}
 use Rattle.table.specs.Entry.{pairCount, pairNo, entryCount, entryOf, Valid}
 use Rattle.table.proofs.Entry.{entry-below, pair-below}
-use Rattle.fracture.specs.declared.Piece as stored
-use Rattle.fracture.specs.declared.Plan.{Plan}
-use Rattle.fracture.specs.declared.Direction.the-variants.{Vertical, Horizontal}
-use Rattle.fracture.specs.declared.Verdict.the-variants as verdict
-use Rattle.fracture.specs.declared.judging.Cuts.{Cuts}
-use Rattle.fracture.specs.Verdict.{meant, direction, verdictOf}
-use Rattle.fracture.specs.Memory.{Filled}
-use Rattle.fracture.specs.Search.{First, Within, AllInside, across, Weighable}
+use Rattle.piece.specs.declared.Piece as stored
+use Rattle.verdict.specs.declared.Plan.{Plan}
+use Rattle.verdict.specs.declared.Direction.the-variants.{Vertical, Horizontal}
+use Rattle.verdict.specs.declared.Verdict.the-variants as verdict
+use Rattle.verdict.specs.declared.Cuts.{Cuts}
+use Rattle.verdict.specs.Verdict.{direction, verdictOf}
+use Rattle.verdict.specs.Memory.{Costed}
+use Rattle.verdict.specs.Search.{FirstWith, Within, AllInside, across, Weighable}
 
 -- the pair numbers of a piece, as the code has found them
 pub record Numbered (plan : Plan) (p : Piece) (u v m : ℕ) : Type 0 where
@@ -44,10 +45,10 @@ pub record Numbered (plan : Plan) (p : Piece) (u v m : ℕ) : Type 0 where
 
 -- its cuts in each direction
 abbrev pub cuts-x : Plan → Piece → ℕ → ℕ → ℕ → Cuts
-cuts-x plan p u v m = record { last = plan .columns; low = record { 0 = p .a }; high = record { 0 = p .c }; whole = u; stride = m; base = v }
+cuts-x plan p u v m = record { last = plan .columns; low = record { 0 = p .a }; high = record { 0 = p .c }; pair = u; stride = m; base = v }
 
 abbrev pub cuts-y : Plan → Piece → ℕ → ℕ → ℕ → Cuts
-cuts-y plan p u v m = record { last = plan .rows; low = record { 0 = p .b }; high = record { 0 = p .d }; whole = v; stride = 1; base = u * m }
+cuts-y plan p u v m = record { last = plan .rows; low = record { 0 = p .b }; high = record { 0 = p .d }; pair = v; stride = 1; base = u * m }
 
 module _ (plan : Plan) (p : Piece) (w : Valid (plan .columns) (plan .rows) p) (u v m : ℕ) (n : Numbered plan p u v m) where
   pub entry-at : u * m + v ≡ entryOf (plan .columns) (plan .rows) p
@@ -64,7 +65,7 @@ module _ (plan : Plan) (p : Piece) (w : Valid (plan .columns) (plan .rows) p) (u
   unfolding entryOf
   part-y b d = rw (one-mul, n .x, n .count)
 
-module _ (g : Grid) (r : Rule) (t cells : List ℕ) (plan : Plan) (f : Filled g r t cells plan)
+module _ (g : Grid) (r : Rule) (t cells : List ℕ) (plan : Plan) (f : Costed g r t cells plan)
     (p : stored.Piece) (w : Valid (plan .columns) (plan .rows) (meant p)) (u v m : ℕ) (n : Numbered plan (meant p) u v m) where
   pub entry-within : u * m + v < length t
   entry-within = omega (arith, entry-at plan (meant p) w u v m n, entry-below _ _ (meant p) w, f .entries)
@@ -154,7 +155,7 @@ module _ (g : Grid) (r : Rule) (t cells : List ℕ) (plan : Plan) (f : Filled g 
     ordered = w .ac;
     some = w .cx;
     few = few .0;
-    whole = n .x;
+    pair = n .x;
     within = λ k h. within k h;
     small = λ j h k.
         let z = left-valid j h k in
@@ -172,7 +173,7 @@ module _ (g : Grid) (r : Rule) (t cells : List ℕ) (plan : Plan) (f : Filled g 
     ordered = w .bd;
     some = w .dy;
     few = few .1;
-    whole = n .y;
+    pair = n .y;
     within = λ k h. within k h;
     small = λ j h k.
         let z = lower-valid j h k in
@@ -186,7 +187,7 @@ module _ (g : Grid) (r : Rule) (t cells : List ℕ) (plan : Plan) (f : Filled g 
           omega (arith, digits-lt x y, ap (λ (i : ℕ). pairCount (plan .columns) * i) (n .count), f .entries)
 
   module _ (e : getD t (u * m + v) 0 ≡ 0 → ⊥) (h : AllInside cells p false) (i : ℕ)
-      (s : First (λ j. across t (cuts-x plan (meant p) u v m) j ≡ getD t (u * m + v) 0) (p .a .0 + 1) (p .c .0) i) where
+      (s : FirstWith (λ j. across t (cuts-x plan (meant p) u v m) j ≡ getD t (u * m + v) 0) (p .a .0 + 1) (p .c .0) i) where
     met-x : (j : ℕ) → p .a .0 < j → j < p .c .0 → cost g r (leftPart (meant p) j) + cost g r (rightPart (meant p) j) ≡ cost g r (meant p)
         → across t (cuts-x plan (meant p) u v m) j ≡ getD t (u * m + v) 0
     met-x j a b q = across-x j a b ∙ q ∙ sym cost-here
@@ -201,7 +202,7 @@ module _ (g : Grid) (r : Rule) (t cells : List ℕ) (plan : Plan) (f : Filled g 
         (choice-vertical g r (meant p) i a l (λ j b c q. s .passed j (omega arith) c (met-x j b (omega arith) q))
         (sym (across-x i a l) ∙ s .found l ∙ cost-here))))
 
-    module _ (j : ℕ) (o : First (λ k. across t (cuts-y plan (meant p) u v m) k ≡ getD t (u * m + v) 0) (p .b .0 + 1) (p .d .0) j) where
+    module _ (j : ℕ) (o : FirstWith (λ k. across t (cuts-y plan (meant p) u v m) k ≡ getD t (u * m + v) 0) (p .b .0 + 1) (p .d .0) j) where
       met-y : (k : ℕ) → p .b .0 < k → k < p .d .0 → cost g r (lowerPart (meant p) k) + cost g r (upperPart (meant p) k) ≡ cost g r (meant p)
           → across t (cuts-y plan (meant p) u v m) k ≡ getD t (u * m + v) 0
       met-y k a b q = across-y k a b ∙ q ∙ sym cost-here

@@ -1,23 +1,42 @@
 // The verdict of a piece, from the table of costs and the cells.
-use super::Direction;
-use super::Piece;
-use super::Plan;
-use super::Verdict;
 use outline::Line;
+use piece::Piece;
+use rule::Rule;
 use table::numbering::pair_number;
 ghost use mathlib.Core.Path.{_≡_};
 ghost use Prim.Native.Nat.{ℕ, _+_, _*_, _-_, _<_, _≤_};
 ghost use lib.ListN.{length, getD};
 ghost use Rattle.outline.specs.Grid.{Grid};
-ghost use Rattle.rule.specs.declared.Rule.{Rule};
-ghost use Rattle.fracture.specs.Memory.{Filled, Ready};
-ghost use Rattle.fracture.specs.Verdict.{meant, verdictOf};
-ghost use Rattle.fracture.specs.Search.{First, AllInside, across, Weighable};
+ghost use Rattle.piece.specs.Meant.{meant};
+ghost use Rattle.verdict.specs.Memory.{Costed, Judgeable};
+ghost use Rattle.verdict.specs.Search.{FirstWith, AllInside, across, Weighable};
+ghost use Rattle.verdict.specs.Verdict.{verdictOf};
+
+// A cut names its direction and its line: a vertical cut lies on an x line, a horizontal one on a y line.
+pub enum Direction {
+    Vertical(Line),
+    Horizontal(Line),
+}
+
+// What becomes of a piece: nothing of it is inside, or all of it is one shot, or it is cut.
+pub enum Verdict {
+    Outside,
+    Shot,
+    Cut(Direction),
+}
+
+// What a walk over the pieces goes by besides the lent slices: the size of the grid, the count of its pairs of y lines, and the rule.
+pub struct Plan {
+    pub columns: usize,
+    pub rows: usize,
+    pub pairs: usize,
+    pub rule: Rule,
+}
 
 // The first row from b on whose cell in the column i is not inside, or d where each of them is.
 fn first_hole(cells: &[u8], i: usize, b: Line, d: Line) -> usize
     requires { ⌜ (16 * i + d .0 ≤ length (now cells)) × (b .0 ≤ d .0) ⌝ }
-    ensures { λ r. ⌜ First (λ j. getD (now (cells .entry)) (16 * i + j) 0 ≡ 1 → ⊥) (b .0) (d .0) r ⌝ }
+    ensures { λ r. ⌜ FirstWith (λ j. getD (now (cells .entry)) (16 * i + j) 0 ≡ 1 → ⊥) (b .0) (d .0) r ⌝ }
 {
     let end = d.0;
     let mut j = b.0;
@@ -50,12 +69,12 @@ fn all_inside(cells: &[u8], p: Piece) -> bool
 }
 
 // The cuts of a piece in one direction, as the table has them: they lie on the lines between low and high, of the lines 0 to
-// last; whole is the number of the pair (low, high), and the part between a pair of lines has its cost at base + stride x its number.
+// last; pair is the number of the pair (low, high), and the part between a pair of lines has its cost at base + stride x its number.
 struct Cuts {
     pub last: usize,
     pub low: Line,
     pub high: Line,
-    pub whole: usize,
+    pub pair: usize,
     pub stride: usize,
     pub base: usize,
 }
@@ -63,17 +82,17 @@ struct Cuts {
 // The first line whose two parts cost so much together, or high where there is none.
 fn first_line(table: &[u32], cuts: Cuts, cost: u32) -> Line
     requires { ⌜ Weighable (now table) cuts ⌝ }
-    ensures { λ r. ⌜ First (λ j. across (now (table .entry)) cuts j ≡ cost) (cuts .low .0 + 1) (cuts .high .0) (r .0) ⌝ }
+    ensures { λ r. ⌜ FirstWith (λ j. across (now (table .entry)) cuts j ≡ cost) (cuts .low .0 + 1) (cuts .high .0) (r .0) ⌝ }
 {
     let last = cuts.last;
     let low = cuts.low.0;
     let high = cuts.high.0;
-    let whole = cuts.whole;
+    let pair = cuts.pair;
     let stride = cuts.stride;
     let base = cuts.base;
     let mut j = low + 1;
-    let mut lower = whole - (high - j);
-    let mut upper = whole + (last - 1 - low);
+    let mut lower = pair - (high - j);
+    let mut upper = pair + (last - 1 - low);
     while j < high {
         if table[base + stride * lower] + table[base + stride * upper] == cost {
             return Line(j);
@@ -88,8 +107,8 @@ fn first_line(table: &[u32], cuts: Cuts, cost: u32) -> Line
 // The verdict of a piece. What costs nothing is outside; what is inside in all cells is a shot; else the cut is the first, vertical ones first and
 // the lower line first, whose parts cost together what the piece costs.
 pub fn judge(costs: &[u32], cells: &[u8], plan: Plan, p: Piece) -> Verdict
-    requires { ⌜ Ready (now costs) (now cells) plan (meant p) ⌝ }
-    ensures { λ v. ⌜ ((g : Grid) (r : Rule) → Filled g r (now (costs .entry)) (now (cells .entry)) plan → v ≡ verdictOf g r (meant p)) ⌝ }
+    requires { ⌜ Judgeable (now costs) (now cells) plan (meant p) ⌝ }
+    ensures { λ v. ⌜ ((g : Grid) (r : Rule) → Costed g r (now (costs .entry)) (now (cells .entry)) plan → v ≡ verdictOf g r (meant p)) ⌝ }
 {
     let columns = plan.columns;
     let rows = plan.rows;
@@ -114,7 +133,7 @@ pub fn judge(costs: &[u32], cells: &[u8], plan: Plan, p: Piece) -> Verdict
             last: columns,
             low: a,
             high: c,
-            whole: x_pair,
+            pair: x_pair,
             stride: y_pairs,
             base: y_pair,
         },
@@ -129,7 +148,7 @@ pub fn judge(costs: &[u32], cells: &[u8], plan: Plan, p: Piece) -> Verdict
             last: rows,
             low: b,
             high: d,
-            whole: y_pair,
+            pair: y_pair,
             stride: 1,
             base: row,
         },

@@ -1,13 +1,13 @@
--- `fracture::judging::judge` meets its contract: each exit by one law of Judged. Assumes nothing.
+-- `verdict::judge` meets its contract: each exit by one law of Judged. Assumes nothing.
 use Prim.Native.Nat.{_+_, _*_, _<_}
 use native.Mathlib.Omega.{arith}
 use borrow.Author.Needs.{needs}
 use lib.ListN.{length}
-use Rattle.fracture.specs.Verdict.{meant}
-use Rattle.fracture.proofs.Search.{inside-said}
-use Rattle.fracture.proofs.Judged.{Numbered, entry-within, verdict-outside, verdict-shot, weighable-x, weighable-y, verdict-vertical, verdict-horizontal}
-use Rattle.fracture.proofs.judging.judge.Statement.{statement}
-use Rattle.fracture.proofs.judging.judge.Tie as tie
+use Rattle.piece.specs.Meant.{meant}
+use Rattle.verdict.proofs.Search.{inside-said}
+use Rattle.verdict.proofs.Judged.{Numbered, entry-within, verdict-outside, verdict-shot, weighable-x, weighable-y, verdict-vertical, verdict-horizontal}
+use Rattle.verdict.proofs.judge.Statement.{statement}
+use Rattle.verdict.proofs.judge.Tie as tie
 
 -- the function's entry, from where the pair numbers are found
 abbrev entry : tie.After-pair-number2 → tie.Start
@@ -16,11 +16,11 @@ entry c = c .before .before .before .before .before .before .before .before
 numbered : (c : tie.After-pair-number2)
     → Numbered (entry c .args .plan) (meant (entry c .args .p)) (c .before .pair-number .result) (c .pair-number2 .result) (entry c .args .plan .pairs)
 numbered c =
-    record { x = c .before .pair-number .ensures .0; y = c .pair-number2 .ensures .0; count = entry c .pre .filled .pairs }
+    record { x = c .before .pair-number .ensures .0; y = c .pair-number2 .ensures .0; count = entry c .pre .costed .pairs }
 
 within : (c : tie.After-pair-number2)
     → c .before .pair-number .result * entry c .args .plan .pairs + c .pair-number2 .result < length (entry c .args .costs .now)
-within c = entry-within _ _ _ _ _ (entry c .pre .filled) (entry c .args .p) (entry c .pre .valid) _ _ _ (numbered c)
+within c = entry-within _ _ _ _ _ (entry c .pre .costed) (entry c .args .p) (entry c .pre .valid) _ _ _ (numbered c)
 
 pair-number-requires : tie.Need-pair-number-requires
 pair-number-requires c κs = search needs
@@ -57,7 +57,7 @@ returns-2 c g r f =
 first-line-requires : tie.Need-first-line-requires
 first-line-requires c κs =
     let k = c .before .before .before .before in
-    weighable-x _ _ _ _ _ (entry k .pre .filled) (entry k .args .p) (entry k .pre .valid) _ _ _ (numbered k)
+    weighable-x _ _ _ _ _ (entry k .pre .costed) (entry k .args .p) (entry k .pre .valid) _ _ _ (numbered k)
 
 returns-3 : tie.Need-returns-3
 returns-3 c g r f =
@@ -71,7 +71,7 @@ returns-3 c g r f =
 first-line-requires-2 : tie.Need-first-line-requires-2
 first-line-requires-2 c κs =
     let k = c .before .before .before .before .before .before .before .before in
-    weighable-y _ _ _ _ _ (entry k .pre .filled) (entry k .args .p) (entry k .pre .valid) _ _ _ (numbered k)
+    weighable-y _ _ _ _ _ (entry k .pre .costed) (entry k .args .p) (entry k .pre .valid) _ _ _ (numbered k)
 
 returns-4 : tie.Need-returns-4
 returns-4 c g r f =

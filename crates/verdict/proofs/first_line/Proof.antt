@@ -1,28 +1,28 @@
--- `fracture::judging::first_line` meets its contract. The loop's invariant: the two pair numbers are those of the parts at j, and
+-- `verdict::first_line` meets its contract. The loop's invariant: the two pair numbers are those of the parts at j, and
 -- no line passed has the cost. Assumes nothing.
 use Prim.Native.Nat.{ℕ, _<_, _+_, _*_, _-_}
 use mathlib.Core.Path.{_≡_, sym, _∙_}
 use native.Mathlib.Omega.{arith}
 use borrow.Author.Needs.{needs}
 use lib.ListN.{length}
-use Rattle.fracture.specs.Search.{across}
-use Rattle.fracture.specs.declared.judging.Cuts.{Cuts}
-use Rattle.fracture.proofs.Search.{Passed, passed-none, passed-more, first-here, first-none}
-use Rattle.fracture.proofs.Across.{At, at-first, at-next, whole-few, whole-least, lower-few, upper-few, lower-within, upper-within, across-at, across-small}
-use Rattle.fracture.proofs.judging.first_line.Statement.{statement}
-use Rattle.fracture.proofs.judging.first_line.Tie as tie
+use Rattle.verdict.specs.Search.{across}
+use Rattle.verdict.specs.declared.Cuts.{Cuts}
+use Rattle.verdict.proofs.Search.{Passed, passed-none, passed-more, first-here, first-none}
+use Rattle.verdict.proofs.Across.{At, at-first, at-next, pair-few, pair-least, lower-few, upper-few, lower-within, upper-within, across-at, across-small}
+use Rattle.verdict.proofs.first_line.Statement.{statement}
+use Rattle.verdict.proofs.first_line.Tie as tie
 
-abbrev whole-cuts : ℕ → ℕ → ℕ → ℕ → ℕ → ℕ → Cuts
-whole-cuts last low high whole stride base =
-    record { last = last; low = record { 0 = low }; high = record { 0 = high }; whole = whole; stride = stride; base = base }
+abbrev cuts-of : ℕ → ℕ → ℕ → ℕ → ℕ → ℕ → Cuts
+cuts-of last low high pair stride base =
+    record { last = last; low = record { 0 = low }; high = record { 0 = high }; pair = pair; stride = stride; base = base }
 
 abbrev Inv-loop : tie.InvT-loop
-Inv-loop table cost last low high whole stride base j₀ lower₀ upper₀ j lower upper =
-    At (whole-cuts last low high whole stride base) j lower upper
-    × Passed (λ k. across table (whole-cuts last low high whole stride base) k ≡ cost) (low + 1) j
+Inv-loop table cost last low high pair stride base j₀ lower₀ upper₀ j lower upper =
+    At (cuts-of last low high pair stride base) j lower upper
+    × Passed (λ k. across table (cuts-of last low high pair stride base) k ≡ cost) (low + 1) j
 
 abbrev μ-loop : tie.MeasureT-loop
-μ-loop table cost last low high whole stride base j₀ lower₀ upper₀ j lower upper = high - j
+μ-loop table cost last low high pair stride base j₀ lower₀ upper₀ j lower upper = high - j
 
 add-j : tie.Need-add-j Inv-loop μ-loop
 add-j c = search needs
@@ -31,7 +31,7 @@ sub-lower : tie.Need-sub-lower Inv-loop μ-loop
 sub-lower c = search needs
 
 sub-lower-2 : tie.Need-sub-lower-2 Inv-loop μ-loop
-sub-lower-2 c = whole-least _ _ (c .pre)
+sub-lower-2 c = pair-least _ _ (c .pre)
 
 sub-upper : tie.Need-sub-upper Inv-loop μ-loop
 sub-upper c = search needs
@@ -40,7 +40,7 @@ sub-upper-2 : tie.Need-sub-upper-2 Inv-loop μ-loop
 sub-upper-2 c = search needs
 
 add-upper : tie.Need-add-upper Inv-loop μ-loop
-add-upper c = let f = whole-few _ _ (c .pre) in omega arith
+add-upper c = let f = pair-few _ _ (c .pre) in omega arith
 
 loop-holds : tie.Need-loop-holds Inv-loop μ-loop
 loop-holds c = let w = c .pre in (at-first _ _ w, passed-none _ _)
@@ -93,7 +93,9 @@ returns c =
     first-here _ _ _ _ (omega (arith, l .inv .0)) t (l .inv .1) (sym e ∙ c .if1 .taken)
 
 add-lower : tie.Need-add-lower Inv-loop μ-loop
-add-lower c = let l = c .before .before .before .before .loop in omega (arith, lower-few _ _ (c .before .before .before .before .before .pre) _ _ _ (l .inv .0) (c .before .before .before .loop-test .taken))
+add-lower c =
+    let l = c .before .before .before .before .loop in
+    omega (arith, lower-few _ _ (c .before .before .before .before .before .pre) _ _ _ (l .inv .0) (c .before .before .before .loop-test .taken))
 
 sub-upper-3 : tie.Need-sub-upper-3 Inv-loop μ-loop
 sub-upper-3 c = search needs

@@ -1,12 +1,12 @@
--- `fracture::judging::first_hole` meets its contract. The loop's invariant: no cell passed is outside. Assumes nothing.
+-- `verdict::first_hole` meets its contract. The loop's invariant: no cell passed is outside. Assumes nothing.
 use Prim.Native.Nat.{_≤_, _+_, _*_, _-_}
 use mathlib.Core.Path.{_≡_}
 use native.Mathlib.Omega.{arith}
 use borrow.Author.Needs.{needs}
 use lib.ListN.{getD}
-use Rattle.fracture.proofs.Search.{Passed, passed-none, passed-more, first-here, first-none}
-use Rattle.fracture.proofs.judging.first_hole.Statement.{statement}
-use Rattle.fracture.proofs.judging.first_hole.Tie as tie
+use Rattle.verdict.proofs.Search.{Passed, passed-none, passed-more, first-here, first-none}
+use Rattle.verdict.proofs.first_hole.Statement.{statement}
+use Rattle.verdict.proofs.first_hole.Tie as tie
 
 abbrev Inv-loop : tie.InvT-loop
 Inv-loop cells i end j₀ j = (j₀ ≤ j) × (j ≤ end) × Passed (λ k. getD cells (16 * i + k) 0 ≡ 1 → ⊥) j₀ j

@@ -2,7 +2,7 @@
 --
 --   At s j l u     == l and u are the numbers of the two pairs of lines at the cut j: (low, j) and (j, high)
 --   at-first, at-next          : the first line, and the next one
---   whole-few, whole-least     : pair numbers are small
+--   pair-few, pair-least       : pair numbers are small
 --   lower-few, upper-few       : so are the two at a cut
 --   lower-within, upper-within : both entries are the table's
 --   across-at      : what they have together
@@ -15,8 +15,8 @@ use native.Mathlib.Omega.{arith}
 use lib.ListN.{length, getD}
 use Rattle.table.specs.Entry.{pairsBelow, pairCount, pairNo}
 use Rattle.table.proofs.Entry.{below-next, pair-below, count-most}
-use Rattle.fracture.specs.Search.{across, Weighable}
-use Rattle.fracture.specs.declared.judging.Cuts.{Cuts}
+use Rattle.verdict.specs.Search.{across, Weighable}
+use Rattle.verdict.specs.declared.Cuts.{Cuts}
 
 pub record At (s : Cuts) (j l u : ℕ) : Type 0 where
   pub above : s .low .0 < j
@@ -24,27 +24,27 @@ pub record At (s : Cuts) (j l u : ℕ) : Type 0 where
   pub upper : u + 1 ≡ pairsBelow (s .last) j + (s .high .0 - j)
 
 module _ (t : List ℕ) (s : Cuts) (w : Weighable t s) where
-  pub whole-few : s .whole ≤ 225
-  whole-few =
+  pub pair-few : s .pair ≤ 225
+  pair-few =
       omega (
         arith,
-        w .whole,
+        w .pair,
         w .few,
         pair-below (s .last) (s .low .0) (s .high .0) (w .ordered) (w .some),
         count-most (s .last) (w .few),
       )
 
-  pub whole-least : s .high .0 - (s .low .0 + 1) ≤ s .whole
+  pub pair-least : s .high .0 - (s .low .0 + 1) ≤ s .pair
   unfolding pairNo
-  whole-least = omega (arith, w .whole)
+  pair-least = omega (arith, w .pair)
 
-  pub at-first : At s (s .low .0 + 1) (s .whole - (s .high .0 - (s .low .0 + 1))) (s .whole + (s .last - 1 - s .low .0))
+  pub at-first : At s (s .low .0 + 1) (s .pair - (s .high .0 - (s .low .0 + 1))) (s .pair + (s .last - 1 - s .low .0))
   unfolding pairNo
   at-first =
       record {
         above = omega arith;
-        lower = omega (arith, w .ordered, w .whole);
-        upper = omega (arith, w .ordered, w .some, w .whole, below-next (s .last) (s .low .0));
+        lower = omega (arith, w .ordered, w .pair);
+        upper = omega (arith, w .ordered, w .some, w .pair, below-next (s .last) (s .low .0));
       }
 
   module _ (j l u : ℕ) (at : At s j l u) (h : j < s .high .0) where

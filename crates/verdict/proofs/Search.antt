@@ -20,8 +20,8 @@ use mathlib.Core.List.{List}
 use lib.Dec.{eqb}
 use lib.ListN.{getD}
 use borrow.Author.Tests.{eqb-true, eqb-false}
-use Rattle.fracture.specs.declared.Piece.{Piece}
-use Rattle.fracture.specs.Search.{First, AllInside}
+use Rattle.piece.specs.declared.Piece.{Piece}
+use Rattle.verdict.specs.Search.{FirstWith, AllInside}
 
 module _ (Q : ℕ → Type 0) (a : ℕ) where
   abbrev pub Passed : ℕ → Type 0
@@ -36,10 +36,10 @@ module _ (Q : ℕ → Type 0) (a : ℕ) where
     | inr w ↦ p k h w q
   ]
 
-  pub first-here : (j c : ℕ) → a ≤ j → j < c → Passed j → Q j → First Q a c j
+  pub first-here : (j c : ℕ) → a ≤ j → j < c → Passed j → Q j → FirstWith Q a c j
   first-here j c h i p q = record { least = h; most = omega arith; passed = p; found = λ w. q }
 
-  pub first-none : (j c : ℕ) → a ≤ j → j ≤ c → c ≤ j → Passed j → First Q a c j
+  pub first-none : (j c : ℕ) → a ≤ j → j ≤ c → c ≤ j → Passed j → FirstWith Q a c j
   first-none j c h i k p = record { least = h; most = i; passed = p; found = λ w. absurd (omega arith) }
 
 -- a number that is not other than another is that one
@@ -58,7 +58,7 @@ module _ (cells : List ℕ) (a b d : ℕ) where
   pub clear-none : Clear cells a b d a
   clear-none = record { each = λ k j h i q r. absurd (omega arith) }
 
-  pub clear-more : (i r : ℕ) → Clear cells a b d i → First (λ j. getD cells (16 * i + j) 0 ≡ 1 → ⊥) b d r → d ≤ r
+  pub clear-more : (i r : ℕ) → Clear cells a b d i → FirstWith (λ j. getD cells (16 * i + j) 0 ≡ 1 → ⊥) b d r → d ≤ r
       → Clear cells a b d (i + 1)
   clear-more i r p f h = record { each = each }
     where
@@ -71,7 +71,7 @@ module _ (cells : List ℕ) (a b d : ℕ) where
       ]
 
 module _ (cells : List ℕ) (p : Piece) where
-  pub inside-not : (i r : ℕ) → First (λ j. getD cells (16 * i + j) 0 ≡ 1 → ⊥) (p .b .0) (p .d .0) r → p .a .0 ≤ i → i < p .c .0
+  pub inside-not : (i r : ℕ) → FirstWith (λ j. getD cells (16 * i + j) 0 ≡ 1 → ⊥) (p .b .0) (p .d .0) r → p .a .0 ≤ i → i < p .c .0
       → r < p .d .0
       → AllInside cells p false
   inside-not i r f h k w = (i, r, record { a = h; c = k; b = f .least; d = w }, f .found w)
