@@ -1,20 +1,19 @@
-// The sliver length of one shot, from the cells along its four sides.
-use super::Piece;
+// The sliver length of one shot, from the places of its lines and the cells along its four sides.
 use outline::Line;
+use outline::Place;
 use outline::place_of;
+use piece::Piece;
+use rule::Rule;
 ghost use mathlib.Core.Path.{_≡_};
-ghost use Prim.Native.Nat.{ℕ, _+_, _*_, _-_, _<_, _≤_};
-ghost use lib.ListN.{length, getD};
+ghost use Prim.Native.Nat.{_≤_};
 ghost use Rattle.outline.specs.Grid.{Grid};
-ghost use Rattle.rule.specs.declared.Rule.{Rule};
+ghost use Rattle.piece.specs.Meant.{meant};
 ghost use Rattle.piece.specs.Piece.{sliver};
-ghost use Rattle.fracture.specs.Verdict.{meant};
-ghost use Rattle.fracture.specs.Memory.{Shown, Seen};
-ghost use Rattle.fracture.specs.Sides.{exposedAt, exposedIn, Lies, narrowIn, Banded};
+ghost use Rattle.sliver.specs.Sides.{Shown, Seen, exposedAt, exposedIn, Lies, bothIn, Banded};
 
 // One side of a piece, as its cells lie in memory: those within start at near, those across at far,
 // and the next stretch is a step on; it runs from line to line.
-pub struct Side {
+struct Side {
     pub near: usize,
     pub far: usize,
     pub step: usize,
@@ -23,22 +22,22 @@ pub struct Side {
 }
 
 // The exposed length of one stretch: its own where the cell within is inside and the cell across is not.
-fn stretch(near: u8, far: u8, low: u16, high: u16) -> u32
-    requires { ⌜ low ≤ high ⌝ }
-    ensures { λ r. ⌜ (r ≡ exposedAt near far low high) × (r ≤ 65535) ⌝ }
+fn stretch(near: u8, far: u8, low: Place, high: Place) -> u32
+    requires { ⌜ low .0 ≤ high .0 ⌝ }
+    ensures { λ r. ⌜ (r ≡ exposedAt near far (low .0) (high .0)) × (r ≤ 65535) ⌝ }
 {
     if near == 1 {
         if far == 0 {
-            return (high - low) as u32;
+            return (high.0 - low.0) as u32;
         }
     }
     0
 }
 
-// The exposed length of one side.
-fn exposed(cells: &[u8], places: &[u16], side: Side) -> u32
-    requires { ⌜ Lies (now cells) (now places) side ⌝ }
-    ensures { λ r. ⌜ (r ≡ exposedIn (now (cells .entry)) (now (places .entry)) side) × (r ≤ 983025) ⌝ }
+// The exposed length of one side, by the list of the lines that it crosses.
+fn exposed(cells: &[u8], lines: &[u16], side: Side) -> u32
+    requires { ⌜ Lies (now cells) (now lines) side ⌝ }
+    ensures { λ r. ⌜ (r ≡ exposedIn (now (cells .entry)) (now (lines .entry)) side) × (r ≤ 983025) ⌝ }
 {
     let near = side.near;
     let far = side.far;
@@ -49,15 +48,18 @@ fn exposed(cells: &[u8], places: &[u16], side: Side) -> u32
     while k < to {
         let within = cells[near + step * k];
         let across = cells[far + step * k];
-        sum += stretch(within, across, places[k], places[k + 1]);
-        k += 1;
+        let next = k + 1;
+        let low = place_of(lines, Line(k));
+        let high = place_of(lines, Line(next));
+        sum += stretch(within, across, low, high);
+        k = next;
     }
     sum
 }
 
 // Two opposite sides of a piece: they lie on the lines low and high, and run from line to line of the other direction. The cells
 // beyond the next line lie so many bytes across, those beyond the next stretch so many bytes along.
-pub struct Band {
+struct Band {
     pub low: Line,
     pub high: Line,
     pub from: Line,
@@ -66,16 +68,11 @@ pub struct Band {
     pub along: usize,
 }
 
-// What two opposite sides add to the sliver length of a shot: their exposed lengths, where they lie closer than the threshold.
-fn narrow_sides(cells: &[u8], lines: &[u16], stretches: &[u16], threshold: u32, band: Band) -> u32
-    requires { ⌜ Banded (now cells) (now lines) (now stretches) band ⌝ }
-    ensures { λ r. ⌜ (r ≡ narrowIn (now (cells .entry)) (now (lines .entry)) (now (stretches .entry)) threshold band) × (r ≤ 1966050) ⌝ }
+// The exposed length of two opposite sides together.
+fn both_sides(cells: &[u8], lines: &[u16], band: Band) -> u32
+    requires { ⌜ Banded (now cells) (now lines) band ⌝ }
+    ensures { λ r. ⌜ (r ≡ bothIn (now (cells .entry)) (now (lines .entry)) band) × (r ≤ 1966050) ⌝ }
 {
-    let low = place_of(lines, band.low);
-    let high = place_of(lines, band.high);
-    if threshold <= (high.0 - low.0) as u32 {
-        return 0;
-    }
     let a = band.low.0;
     let c = band.high.0;
     let from = band.from;
@@ -84,7 +81,7 @@ fn narrow_sides(cells: &[u8], lines: &[u16], stretches: &[u16], threshold: u32, 
     let step = band.along;
     let low_side = exposed(
         cells,
-        stretches,
+        lines,
         Side {
             near: across * a,
             far: across * ((a + 15) % 16),
@@ -95,7 +92,7 @@ fn narrow_sides(cells: &[u8], lines: &[u16], stretches: &[u16], threshold: u32, 
     );
     let high_side = exposed(
         cells,
-        stretches,
+        lines,
         Side {
             near: across * (c - 1),
             far: across * c,
@@ -107,20 +104,27 @@ fn narrow_sides(cells: &[u8], lines: &[u16], stretches: &[u16], threshold: u32, 
     low_side + high_side
 }
 
-// The sliver length of a shot, in nm.
-pub fn sliver_of(cells: &[u8], xs: &[u16], ys: &[u16], threshold: u32, p: Piece) -> u32
+// The sliver length of a shot, in nm, as the rule reckons it. The sides of a shot that the rule spares are not measured.
+pub fn sliver_of(cells: &[u8], xs: &[u16], ys: &[u16], rule: Rule, p: Piece) -> u32
     requires { ⌜ Seen (now xs) (now ys) (now cells) (meant p) ⌝ }
-    ensures { λ n. ⌜ ((g : Grid) (r : Rule) → Shown g (now (xs .entry)) (now (ys .entry)) (now (cells .entry)) (meant p) → r .threshold ≡ threshold → n ≡ sliver g r (meant p)) ⌝ }
+    ensures { λ n. ⌜ ((g : Grid) → Shown g (now (xs .entry)) (now (ys .entry)) (now (cells .entry)) (meant p) → n ≡ sliver g rule (meant p)) ⌝ }
 {
     let a = p.a;
     let c = p.c;
     let b = p.b;
     let d = p.d;
-    let upright = narrow_sides(
+    let left = place_of(xs, a);
+    let right = place_of(xs, c);
+    let bottom = place_of(ys, b);
+    let top = place_of(ys, d);
+    let width = (right.0 - left.0) as u32;
+    let height = (top.0 - bottom.0) as u32;
+    if rule.spares(width, height) {
+        return 0;
+    }
+    let upright = both_sides(
         cells,
-        xs,
         ys,
-        threshold,
         Band {
             low: a,
             high: c,
@@ -130,11 +134,9 @@ pub fn sliver_of(cells: &[u8], xs: &[u16], ys: &[u16], threshold: u32, p: Piece)
             along: 1,
         },
     );
-    let level = narrow_sides(
+    let level = both_sides(
         cells,
-        ys,
         xs,
-        threshold,
         Band {
             low: b,
             high: d,
@@ -144,5 +146,5 @@ pub fn sliver_of(cells: &[u8], xs: &[u16], ys: &[u16], threshold: u32, p: Piece)
             along: 16,
         },
     );
-    upright + level
+    rule.sliver(width, height, upright, level)
 }

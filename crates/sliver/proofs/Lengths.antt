@@ -1,10 +1,12 @@
 -- The sliver length of a shot from what lies in memory. Assumes nothing.
 --
 --   lies-low, lies-high       : both sides of a band are within what is lent
---   narrow-none, narrow-both  : a band that is wide enough adds nothing, any other its two sides
 --   side-low, side-high       : the exposed length of a side in memory is that of the grid, in either direction
 --   banded-x, banded-y        : the two bands of a piece
---   sliver-sides              : what both add is the sliver length
+--   x-ordered, y-ordered      : the places of its low lines are no higher than those of its high lines
+--   width-is, height-is       : they are its width and its height apart
+--   sliver-none               : a piece that the rule spares has no sliver length
+--   sliver-measured           : any other has what the rule makes of its two extents and of its sides
 use Prim.Native.Nat.{ℕ, zero, suc, _+_, _*_, _-_, _%_, _≤_, _<_}
 use mathlib.Core.Path.{_≡_, refl, ap, ap₂, sym, _∙_}
 use mathlib.Core.Bool.{Bool, true, false, _&&_, not}
@@ -12,56 +14,37 @@ use mathlib.Core.List.{List}
 use native.Mathlib.Omega.{arith}
 use native.Mathlib.Nat.{one-mul}
 use native.Mathlib.Numerals.{add-one}
-use lib.Dec.{ltb}
 use lib.ListN.{getD}
-use borrow.Author.Tests.{le-ltb, lt-ltb}
 use Rattle.sum.specs.Sum.{only, over}
 use Rattle.sum.proofs.Sum.{over-same, rise}
 use Rattle.outline.specs.Grid.{Grid}
 use Rattle.rule.specs.declared.Rule.{Rule}
+use Rattle.rule.specs.Charge.{sliverOf, spared}
+use Rattle.rule.proofs.Charge.{sliver-spared}
 use Rattle.piece.specs.Piece.{Piece, lowSide, highSide, width, height, left, right, bottom, top, sliver}
-use Rattle.fracture.specs.declared.slivers.Band.{Band}
-use Rattle.fracture.specs.Memory.{Shown}
-use Rattle.fracture.specs.Sides.{exposedAt, exposedIn, Lies, lowOf, highOf, narrowIn, Banded}
+use Rattle.sliver.specs.declared.Band.{Band}
+use Rattle.sliver.specs.Sides.{Shown, exposedAt, exposedIn, Lies, lowOf, highOf, bothIn, Banded}
 
-module _ (cells lines stretches : List ℕ) (b : Band) (w : Banded cells lines stretches b) where
-  pub lies-low : Lies cells stretches (lowOf b)
+module _ (cells lines : List ℕ) (b : Band) (w : Banded cells lines b) where
+  pub lies-low : Lies cells lines (lowOf b)
   lies-low = record {
     near = λ k h. w .cell (b .low .0) k (omega (arith, w .ordered, w .most)) (omega (arith, w .end));
     far = λ k h. w .cell ((b .low .0 + 15) % 16) k (omega arith) (omega (arith, w .end));
     ordered = w .along;
     most = w .end;
-    lines = omega (arith, w .end, w .stretch-count);
+    crossed = omega (arith, w .end, w .count);
     rise = w .rise;
   }
 
-  pub lies-high : Lies cells stretches (highOf b)
+  pub lies-high : Lies cells lines (highOf b)
   lies-high = record {
     near = λ k h. w .cell (b .high .0 - 1) k (omega (arith, w .most)) (omega (arith, w .end));
     far = λ k h. w .cell (b .high .0) k (omega (arith, w .most)) (omega (arith, w .end));
     ordered = w .along;
     most = w .end;
-    lines = omega (arith, w .end, w .stretch-count);
+    crossed = omega (arith, w .end, w .count);
     rise = w .rise;
   }
-
-module _ (cells lines stretches : List ℕ) (t : ℕ) (b : Band) {low high : ℕ} (x : low ≡ getD lines (b .low .0) 0)
-    (y : high ≡ getD lines (b .high .0) 0) where
-  pub narrow-none : t ≤ high - low → 0 ≡ narrowIn cells lines stretches t b
-  unfolding narrowIn
-  narrow-none h =
-      let e : ltb (getD lines (b .high .0) 0 - getD lines (b .low .0) 0) t ≡ false =
-      le-ltb (getD lines (b .high .0) 0 - getD lines (b .low .0) 0) t (omega arith) in
-      sym (ap (λ s. only s (exposedIn cells stretches (lowOf b) + exposedIn cells stretches (highOf b))) e)
-
-  pub narrow-both : {u v : ℕ} → high - low < t → u ≡ exposedIn cells stretches (lowOf b) → v ≡ exposedIn cells stretches (highOf b)
-      → u + v ≡ narrowIn cells lines stretches t b
-  unfolding narrowIn
-  narrow-both h p q =
-      let e : ltb (getD lines (b .high .0) 0 - getD lines (b .low .0) 0) t ≡ true =
-      lt-ltb (getD lines (b .high .0) 0 - getD lines (b .low .0) 0) t (omega arith) in
-      ap₂ (λ m n. m + n) p q
-      ∙ sym (ap (λ s. only s (exposedIn cells stretches (lowOf b) + exposedIn cells stretches (highOf b))) e)
 
 -- a stretch between two cells
 stretch : (s t : Bool) (u v : ℕ) → exposedAt (only s 1) (only t 1) u v ≡ only (s && not t) (v - u)
@@ -70,15 +53,15 @@ stretch true true u v = refl
 stretch true false u v = refl
 stretch false t u v = refl
 
--- The cells f i j lie at across x i + along x j, and the places y k of the stretches at k.
-module _ (cells stretches : List ℕ) (f : ℕ → ℕ → Bool) (y : ℕ → ℕ) (across along : ℕ)
+-- The cells f i j lie at across x i + along x j, and the places y k of the lines that they cross at k.
+module _ (cells lines : List ℕ) (f : ℕ → ℕ → Bool) (y : ℕ → ℕ) (across along : ℕ)
     (cell-at : (i j : ℕ) → i < 16 → j < 16 → getD cells (across * i + along * j) 0 ≡ only (f i j) 1)
     (end : ℕ)
     (few : end ≤ 15)
-    (place-at : (k : ℕ) → k ≤ end → getD stretches k 0 ≡ y k)
+    (place-at : (k : ℕ) → k ≤ end → getD lines k 0 ≡ y k)
     (from : ℕ) where
   at : (i o k : ℕ) → i < 16 → o < 16 → k < end
-      → exposedAt (getD cells (across * i + along * k) 0) (getD cells (across * o + along * k) 0) (getD stretches k 0) (getD stretches (k + 1) 0)
+      → exposedAt (getD cells (across * i + along * k) 0) (getD cells (across * o + along * k) 0) (getD lines k 0) (getD lines (k + 1) 0)
       ≡ only (f i k && not (f o k)) (y (suc k) - y k)
   at i o k h q r =
       rw (
@@ -91,7 +74,7 @@ module _ (cells stretches : List ℕ) (f : ℕ → ℕ → Bool) (y : ℕ → �
       (stretch (f i k) (f o k) (y k) (y (suc k)))
 
   pub side-low : (low : ℕ) → low < 15 → ((k : ℕ) → f 15 k ≡ false)
-      → exposedIn cells stretches (record { near = across * low; far = across * ((low + 15) % 16); step = along; from = record { 0 = from }; to = record { 0 = end } })
+      → exposedIn cells lines (record { near = across * low; far = across * ((low + 15) % 16); step = along; from = record { 0 = from }; to = record { 0 = end } })
       ≡ over from end (λ k. only (lowSide (λ i. f i k) low) (y (suc k) - y k))
   unfolding exposedIn lowSide
   side-low zero h none =
@@ -103,7 +86,7 @@ module _ (cells stretches : List ℕ) (f : ℕ → ℕ → Bool) (y : ℕ → �
       (λ k _ q. rw e (at (suc l) l k (omega arith) (omega arith) q))
 
   pub side-high : (high : ℕ) → 0 < high → high ≤ 15
-      → exposedIn cells stretches (record { near = across * (high - 1); far = across * high; step = along; from = record { 0 = from }; to = record { 0 = end } })
+      → exposedIn cells lines (record { near = across * (high - 1); far = across * high; step = along; from = record { 0 = from }; to = record { 0 = end } })
       ≡ over from end (λ k. only (highSide (λ i. f i k) high) (y (suc k) - y k))
   unfolding exposedIn highSide
   side-high zero h q = absurd (omega arith)
@@ -162,7 +145,7 @@ module _ (g : Grid) (xs ys cells : List ℕ) (p : Piece) (w : Shown g xs ys cell
         w .sound .y-up k,
       )
 
-  pub banded-x : Banded cells xs ys band-x
+  pub banded-x : Banded cells ys band-x
   banded-x =
       let v = w .valid in
       let s = w .sound in
@@ -173,19 +156,11 @@ module _ (g : Grid) (xs ys cells : List ℕ) (p : Piece) (w : Shown g xs ys cell
         along = omega (arith, v .bd);
         end = omega (arith, v .dy, s .rows-most);
         cell = λ i j h k. omega (arith, d .cells-length);
-        line-count = d .xs-length;
-        stretch-count = d .ys-length;
-        narrow =
-            omega (
-              arith,
-              d .x-at (p .a) (omega (arith, v .ac, v .cx)),
-              d .x-at (p .c) (v .cx),
-              rise (g .x) (s .x-up) (p .a) (p .c) (omega (arith, v .ac)),
-            );
+        count = d .ys-length;
         rise = λ k h. y-rises k (omega (arith, v .dy));
       }
 
-  pub banded-y : Banded cells ys xs band-y
+  pub banded-y : Banded cells xs band-y
   banded-y =
       let v = w .valid in
       let s = w .sound in
@@ -196,15 +171,7 @@ module _ (g : Grid) (xs ys cells : List ℕ) (p : Piece) (w : Shown g xs ys cell
         along = omega (arith, v .ac);
         end = omega (arith, v .cx, s .columns-most);
         cell = λ i j h k. omega (arith, d .cells-length);
-        line-count = d .ys-length;
-        stretch-count = d .xs-length;
-        narrow =
-            omega (
-              arith,
-              d .y-at (p .b) (omega (arith, v .bd, v .dy)),
-              d .y-at (p .d) (v .dy),
-              rise (g .y) (s .y-up) (p .b) (p .d) (omega (arith, v .bd)),
-            );
+        count = d .xs-length;
         rise = λ k h. x-rises k (omega (arith, v .cx));
       }
 
@@ -235,21 +202,48 @@ module _ (g : Grid) (xs ys cells : List ℕ) (p : Piece) (w : Shown g xs ys cell
             (omega (arith, v .dy, s .rows-most)),
       )
 
-  pub sliver-sides : (r : Rule) (t : ℕ) {u v : ℕ} → r .threshold ≡ t → u ≡ narrowIn cells xs ys t band-x → v ≡ narrowIn cells ys xs t band-y
-      → u + v ≡ sliver g r p
-  unfolding narrowIn sliver width height
-  sliver-sides r t e m n =
+  -- what the four places say
+  pub x-ordered : {l r : ℕ} → l ≡ getD xs (p .a) 0 → r ≡ getD xs (p .c) 0 → l ≤ r
+  x-ordered e f =
       let v = w .valid in
       let d = w .drawn in
-      ap₂ (λ i j. i + j) m n
-      ∙ rw (
-        sides-x .0,
-        sides-x .1,
-        sides-y .0,
-        sides-y .1,
+      omega (
+        arith,
         d .x-at (p .a) (omega (arith, v .ac, v .cx)),
         d .x-at (p .c) (v .cx),
+        rise (g .x) (w .sound .x-up) (p .a) (p .c) (omega (arith, v .ac)),
+      )
+
+  pub y-ordered : {l r : ℕ} → l ≡ getD ys (p .b) 0 → r ≡ getD ys (p .d) 0 → l ≤ r
+  y-ordered e f =
+      let v = w .valid in
+      let d = w .drawn in
+      omega (
+        arith,
         d .y-at (p .b) (omega (arith, v .bd, v .dy)),
         d .y-at (p .d) (v .dy),
-        e,
+        rise (g .y) (w .sound .y-up) (p .b) (p .d) (omega (arith, v .bd)),
       )
+
+  pub width-is : {l r : ℕ} → l ≡ getD xs (p .a) 0 → r ≡ getD xs (p .c) 0 → r - l ≡ width g (p .a) (p .c)
+  unfolding width
+  width-is e f =
+      let v = w .valid in
+      ap₂ (λ m n. m - n) (f ∙ w .drawn .x-at (p .c) (v .cx)) (e ∙ w .drawn .x-at (p .a) (omega (arith, v .ac, v .cx)))
+
+  pub height-is : {l r : ℕ} → l ≡ getD ys (p .b) 0 → r ≡ getD ys (p .d) 0 → r - l ≡ height g (p .b) (p .d)
+  unfolding height
+  height-is e f =
+      let v = w .valid in
+      ap₂ (λ m n. m - n) (f ∙ w .drawn .y-at (p .d) (v .dy)) (e ∙ w .drawn .y-at (p .b) (omega (arith, v .bd, v .dy)))
+
+  module _ (r : Rule) {m n : ℕ} (x : m ≡ width g (p .a) (p .c)) (y : n ≡ height g (p .b) (p .d)) where
+    pub sliver-none : spared r m n ≡ true → 0 ≡ sliver g r p
+    unfolding sliver
+    sliver-none e =
+        sym (sliver-spared r (width g (p .a) (p .c)) (height g (p .b) (p .d)) _ _ (sym (ap₂ (spared r) x y) ∙ e))
+
+    pub sliver-measured : {s u v : ℕ} → u ≡ bothIn cells ys band-x → v ≡ bothIn cells xs band-y → s ≡ sliverOf r m n u v → s ≡ sliver g r p
+    unfolding bothIn sliver
+    sliver-measured e f k =
+        k ∙ rw (x, y, e, f, sides-x .0, sides-x .1, sides-y .0, sides-y .1)

@@ -1,8 +1,8 @@
--- `fracture::slivers::stretch` meets its contract. Assumes nothing.
+-- `sliver::stretch` meets its contract. Assumes nothing.
 use borrow.Author.Needs.{needs}
-use Rattle.fracture.proofs.Sides.{exposed-at, exposed-within, exposed-across}
-use Rattle.fracture.proofs.slivers.stretch.Statement.{statement}
-use Rattle.fracture.proofs.slivers.stretch.Tie as tie
+use Rattle.sliver.proofs.Sides.{exposed-at, exposed-within, exposed-across}
+use Rattle.sliver.proofs.stretch.Statement.{statement}
+use Rattle.sliver.proofs.stretch.Tie as tie
 
 sub-result : tie.Need-sub-result
 sub-result c = search needs
