@@ -1,9 +1,9 @@
--- `fracture::emission::high_part` meets its contract. Assumes nothing.
+-- `emission::high_part` meets its contract. Assumes nothing.
 use mathlib.Core.Path.{sym, ap}
 use borrow.Author.Needs.{needs}
-use Rattle.fracture.specs.Verdict.{highPart}
-use Rattle.fracture.proofs.emission.high_part.Statement.{statement}
-use Rattle.fracture.proofs.emission.high_part.Tie as tie
+use Rattle.verdict.specs.Verdict.{highPart}
+use Rattle.emission.proofs.high_part.Statement.{statement}
+use Rattle.emission.proofs.high_part.Tie as tie
 
 enum-known-cut : tie.Need-enum-known-cut
 enum-known-cut c = search needs

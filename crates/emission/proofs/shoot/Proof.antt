@@ -1,8 +1,8 @@
--- `fracture::emission::shoot` meets its contract. Assumes nothing.
+-- `emission::shoot` meets its contract. Assumes nothing.
 use borrow.Author.Needs.{needs}
-use Rattle.fracture.proofs.Emitted.{written-one}
-use Rattle.fracture.proofs.emission.shoot.Statement.{statement}
-use Rattle.fracture.proofs.emission.shoot.Tie as tie
+use Rattle.emission.proofs.Emitted.{written-one}
+use Rattle.emission.proofs.shoot.Statement.{statement}
+use Rattle.emission.proofs.shoot.Tie as tie
 
 write-shot-requires : tie.Need-write-shot-requires
 write-shot-requires c κs = search needs
@@ -14,9 +14,9 @@ same-length : tie.Need-same-length
 same-length c = search needs
 
 returns : tie.Need-returns
-returns c g r w e =
+returns c g w =
     let s = c .before .before .before .before .before .before .before .before .before .args in
-    written-one g r (s .xs .now) (s .ys .now) (s .cells .now) _ w (s .list .now) _ _ (c .before .before .before .write-shot .ensures) (c .sliver-of .ensures g r w e)
+    written-one g _ (s .xs .now) (s .ys .now) (s .cells .now) _ w (s .list .now) _ _ (c .before .before .before .write-shot .ensures) (c .sliver-of .ensures g w)
 
 pub shoot-spec : {M : Type 1} → statement M
 shoot-spec = tie.close (tie.spec write-shot-requires sliver-of-requires same-length returns)

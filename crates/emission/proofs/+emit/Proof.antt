@@ -1,4 +1,4 @@
--- `fracture::emission::emit` meets its contract. The measure is the number of cells of the piece. Assumes nothing.
+-- `emission::emit` meets its contract. The measure is the number of cells of the piece. Assumes nothing.
 use Prim.Native.Nat.{ℕ, _<_}
 use mathlib.Core.Path.{refl, sym, _∙_, ap}
 use native.Mathlib.Omega.{arith}
@@ -7,20 +7,20 @@ use lib.ListN.{length}
 use Rattle.outline.specs.Grid.{Grid}
 use Rattle.rule.specs.declared.Rule.{Rule}
 use Rattle.piece.specs.Piece.{cells}
-use Rattle.fracture.specs.Verdict.{meant}
-use Rattle.fracture.specs.Memory.{Filled}
-use Rattle.fracture.proofs.Emitted.{Halves, halves, told-outside, told-shot, low-less, high-less, parts, count-parts, sliver-parts, count-few, slivers-few, shown-of, emit-low, emit-high, written-none, written-join, written-as}
+use Rattle.piece.specs.Meant.{meant}
+use Rattle.verdict.specs.Memory.{Costed}
+use Rattle.emission.proofs.Emitted.{Halves, halves, told-outside, told-shot, low-less, high-less, parts, count-parts, sliver-parts, count-few, slivers-few, shown-of, emit-low, emit-high, written-none, written-join, written-as, written-by}
 use borrow.Fn.Kinds.{In}
 use borrow.Fn.PlainCycle.{Measures, is, falls, and}
-use Rattle.fracture.proofs.emission.emit.Reads as emit
-use Rattle.fracture.proofs.emission.emit.Kinds as emit-kinds
-use Rattle.fracture.proofs.emission.+emit.Lts-emit as emit-lts
-use Rattle.fracture.proofs.emission.high_part.Reads as high-part-reads
-use Rattle.fracture.proofs.emission.low_part.Reads as low-part-reads
-use Rattle.fracture.proofs.emission.shoot.Reads as shoot-reads
-use Rattle.fracture.proofs.judging.judge.Reads as judge-reads
-use Rattle.fracture.proofs.emission.+emit.{statement}
-use Rattle.fracture.proofs.emission.+emit.Tie.{close}
+use Rattle.emission.proofs.emit.Reads as emit
+use Rattle.emission.proofs.emit.Kinds as emit-kinds
+use Rattle.emission.proofs.+emit.Lts-emit as emit-lts
+use Rattle.emission.proofs.high_part.Reads as high-part-reads
+use Rattle.emission.proofs.low_part.Reads as low-part-reads
+use Rattle.emission.proofs.shoot.Reads as shoot-reads
+use Rattle.verdict.proofs.judge.Reads as judge-reads
+use Rattle.emission.proofs.+emit.{statement}
+use Rattle.emission.proofs.+emit.Tie.{close}
 
 abbrev μ-emit : Measures 5 emit-kinds.ps ℕ
 μ-emit κs a = cells (meant (a .1 .1 .1 .1 .1 .1 .1 .0))
@@ -44,7 +44,7 @@ cut : (t : ℕ) (c : emit-lts.After-known-told (
   high-part-reads.Asked,
   high-part-reads.Learnt,
 ) (emit-at t) emit.Post) (g : Grid) (r : Rule)
-    → Filled g r (c .before .before .before .before .before .before .before .before .before .args .costs .now) (c .before .before .before .before .before .before .before .before .before .args .cells .now) (c .before .before .before .before .before .before .before .before .before .args .plan)
+    → Costed g r (c .before .before .before .before .before .before .before .before .before .args .costs .now) (c .before .before .before .before .before .before .before .before .before .args .cells .now) (c .before .before .before .before .before .before .before .before .before .args .plan)
     → Halves g r (c .before .before .before .before .before .before .before .before .before .args .plan) (meant (c .before .before .before .before .before .before .before .before .before .args .p)) (c .before .verdict .given .0 .0)
 cut t c g r f =
     halves g r _ _ (c .before .before .before .before .before .before .before .before .before .pre .1 .valid) _ (sym (c .before .verdict .given .1) ∙ c .before .before .before .judge .ensures g r f)
@@ -63,7 +63,7 @@ emit-judge-requires : (t : ℕ) → emit-lts.Need-judge-requires (
 ) (emit-at t) emit.Post
 emit-judge-requires t c κs =
     let w = c .before .before .before .before .before .pre .1 in
-    record { grid = w .grid; rule = w .rule; filled = w .walk .filled; valid = w .valid }
+    record { grid = w .grid; rule = w .rule; costed = w .walk .costed; valid = w .valid }
 
 emit-enum-told : (t : ℕ) → emit-lts.Need-enum-told (
   judge-reads.Asked,
@@ -107,7 +107,7 @@ emit-shoot-requires : (t : ℕ) → emit-lts.Need-shoot-requires (
 ) (emit-at t) emit.Post
 emit-shoot-requires t c κs =
     let w = c .before .before .before .before .before .before .before .before .before .pre .1 in
-    let e = told-shot (w .grid) (w .rule) _ (sym (c .before .enum-told2 .given .1) ∙ c .before .before .before .judge .ensures (w .grid) (w .rule) (w .walk .filled)) in (
+    let e = told-shot (w .grid) (w .rule) _ (sym (c .before .enum-told2 .given .1) ∙ c .before .before .before .judge .ensures (w .grid) (w .rule) (w .walk .costed)) in (
       record { grid = w .grid; shown = shown-of _ _ _ _ _ _ _ (w .walk) _ (w .valid) },
       omega (arith, w .fits, ap length e),
     )
@@ -155,7 +155,7 @@ emit-emit-requires : (t : ℕ) → emit-lts.Need-emit-requires (
 emit-emit-requires t c κs =
     let s = c .before .before .before .before .before .before .before .before .before .before .before in
     let w = s .pre .1 in
-    let h = cut t (c .before .before) (w .grid) (w .rule) (w .walk .filled) in
+    let h = cut t (c .before .before) (w .grid) (w .rule) (w .walk .costed) in
     (low-less _ _ _ _ _ h (c .low-part .ensures) (s .pre .0), emit-low _ _ _ _ _ _ _ _ w _ h (c .low-part .ensures))
 
 emit-mul-next : (t : ℕ) → emit-lts.Need-mul-next (
@@ -172,7 +172,7 @@ emit-mul-next : (t : ℕ) → emit-lts.Need-mul-next (
 ) (emit-at t) emit.Post
 emit-mul-next t c =
     let w = c .before .before .before .before .before .before .before .before .before .before .before .before .before .before .before .pre .1 in
-    let h = cut t (c .before .before .before .before .before .before) (w .grid) (w .rule) (w .walk .filled) in
+    let h = cut t (c .before .before .before .before .before .before) (w .grid) (w .rule) (w .walk .costed) in
     let e = c .before .before .before .emit .ensures (w .grid) (w .rule) (w .walk) .count in
     omega (arith, w .fits, e, count-parts _ _ _ _ _ h (c .before .before .before .before .low-part .ensures) refl, c .before .before .before .before .before .before .before .before .before .before .before .before .before .before .before .good .1 .1 .1 .1 .0)
 
@@ -190,7 +190,7 @@ emit-add-next : (t : ℕ) → emit-lts.Need-add-next (
 ) (emit-at t) emit.Post
 emit-add-next t c =
     let w = c .before .before .before .before .before .before .before .before .before .before .before .before .before .before .before .pre .1 in
-    let h = cut t (c .before .before .before .before .before .before) (w .grid) (w .rule) (w .walk .filled) in
+    let h = cut t (c .before .before .before .before .before .before) (w .grid) (w .rule) (w .walk .costed) in
     let e = c .before .before .before .emit .ensures (w .grid) (w .rule) (w .walk) .count in
     omega (arith, w .fits, e, count-parts _ _ _ _ _ h (c .before .before .before .before .low-part .ensures) refl, c .before .before .before .before .before .before .before .before .before .before .before .before .before .before .before .good .1 .1 .1 .1 .0)
 
@@ -223,7 +223,7 @@ emit-emit-requires-2 : (t : ℕ) → emit-lts.Need-emit-requires-2 (
 emit-emit-requires-2 t c κs =
     let s = c .before .before .before .before .before .before .before .before .before .before .before .before .before .before .before .before .before in
     let w = s .pre .1 in
-    let h = cut t (c .before .before .before .before .before .before .before .before) (w .grid) (w .rule) (w .walk .filled) in (
+    let h = cut t (c .before .before .before .before .before .before .before .before) (w .grid) (w .rule) (w .walk .costed) in (
       high-less _ _ _ _ _ h (c .high-part .ensures) (s .pre .0),
       emit-high _ _ _ _ _ _ _ _ w _ h (c .before .before .before .before .before .before .low-part .ensures) (c .high-part .ensures)
           (c .before .before .before .before .before .emit .ensures (w .grid) (w .rule) (w .walk) .count)
@@ -244,13 +244,13 @@ emit-add-t20 : (t : ℕ) → emit-lts.Need-add-t20 (
 ) (emit-at t) emit.Post
 emit-add-t20 t c =
     let w = c .before .before .before .before .before .before .before .before .before .before .before .before .before .before .before .before .before .before .before .before .before .before .pre .1 in
-    let h = cut t (c .before .before .before .before .before .before .before .before .before .before .before .before .before) (w .grid) (w .rule) (w .walk .filled) in
+    let h = cut t (c .before .before .before .before .before .before .before .before .before .before .before .before .before) (w .grid) (w .rule) (w .walk .costed) in
     omega (
       arith,
       c .before .before .before .before .before .before .before .before .before .before .emit .ensures (w .grid) (w .rule) (w .walk) .count,
       c .before .before .before .before .emit2 .ensures (w .grid) (w .rule) (w .walk) .count,
       count-parts _ _ _ _ _ h (c .before .before .before .before .before .before .before .before .before .before .before .low-part .ensures) (c .before .before .before .before .before .high-part .ensures),
-      count-few _ _ _ _ _ (w .walk .filled) _ (w .valid),
+      count-few _ _ _ _ _ (w .walk .costed) _ (w .valid),
     )
 
 emit-add-t23 : (t : ℕ) → emit-lts.Need-add-t23 (
@@ -267,13 +267,13 @@ emit-add-t23 : (t : ℕ) → emit-lts.Need-add-t23 (
 ) (emit-at t) emit.Post
 emit-add-t23 t c =
     let w = c .before .before .before .before .before .before .before .before .before .before .before .before .before .before .before .before .before .before .before .before .before .before .before .before .pre .1 in
-    let h = cut t (c .before .before .before .before .before .before .before .before .before .before .before .before .before .before .before) (w .grid) (w .rule) (w .walk .filled) in
+    let h = cut t (c .before .before .before .before .before .before .before .before .before .before .before .before .before .before .before) (w .grid) (w .rule) (w .walk .costed) in
     omega (
       arith,
       c .before .before .before .before .before .before .before .before .before .before .before .before .emit .ensures (w .grid) (w .rule) (w .walk) .slivers,
       c .before .before .before .before .before .before .emit2 .ensures (w .grid) (w .rule) (w .walk) .slivers,
       sliver-parts _ _ _ _ _ h (c .before .before .before .before .before .before .before .before .before .before .before .before .before .low-part .ensures) (c .before .before .before .before .before .before .before .high-part .ensures),
-      slivers-few _ _ _ _ _ (w .walk .filled) _ (w .valid),
+      slivers-few _ _ _ _ _ (w .walk .costed) _ (w .valid),
     )
 
 emit-returns : (t : ℕ) → emit-lts.Need-returns (
@@ -289,7 +289,7 @@ emit-returns : (t : ℕ) → emit-lts.Need-returns (
   high-part-reads.Learnt,
 ) (emit-at t) emit.Post
 emit-returns t c g r w =
-    written-as g r _ _ _ _ (told-outside g r _ (sym (c .enum-told .given .1) ∙ c .before .before .judge .ensures g r (w .filled))) (written-none g r _ _)
+    written-as g r _ _ _ _ (told-outside g r _ (sym (c .enum-told .given .1) ∙ c .before .before .judge .ensures g r (w .costed))) (written-none g r _ _)
 
 emit-same-length : (t : ℕ) → emit-lts.Need-same-length (
   judge-reads.Asked,
@@ -318,8 +318,8 @@ emit-returns-2 : (t : ℕ) → emit-lts.Need-returns-2 (
   high-part-reads.Learnt,
 ) (emit-at t) emit.Post
 emit-returns-2 t c g r w =
-    written-as g r _ _ _ _ (told-shot g r _ (sym (c .before .before .before .before .enum-told2 .given .1) ∙ c .before .before .before .before .before .before .judge .ensures g r (w .filled)))
-    (c .before .before .shoot .ensures g r (shown-of _ _ _ _ _ _ _ w _ (c .before .before .before .before .before .before .before .before .before .before .before .before .pre .1 .valid)) (w .threshold))
+    written-as g r _ _ _ _ (told-shot g r _ (sym (c .before .before .before .before .enum-told2 .given .1) ∙ c .before .before .before .before .before .before .judge .ensures g r (w .costed)))
+    (written-by g (w .rule) (c .before .before .shoot .ensures g (shown-of _ _ _ _ _ _ _ w _ (c .before .before .before .before .before .before .before .before .before .before .before .before .pre .1 .valid))))
 
 emit-same-length-2 : (t : ℕ) → emit-lts.Need-same-length-2 (
   judge-reads.Asked,
@@ -348,7 +348,7 @@ emit-returns-3 : (t : ℕ) → emit-lts.Need-returns-3 (
   high-part-reads.Learnt,
 ) (emit-at t) emit.Post
 emit-returns-3 t c g r w =
-    let h = cut t (c .before .before .before .before .before .before .before .before .before .before .before .before .before .before .before) g r (w .filled) in
+    let h = cut t (c .before .before .before .before .before .before .before .before .before .before .before .before .before .before .before) g r (w .costed) in
     written-as g r _ _ _ _ (parts _ _ _ _ _ h (c .before .before .before .before .before .before .before .before .before .before .before .before .before .low-part .ensures) (c .before .before .before .before .before .before .before .high-part .ensures))
     (written-join g r _ _ _ _ _ _ _ _ (c .before .before .before .before .before .before .before .before .before .before .before .before .emit .ensures g r w) (c .before .before .before .before .before .before .emit2 .ensures g r w))
 

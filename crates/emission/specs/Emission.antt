@@ -1,9 +1,9 @@
--- What emission writes.
+-- Inner: what emission writes (nobody has to believe these).
 --
 --   InLists xs ys p          == the lines of the piece p are lines of the lists xs and ys
 --   Written g r u v at l t   == by writing the shots l from the index at on the list u becomes v, and t are their count and sliver length
---   Walk g r ..              == what is lent speaks of the grid g and the rule r
---   Emittable .. at p        == it speaks of some grid and rule, and has room for the shots of the piece p
+--   Walk g r ..              == the table, the cells, the places and the plan are those of the grid g and the rule r
+--   Emittable .. at p        == they are those of some grid and rule, and from the index at on there is room for the shots of the piece p
 use Prim.Native.Nat.{ℕ, _+_, _*_, _≤_, _<_}
 use mathlib.Core.Path.{_≡_}
 use mathlib.Core.List.{List}
@@ -12,34 +12,30 @@ use lib.Seq.{sets}
 use Rattle.sum.specs.Sum.{sumOf}
 use Rattle.outline.specs.Grid.{Grid, Drawn}
 use Rattle.rule.specs.declared.Rule.{Rule}
+use Rattle.piece.specs.declared.Piece as stored
 use Rattle.piece.specs.Piece.{Piece, sliver}
-use Rattle.piece.specs.Straight.{shots, numbers}
+use Rattle.piece.specs.Straight.{shots, numbersOf}
 use Rattle.table.specs.Entry.{Valid}
-use Rattle.fracture.specs.declared.Piece as stored
-use Rattle.fracture.specs.declared.Plan.{Plan}
-use Rattle.fracture.specs.declared.emission.Tally.{Tally}
-use Rattle.fracture.specs.Memory.{Filled}
+use Rattle.verdict.specs.declared.Plan.{Plan}
+use Rattle.verdict.specs.Memory.{Costed}
+use Rattle.emission.specs.declared.Tally.{Tally}
 
--- the places of all four lines can be read
 pub record InLists (xs ys : List ℕ) (p : stored.Piece) : Type 0 where
   pub a : p .a .0 < length xs
   pub c : p .c .0 < length xs
   pub b : p .b .0 < length ys
   pub d : p .d .0 < length ys
 
--- count, sliver length and numbers of the same shots
 pub record Written (g : Grid) (r : Rule) (u v : List ℕ) (at : ℕ) (l : List Piece) (t : Tally) : Type 0 where
   pub count : t .shots ≡ length l
   pub slivers : t .sliver ≡ sumOf (sliver g r) l
-  pub list : v ≡ sets u at (numbers g l)
+  pub list : v ≡ sets u at (numbersOf g l)
 
--- the table, the cells, the places and the threshold are those of one grid and one rule
 pub record Walk (g : Grid) (r : Rule) (table cells xs ys : List ℕ) (plan : Plan) : Type 0 where
-  pub filled : Filled g r table cells plan
+  pub costed : Costed g r table cells plan
   pub drawn : Drawn g xs ys cells
-  pub threshold : r .threshold ≡ plan .threshold
+  pub rule : plan .rule ≡ r
 
--- four numbers for each shot of the piece, from the index at on
 pub record Emittable (table cells xs ys : List ℕ) (room : ℕ) (plan : Plan) (at : ℕ) (p : Piece) : Type 0 where
   pub grid : Grid
   pub rule : Rule

@@ -1,10 +1,10 @@
--- `fracture::emission::write_shot` meets its contract. Assumes nothing.
+-- `emission::write_shot` meets its contract. Assumes nothing.
 use native.Mathlib.Omega.{arith}
 use borrow.Author.Needs.{needs}
 use lib.ListN.{length-set}
-use Rattle.fracture.proofs.Emitted.{sets-four}
-use Rattle.fracture.proofs.emission.write_shot.Statement.{statement}
-use Rattle.fracture.proofs.emission.write_shot.Tie as tie
+use Rattle.emission.proofs.Emitted.{sets-four}
+use Rattle.emission.proofs.write_shot.Statement.{statement}
+use Rattle.emission.proofs.write_shot.Tie as tie
 
 place-of-requires : tie.Need-place-of-requires
 place-of-requires c κs = search needs

@@ -1,9 +1,9 @@
--- `fracture::emission::low_part` meets its contract. Assumes nothing.
+-- `emission::low_part` meets its contract. Assumes nothing.
 use mathlib.Core.Path.{sym, ap}
 use borrow.Author.Needs.{needs}
-use Rattle.fracture.specs.Verdict.{lowPart}
-use Rattle.fracture.proofs.emission.low_part.Statement.{statement}
-use Rattle.fracture.proofs.emission.low_part.Tie as tie
+use Rattle.verdict.specs.Verdict.{lowPart}
+use Rattle.emission.proofs.low_part.Statement.{statement}
+use Rattle.emission.proofs.low_part.Tie as tie
 
 enum-known-cut : tie.Need-enum-known-cut
 enum-known-cut c = search needs

@@ -2,7 +2,9 @@
 --
 -- What is written
 --   sets-append, sets-four               : a run of stores after another; four stores
---   written-none, written-one, written-join, written-as : no shot; one; those of one list, then those of another
+--   written-none, written-one, written-join
+--                                        : no shot; one; those of one list, then those of another
+--   written-as, written-by               : the same shots, and the same rule, by another name
 -- What a verdict says of the shots of a piece
 --   told-outside, told-shot              : none; the piece itself
 --   Halves, halves                       : the parts of a cut are smaller pieces of the grid, and their shots are the piece's
@@ -23,20 +25,21 @@ use Rattle.recurrence.specs.Scheme.{Kind, outside, full, mixed}
 use Rattle.outline.specs.Grid.{Grid}
 use Rattle.rule.specs.declared.Rule.{Rule}
 use Rattle.piece.specs.Piece.{Piece, kind, cells, cellSum, sliver}
-use Rattle.piece.specs.Straight.{Cut, vertical, horizontal, choice, shots, numbers}
+use Rattle.piece.specs.Straight.{Cut, vertical, horizontal, choice, shots, numbersOf}
 use Rattle.piece.proofs.Cells.{sum-vertical, sum-horizontal, cells-some, sum-le}
 use Rattle.piece.proofs.Straight.{shots-outside, shots-full, shots-part, cover}
 use Rattle.piece.proofs.Choice.{InPiece, choice-in, shots-vertical, shots-horizontal, numbers-one, numbers-none, numbers-append, numbers-length}
 use Rattle.piece.proofs.Bound.{count-most, slivers-most}
 use Rattle.table.specs.Entry.{Valid}
-use Rattle.fracture.specs.declared.Plan.{Plan}
-use Rattle.fracture.specs.declared.Direction.{Direction}
-use Rattle.fracture.specs.declared.Verdict.{Verdict}
-use Rattle.fracture.specs.declared.Verdict.the-variants as verdict
-use Rattle.fracture.specs.declared.emission.Tally.{Tally}
-use Rattle.fracture.specs.Verdict.{direction, verdictOf, lowPart, highPart}
-use Rattle.fracture.specs.Memory.{Filled, Shown}
-use Rattle.fracture.specs.Emission.{Written, Walk, Emittable}
+use Rattle.verdict.specs.declared.Plan.{Plan}
+use Rattle.verdict.specs.declared.Direction.{Direction}
+use Rattle.verdict.specs.declared.Verdict.{Verdict}
+use Rattle.verdict.specs.declared.Verdict.the-variants as verdict
+use Rattle.verdict.specs.Verdict.{direction, verdictOf, lowPart, highPart}
+use Rattle.verdict.specs.Memory.{Costed}
+use Rattle.sliver.specs.Sides.{Shown}
+use Rattle.emission.specs.declared.Tally.{Tally}
+use Rattle.emission.specs.Emission.{Written, Walk, Emittable}
 
 -- What is written
 
@@ -82,23 +85,25 @@ module _ (g : Grid) (r : Rule) where
             (ap (sets u at) (sym (numbers-one g p)));
       }
 
-  -- the same shots, by another name
   pub written-as : (u v : List ℕ) (at : ℕ) {k l : List Piece} (t : Tally) → k ≡ l → Written g r u v at l t → Written g r u v at k t
   written-as u v at t e w = subst (λ (l : List Piece). Written g r u v at l t) (sym e) w
 
   pub written-join : (u m v : List ℕ) (at : ℕ) (k l : List Piece) (s t : Tally) → Written g r u m at k s → Written g r m v (at + 4 * s .shots) l t
       → Written g r u v at (k ++ l) (record { shots = s .shots + t .shots; sliver = s .sliver + t .sliver })
   written-join u m v at k l s t a b =
-      let e : at + 4 * s .shots ≡ at + length (numbers g k) = omega (arith, a .count, numbers-length g k) in
+      let e : at + 4 * s .shots ≡ at + length (numbersOf g k) = omega (arith, a .count, numbers-length g k) in
       record {
         count = omega (arith, a .count, b .count, length-append k l);
         slivers = omega (arith, a .slivers, b .slivers, sumOf-append (sliver g r) k l);
         list =
             b .list
-            ∙ ap₂ (λ (w : List ℕ) (n : ℕ). sets w n (numbers g l)) (a .list) e
-            ∙ sym (sets-append u at (numbers g k) (numbers g l))
+            ∙ ap₂ (λ (w : List ℕ) (n : ℕ). sets w n (numbersOf g l)) (a .list) e
+            ∙ sym (sets-append u at (numbersOf g k) (numbersOf g l))
             ∙ ap (sets u at) (sym (numbers-append g k l));
       }
+
+pub written-by : (g : Grid) {r s : Rule} {u v : List ℕ} {at : ℕ} {l : List Piece} {t : Tally} → r ≡ s → Written g r u v at l t → Written g s u v at l t
+written-by g {u = u} {v = v} {at = at} {l = l} {t = t} e w = subst (λ (x : Rule). Written g x u v at l t) e w
 
 -- What a verdict says of the shots of a piece
 
@@ -170,7 +175,7 @@ module _ (g : Grid) (r : Rule) (p : Piece) where
           let b = cells-some (highPart p (direction (horizontal j))) (high .ac) (high .bd) in
           record { both = shots-horizontal g r p m j c; low = low; high = high; less-low = omega arith; less-high = omega arith }
 
-module _ (g : Grid) (r : Rule) (t cs : List ℕ) (plan : Plan) (f : Filled g r t cs plan) (p : Piece)
+module _ (g : Grid) (r : Rule) (t cs : List ℕ) (plan : Plan) (f : Costed g r t cs plan) (p : Piece)
     (v : Valid (plan .columns) (plan .rows) p) where
   pub count-few : length (shots g r p) ≤ 225
   count-few =
@@ -222,7 +227,7 @@ pub shown-of : (g : Grid) (r : Rule) (t cs xs ys : List ℕ) (plan : Plan) → W
     → Valid (plan .columns) (plan .rows) p
     → Shown g xs ys cs p
 shown-of g r t cs xs ys plan w p v =
-    let f = w .filled in
+    let f = w .costed in
     record {
       sound = f .sound;
       drawn = w .drawn;

@@ -1,22 +1,23 @@
 // Emission: the shots of a piece, written in list order.
-use super::Direction;
-use super::Piece;
-use super::Plan;
-use super::Verdict;
-use super::judging::judge;
-use super::slivers::sliver_of;
 use outline::place_of;
+use piece::Piece;
+use rule::Rule;
+use sliver::sliver_of;
+use verdict::Direction;
+use verdict::Plan;
+use verdict::Verdict;
+use verdict::judge;
 ghost use mathlib.Core.Path.{_≡_};
 ghost use mathlib.Core.List.{_∷_, []};
 ghost use Prim.Native.Nat.{ℕ, _+_, _*_, _<_, _≤_};
 ghost use lib.ListN.{length, getD};
 ghost use lib.Seq.{sets};
 ghost use Rattle.outline.specs.Grid.{Grid};
-ghost use Rattle.rule.specs.declared.Rule.{Rule};
+ghost use Rattle.piece.specs.Meant.{meant};
 ghost use Rattle.piece.specs.Straight.{shots};
-ghost use Rattle.fracture.specs.Verdict.{meant, lowPart, highPart};
-ghost use Rattle.fracture.specs.Memory.{Shown, Seen};
-ghost use Rattle.fracture.specs.Emission.{InLists, Written, Walk, Emittable};
+ghost use Rattle.verdict.specs.Verdict.{lowPart, highPart};
+ghost use Rattle.sliver.specs.Sides.{Shown, Seen};
+ghost use Rattle.emission.specs.Emission.{InLists, Written, Walk, Emittable};
 
 // Shots that were written: how many, and their sliver length together, in nm.
 pub struct Tally {
@@ -66,18 +67,18 @@ fn shoot(
     xs: &[u16],
     ys: &[u16],
     list: &mut [u16],
-    threshold: u32,
+    rule: Rule,
     at: usize,
     p: Piece,
 ) -> Tally
     requires { ⌜ Seen (now xs) (now ys) (now cells) (meant p) ⌝ }
     requires { ⌜ at + 4 ≤ length (now list) ⌝ }
-    ensures { λ t. ⌜ ((g : Grid) (r : Rule) → Shown g (now (xs .entry)) (now (ys .entry)) (now (cells .entry)) (meant p) → r .threshold ≡ threshold → Written g r (now (list .entry)) (now (list .exit)) at (meant p ∷ []) t) ⌝ }
+    ensures { λ t. ⌜ ((g : Grid) → Shown g (now (xs .entry)) (now (ys .entry)) (now (cells .entry)) (meant p) → Written g rule (now (list .entry)) (now (list .exit)) at (meant p ∷ []) t) ⌝ }
 {
     write_shot(xs, ys, list, at, p);
     Tally {
         shots: 1,
-        sliver: sliver_of(cells, xs, ys, threshold, p),
+        sliver: sliver_of(cells, xs, ys, rule, p),
     }
 }
 
@@ -101,7 +102,7 @@ pub fn emit(
             shots: 0,
             sliver: 0,
         },
-        Verdict::Shot => shoot(cells, xs, ys, list, plan.threshold, at, p),
+        Verdict::Shot => shoot(cells, xs, ys, list, plan.rule, at, p),
         Verdict::Cut(cut) => {
             let low = emit(costs, cells, xs, ys, list, plan, at, low_part(p, cut));
             let next = at + 4 * low.shots;
