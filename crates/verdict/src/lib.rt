@@ -4,7 +4,7 @@ use piece::Piece;
 use rule::Rule;
 use table::numbering::pair_number;
 ghost use mathlib.Core.Path.{_≡_};
-ghost use Prim.Native.Nat.{ℕ, _+_, _*_, _-_, _<_, _≤_};
+ghost use Prim.Native.Nat.{_+_, _*_, _≤_};
 ghost use lib.ListN.{length, getD};
 ghost use Rattle.outline.specs.Grid.{Grid};
 ghost use Rattle.piece.specs.Meant.{meant};
