@@ -1,9 +1,11 @@
 -- Laws of the delivery. Assumes nothing.
 --
---   area-few                      : a grid has at most 225 cells
---   room-all, room-fits, room-short : a number for each of four for each cell; room for the count; and not
---   whole-aside, whole-emittable  : the frame's shots have room in 900 numbers, and in a list that has enough
---   told-lacking, told-listed     : the answer of a list that is too short, and of one that is not
+--   area-few                        : a grid has at most 225 cells
+--   room-all, room-fits, room-short : four numbers for each cell are room enough; room for the count; and not
+--   short-says, enough-says         : what the room says of the count
+--   box-valid, frame-valid          : the frame is a piece; and as the code has made it
+--   frame-aside, frame-emittable    : its shots have room in 900 numbers, and in a list that has enough
+--   told-lacking, told-listed       : the answer of a list that is too short, and of one that is not
 use Prim.Native.Nat.{ℕ, _*_, _-_, _≤_, _<_}
 use mathlib.Core.Path.{_≡_, refl, ap, ap₂, sym, _∙_, subst}
 use mathlib.Core.Bool.{Bool, true, false, cond}
@@ -15,24 +17,24 @@ use lib.ListN.{length, getD}
 use lib.Seq.{sets, sets-eq}
 use borrow.Author.Tests.{lt-ltb, le-ltb, ltb-true, ltb-false}
 use Rattle.sum.specs.Sum.{sumOf}
+use Rattle.refusal.specs.declared.Refusal.the-variants as because
 use Rattle.outline.specs.Grid.{Grid}
 use Rattle.rule.specs.declared.Rule.{Rule}
 use Rattle.piece.specs.Piece.{Piece, box, frame, sliver, charge}
-use Rattle.piece.specs.Straight.{shots, cost, numbers}
+use Rattle.piece.specs.Straight.{shots, cost, numbersOf}
 use Rattle.piece.proofs.Cells.{cells-product}
 use Rattle.piece.proofs.Choice.{numbers-length}
 use Rattle.table.specs.Entry.{Valid, entryOf}
+use Rattle.verdict.specs.declared.Plan.{Plan}
+use Rattle.verdict.specs.Memory.{Costed}
+use Rattle.emission.specs.declared.Tally.{Tally}
+use Rattle.emission.specs.Emission.{Written, Walk, Emittable}
+use Rattle.emission.proofs.Emitted.{count-cells, count-few}
 use Rattle.demands.specs.Promise.{written}
-use Rattle.fracture.specs.declared.Plan.{Plan}
-use Rattle.fracture.specs.declared.Refusal.the-variants as because
 use Rattle.fracture.specs.declared.Fractured.the-variants.{Done, Refused}
 use Rattle.fracture.specs.declared.delivery.Room.the-variants.{Enough, Short}
-use Rattle.fracture.specs.declared.emission.Tally.{Tally}
-use Rattle.fracture.specs.Memory.{Filled}
-use Rattle.fracture.specs.Emission.{Written, Walk, Emittable}
 use Rattle.fracture.specs.Delivery.{roomOf, all, listed, lacking, delivered}
-use Rattle.fracture.specs.Told.{reason, told}
-use Rattle.fracture.proofs.Emitted.{count-cells, count-few}
+use Rattle.fracture.specs.Told.{told}
 
 pub room-fits : (n : ℕ) {m l : ℕ} → m ≡ l → 4 * m ≤ n → Enough ≡ roomOf n l
 unfolding roomOf
@@ -42,7 +44,7 @@ pub room-short : (n : ℕ) {m l : ℕ} → m ≡ l → n < 4 * m → Short m ≡
 unfolding roomOf
 room-short n {m} {l} e h = ap Short e ∙ sym (ap (λ t. cond t (Short l) Enough) (lt-ltb n (4 * l) (omega arith)))
 
-module _ (g : Grid) (r : Rule) (t cs : List ℕ) (plan : Plan) (f : Filled g r t cs plan) where
+module _ (g : Grid) (r : Rule) (t cs : List ℕ) (plan : Plan) (f : Costed g r t cs plan) where
   pub area-few : plan .columns * plan .rows ≤ 225
   area-few =
       let s = f .sound in
@@ -58,9 +60,8 @@ module _ (g : Grid) (r : Rule) (t cs : List ℕ) (plan : Plan) (f : Filled g r t
         mul-le-mul {n₁ = p .c - p .a} {m₁ = p .d - p .b} {n₂ = plan .columns} {m₂ = plan .rows} (omega (arith, v .cx)) (omega (arith, v .dy)),
       ))
 
-  -- the frame is a piece
-  pub frame-valid : Valid (plan .columns) (plan .rows) (box 0 (plan .columns) 0 (plan .rows))
-  frame-valid =
+  pub box-valid : Valid (plan .columns) (plan .rows) (box 0 (plan .columns) 0 (plan .rows))
+  box-valid =
       let s = f .sound in
       record {
         ac = omega (arith, f .columns, s .columns-some);
@@ -78,7 +79,6 @@ sets-front : (l vs : List ℕ) → length vs ≤ length l → sets l 0 vs ≡ wr
 unfolding written
 sets-front l vs h = sets-eq vs l 0 (omega arith) ∙ rw zero-add
 
--- what the room says of the count
 pub short-says : (n m k : ℕ) → Short k ≡ roomOf n m → (k ≡ m) × (n < 4 * m)
 unfolding roomOf
 short-says n m k e = go (ltb n (4 * m)) refl e
@@ -98,24 +98,24 @@ enough-says n m e = go (ltb n (4 * m)) refl e
 -- the frame, as the code has made it
 module _ (g : Grid) (r : Rule) (t cs xs ys : List ℕ) (plan : Plan) (w : Walk g r t cs xs ys plan) (q : Piece)
     (e : q ≡ box 0 (plan .columns) 0 (plan .rows)) where
-  pub whole-valid : Valid (plan .columns) (plan .rows) q
-  whole-valid = subst (Valid (plan .columns) (plan .rows)) (sym e) (frame-valid g r t cs plan (w .filled))
+  pub frame-valid : Valid (plan .columns) (plan .rows) q
+  frame-valid = subst (Valid (plan .columns) (plan .rows)) (sym e) (box-valid g r t cs plan (w .costed))
 
   same : shots g r q ≡ shots g r (frame g)
-  same = ap (shots g r) (e ∙ frame-is g r t cs plan (w .filled))
+  same = ap (shots g r) (e ∙ frame-is g r t cs plan (w .costed))
 
-  whole-fits : (n : ℕ) → 4 * length (shots g r q) ≤ n → Emittable t cs xs ys n plan 0 q
-  whole-fits n h = record { grid = g; rule = r; walk = w; valid = whole-valid; fits = omega arith }
+  frame-fits : (n : ℕ) → 4 * length (shots g r q) ≤ n → Emittable t cs xs ys n plan 0 q
+  frame-fits n h = record { grid = g; rule = r; walk = w; valid = frame-valid; fits = omega arith }
 
-  pub whole-aside : Emittable t cs xs ys 900 plan 0 q
-  whole-aside = whole-fits 900 (omega (arith, count-few g r t cs plan (w .filled) q whole-valid))
+  pub frame-aside : Emittable t cs xs ys 900 plan 0 q
+  frame-aside = frame-fits 900 (omega (arith, count-few g r t cs plan (w .costed) q frame-valid))
 
-  pub whole-emittable : {n : ℕ} → Enough ≡ roomOf n (length (shots g r q)) → Emittable t cs xs ys n plan 0 q
-  whole-emittable {n} h = whole-fits n (enough-says n (length (shots g r q)) h)
+  pub frame-emittable : {n : ℕ} → Enough ≡ roomOf n (length (shots g r q)) → Emittable t cs xs ys n plan 0 q
+  frame-emittable {n} h = frame-fits n (enough-says n (length (shots g r q)) h)
 
   pub told-lacking : (list : List ℕ) {k : ℕ} → Short k ≡ roomOf (length list) (length (shots g r q))
-      → told (Refused (because.List k)) t list ≡ delivered g r t list
-  unfolding delivered told reason
+      → told (Refused because.List k) t list ≡ delivered g r t list
+  unfolding delivered told
   told-lacking list {k} h =
       let s = short-says (length list) (length (shots g r q)) k h in
       let b : length list < 4 * length (all g r t list) = omega (arith, s .1, ap length same) in
@@ -131,14 +131,14 @@ module _ (g : Grid) (r : Rule) (t cs xs ys : List ℕ) (plan : Plan) (w : Walk g
   told-listed list list′ a h v at-e c-e =
       let m = enough-says (length list) (length (shots g r q)) h in
       let b : 4 * length (all g r t list) ≤ length list = omega (arith, m, ap length same) in
-      let n = v .list ∙ sets-front list (numbers g (shots g r q)) (omega (arith, m, numbers-length g (shots g r q))) in
+      let n = v .list ∙ sets-front list (numbersOf g (shots g r q)) (omega (arith, m, numbers-length g (shots g r q))) in
       (λ i.
       record {
         number = 0;
         shots = (v .count ∙ ap length same) i;
-        cost = (c-e ∙ ap (λ j. getD t j 0) at-e ∙ w .filled .cost-at q whole-valid ∙ ap (sumOf (charge g r)) same) i;
+        cost = (c-e ∙ ap (λ j. getD t j 0) at-e ∙ w .costed .cost-at q frame-valid ∙ ap (sumOf (charge g r)) same) i;
         sliver = (v .slivers ∙ ap (sumOf (sliver g r)) same) i;
         table = t;
-        list = (n ∙ ap (λ s. written (numbers g s) list) same) i;
+        list = (n ∙ ap (λ s. written (numbersOf g s) list) same) i;
       })
       ∙ sym (ap (λ x. cond x (lacking g r t list) (listed g r t list)) (le-ltb (length list) (4 * length (all g r t list)) b))

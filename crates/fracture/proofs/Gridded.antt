@@ -12,21 +12,22 @@ use mathlib.Core.List.{List, _++_}
 use native.Mathlib.Omega.{arith}
 use lib.ListN.{length, getD, drop}
 use borrow.Author.Tests.{lt-ltb, le-ltb}
+use Rattle.refusal.specs.declared.Refusal.the-variants as because
 use Rattle.outline.specs.Grid.{Grid, Memory, stored}
 use Rattle.rule.specs.declared.Rule.{Rule}
+use Rattle.rule.specs.Rules.{limit}
 use Rattle.piece.specs.Piece.{Piece}
 use Rattle.piece.specs.Straight.{cost}
 use Rattle.table.specs.Entry.{Valid, pairCount, entryCount, entryOf, costs}
 use Rattle.table.specs.Fill.{Ready}
 use Rattle.table.proofs.Entry.{costs-length, costs-at, entry-below}
+use Rattle.emission.specs.Emission.{Walk}
 use Rattle.demands.specs.Promise.{written}
 use Rattle.demands.proofs.Outcome.{written-length, written-at}
-use Rattle.fracture.specs.declared.Refusal.the-variants as because
 use Rattle.fracture.specs.declared.Fractured.{Fractured}
 use Rattle.fracture.specs.declared.Fractured.the-variants.{Refused}
-use Rattle.fracture.specs.Emission.{Walk}
 use Rattle.fracture.specs.Delivery.{Laid, delivered, settled}
-use Rattle.fracture.specs.Told.{reason, told}
+use Rattle.fracture.specs.Told.{told}
 
 module _ (g : Grid) (m : Memory) (w : Laid g m) where
   pub laid-few : (m .columns ≤ 15) × (m .rows ≤ 15)
@@ -38,7 +39,7 @@ module _ (g : Grid) (m : Memory) (w : Laid g m) where
   counted = ap₂ entryCount (w .columns) (w .rows)
 
   module _ (r : Rule) (t : List ℕ) where
-    pub laid-ready : r .weight ≤ 1000 → entryCount (m .columns) (m .rows) ≤ length t
+    pub laid-ready : r .weight ≤ limit → entryCount (m .columns) (m .rows) ≤ length t
         → Ready (stored (m .columns) (m .rows) (m .xs) (m .ys) (m .cells)) r (m .xs) (m .ys) (m .cells) t
     laid-ready h k =
         subst (λ s. Ready s r (m .xs) (m .ys) (m .cells) t) (sym (w .back))
@@ -59,12 +60,12 @@ module _ (g : Grid) (m : Memory) (w : Laid g m) where
           (omega (arith, entry-below (g .columns) (g .rows) p v′, costs-length g r))
           ∙ costs-at g r p v′
 
-      pub laid-walk : (n : ℕ) → n ≡ pairCount (m .rows) → r .weight ≤ 1000
-          → Walk g r u (m .cells) (m .xs) (m .ys) (record { columns = m .columns; rows = m .rows; pairs = n; threshold = r .threshold })
+      pub laid-walk : (n : ℕ) → n ≡ pairCount (m .rows) → r .weight ≤ limit
+          → Walk g r u (m .cells) (m .xs) (m .ys) (record { columns = m .columns; rows = m .rows; pairs = n; rule = r })
       laid-walk n p h =
           let d = w .drawn in
           record {
-            filled =
+            costed =
                 record {
                   sound = w .sound;
                   weight = h;
@@ -77,7 +78,7 @@ module _ (g : Grid) (m : Memory) (w : Laid g m) where
                   cost-at = cost-at;
                 };
             drawn = d;
-            threshold = refl;
+            rule = refl;
           }
 
       pub settled-delivered : (a : Fractured) (l l′ : List ℕ) → told a u l′ ≡ delivered g r u l → told a u l′ ≡ settled g r t l
@@ -93,8 +94,8 @@ module _ (g : Grid) (m : Memory) (w : Laid g m) where
           (le-ltb (length t) (entryCount (g .columns) (g .rows)) (omega (arith, counted))))
 
     pub settled-table : (l : List ℕ) → length t < entryCount (m .columns) (m .rows)
-        → told (Refused because.Table) t l ≡ settled g r t l
-    unfolding settled told reason
+        → told (Refused because.Table 0) t l ≡ settled g r t l
+    unfolding settled told
     settled-table l h =
         sym
         (ap

@@ -1,9 +1,3 @@
-pub mod Across
 pub mod Delivered
-pub mod Emitted
 pub mod Gridded
-pub mod Judged
-pub mod Lengths
-pub mod Search
 pub mod Settled
-pub mod Sides

@@ -9,13 +9,13 @@
 --   preset-range, preset-outcome : the default preset is in range, and its outcome is that of its two numbers
 --   told-apart          : answers that tell the same are the same
 --   fracture-unique     : two ways to satisfy a promise are one: the same answer, and the same in both buffers
-use Prim.Native.Nat.{ℕ, _*_, _≤_, _<_}
+use Prim.Native.Nat.{ℕ, _*_, _≤_}
 use mathlib.Core.Path.{_≡_, refl, ap, ap₂, sym, _∙_}
 use mathlib.Core.Bool.{Bool, true, false, cond}
 use mathlib.Core.List.{List}
 use mathlib.Core.Logic.{inl, inr}
 use native.Mathlib.Omega.{arith}
-use lib.Dec.{ltb, eqb}
+use lib.Dec.{ltb}
 use lib.ListN.{length}
 use borrow.Author.Tests.{lt-ltb, le-ltb}
 use Rattle.sum.proofs.Sum.{le-or}
@@ -29,12 +29,13 @@ use Rattle.piece.specs.Straight.{shots}
 use Rattle.table.specs.Entry.{entryCount, costs}
 use Rattle.demands.specs.Promise.{drawn, rule, reportedShots, reportedCost, reportedSliver, reportedList, reportedTable, Outcome, written, accepted, short, refused, outcome}
 use Rattle.demands.proofs.Promise.{outcome-rule, outcome-outline, outcome-table, outcome-list, outcome-accepted}
-use Rattle.fracture.specs.declared.Refusal as refusals
-use Rattle.fracture.specs.declared.Refusal.the-variants as because
+use Rattle.refusal.specs.declared.Refusal.{Refusal}
+use Rattle.refusal.specs.Refusals.{refusalNo}
+use Rattle.refusal.proofs.Refusals.{refusal-one, refusal-some}
 use Rattle.fracture.specs.declared.Fractured.{Fractured}
 use Rattle.fracture.specs.declared.Fractured.the-variants.{Done, Refused}
 use Rattle.fracture.specs.Delivery.{Laid, delivered, settled}
-use Rattle.fracture.specs.Told.{reason, told}
+use Rattle.fracture.specs.Told.{told}
 
 module _ (l : List ℕ) (t w : ℕ) (table list : List ℕ) (e : inRange t w ≡ true) (h : refusal l ≡ 0) where
   outcome-delivered : entryCount (drawn l .columns) (drawn l .rows) ≤ length table
@@ -70,16 +71,20 @@ module _ (l : List ℕ) (t w : ℕ) (table list : List ℕ) (e : inRange t w ≡
           q
 
 module _ (l : List ℕ) (t w : ℕ) (table list : List ℕ) where
-  pub told-rule : inRange t w ≡ false → told (Refused because.Rule) table list ≡ outcome l t w table list
-  unfolding told reason refused
-  told-rule e = sym (outcome-rule l t w table list e)
+  pub told-rule : (why : Refusal) → unknown (refusalNo why) ≡ ruleTold t w → told (Refused why 0) table list ≡ outcome l t w table list
+  unfolding told refused ruleTold
+  told-rule why e =
+      let z = go (inRange t w) e in
+      (λ i. record { number = z .0 i; shots = 0; cost = 0; sliver = 0; table = table; list = list })
+      ∙ sym (outcome-rule l t w table list (z .1))
+    where
+      go : (b : Bool) → unknown (refusalNo why) ≡ cond b (given (rule t w)) (unknown 1) → (refusalNo why ≡ 1) × (b ≡ false)
+      go true q = absurd (omega (arith, refusal-some why, ap (λ (x : Told). x .number) q))
+      go false q = (ap (λ (x : Told). x .number) q, refl)
 
-  pub told-outline : inRange t w ≡ true → (why : refusals.Refusal) → refusal l ≡ reason why .0 → 0 < reason why .0 → reason why .1 ≡ 0
-      → told (Refused why) table list ≡ outcome l t w table list
+  pub told-outline : inRange t w ≡ true → (why : Refusal) → refusal l ≡ refusalNo why → told (Refused why 0) table list ≡ outcome l t w table list
   unfolding told refused
-  told-outline e why h k z =
-      (λ i. record { number = reason why .0; shots = z i; cost = 0; sliver = 0; table = table; list = list })
-      ∙ sym (outcome-outline l t w table list e (reason why .0) h k)
+  told-outline e why h = sym (outcome-outline l t w table list e (refusalNo why) h (refusal-some why))
 
 pub answered : (l : List ℕ) (s : Sheet) → Promise l s → (a : Answer) → s .answer ≡ a → refusal l ≡ number a
 answered l s p a e = sym (p .told) ∙ ap number e
@@ -118,43 +123,23 @@ module _ (l table list : List ℕ) {r : Rule} (e : given r ≡ presetTold 0) whe
       ≡ outcome l (presetTold 0 .threshold) (presetTold 0 .weight) table list
   preset-outcome = ap (λ (t : Told). outcome l (t .threshold) (t .weight) table list) e
 
-pub preset-known : unknown 15 ≡ presetTold 0 → ⊥
+pub preset-known : (why : Refusal) → unknown (refusalNo why) ≡ presetTold 0 → ⊥
 unfolding presetTold
-preset-known e = let z : _≡_ {A = ℕ} 15 0 = ap (λ (t : Told). t .number) e in omega arith
+preset-known why e = omega (arith, refusal-some why, ap (λ (t : Told). t .number) e)
 
 -- No two answers tell the same
 
--- the answer that tells an outcome
-back : ℕ → ℕ → refusals.Refusal
-back n shots =
-    cond (eqb n 1) because.Rule
-    (cond (eqb n 2) because.Length
-    (cond (eqb n 3) because.Slanted
-    (cond (eqb n 4) because.Straight
-    (cond (eqb n 5) because.Empty
-    (cond (eqb n 6) because.Table (because.List shots))))))
-
-answer : Outcome → Fractured
-answer o = cond (eqb (o .number) 0) (Done (o .shots) (o .cost) (o .sliver)) (Refused (back (o .number) (o .shots)))
-
-answer-told : (a : Fractured) (table list : List ℕ) → answer (told a table list) ≡ a
-unfolding answer back told reason
-answer-told (Done s c n) table list = refl
-answer-told (Refused because.Rule) table list = refl
-answer-told (Refused because.Length) table list = refl
-answer-told (Refused because.Slanted) table list = refl
-answer-told (Refused because.Straight) table list = refl
-answer-told (Refused because.Empty) table list = refl
-answer-told (Refused because.Table) table list = refl
-answer-told (Refused (because.List n)) table list = refl
-
 pub told-apart : (a b : Fractured) (t u l m : List ℕ) → told a t l ≡ told b u m → a ≡ b
-told-apart a b t u l m e = sym (answer-told a t l) ∙ ap answer e ∙ answer-told b u m
+unfolding told
+told-apart (Done s c n) (Done v d o) t u l m e = ap (λ x. Done (x .shots) (x .cost) (x .sliver)) e
+told-apart (Done s c n) (Refused why v) t u l m e = absurd (omega (arith, refusal-some why, ap (λ o. o .number) e))
+told-apart (Refused why s) (Done v d o) t u l m e = absurd (omega (arith, refusal-some why, ap (λ o. o .number) e))
+told-apart (Refused why s) (Refused for v) t u l m e = ap₂ Refused (refusal-one why for (ap (λ o. o .number) e)) (ap (λ o. o .shots) e)
 
 told-buffers : (a : Fractured) (t l : List ℕ) → (told a t l .table ≡ t) × (told a t l .list ≡ l)
 unfolding told
 told-buffers (Done s c n) t l = (refl, refl)
-told-buffers (Refused why) t l = (refl, refl)
+told-buffers (Refused why s) t l = (refl, refl)
 
 pub fracture-unique : (o : Outcome) (a b : Fractured) (t u l m : List ℕ) → told a t l ≡ o → told b u m ≡ o → (a ≡ b) × (t ≡ u) × (l ≡ m)
 fracture-unique o a b t u l m p q =

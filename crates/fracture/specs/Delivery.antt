@@ -1,6 +1,6 @@
--- What the call delivers once it has a grid.
+-- Inner: what the call delivers once it has a grid (nobody has to believe these).
 --
---   roomOf n m               == whether n numbers have room for m shots
+--   roomOf n m               == whether n numbers have room for m shots, four for each
 --   Walkable ..              == what is lent speaks of some grid and rule
 --   Laid g m                 == the sound grid g lies in memory as m, and is read back as itself
 --   Fillable m r             == there is such a grid, and the weight of the rule r is within its limit
@@ -13,28 +13,28 @@ use mathlib.Core.List.{List}
 use lib.Dec.{ltb}
 use lib.ListN.{length}
 use Rattle.sum.specs.Sum.{sumOf}
+use Rattle.refusal.specs.declared.Refusal.the-variants as because
+use Rattle.refusal.specs.Refusals.{refusalNo}
 use Rattle.outline.specs.Grid.{Grid, Sound, Drawn, Memory, stored}
 use Rattle.rule.specs.declared.Rule.{Rule}
+use Rattle.rule.specs.Rules.{limit}
 use Rattle.piece.specs.Piece.{Piece, frame, sliver, charge}
-use Rattle.piece.specs.Straight.{shots, numbers}
+use Rattle.piece.specs.Straight.{shots, numbersOf}
 use Rattle.table.specs.Entry.{entryCount, costs}
+use Rattle.verdict.specs.declared.Plan.{Plan}
+use Rattle.emission.specs.Emission.{Walk}
 use Rattle.demands.specs.Promise.{Outcome, written}
-use Rattle.fracture.specs.declared.Plan.{Plan}
 use Rattle.fracture.specs.declared.delivery.Room.{Room}
 use Rattle.fracture.specs.declared.delivery.Room.the-variants.{Enough, Short}
-use Rattle.fracture.specs.Emission.{Walk}
 
--- four numbers for each shot
 unfoldable pub roomOf : ℕ → ℕ → Room
 roomOf n m = cond (ltb n (4 * m)) (Short m) Enough
 
--- all that the delivery asks for
 pub record Walkable (table cells xs ys : List ℕ) (plan : Plan) : Type 0 where
   pub grid : Grid
   pub rule : Rule
   pub walk : Walk grid rule table cells xs ys plan
 
--- a grid in memory
 pub record Laid (g : Grid) (m : Memory) : Type 0 where
   pub sound : Sound g
   pub columns : m .columns ≡ g .columns
@@ -42,11 +42,10 @@ pub record Laid (g : Grid) (m : Memory) : Type 0 where
   pub drawn : Drawn g (m .xs) (m .ys) (m .cells)
   pub back : stored (m .columns) (m .rows) (m .xs) (m .ys) (m .cells) ≡ g
 
--- all that the fracture of a grid asks for
 pub record Fillable (m : Memory) (r : Rule) : Type 0 where
   pub grid : Grid
   pub laid : Laid grid m
-  pub weight : r .weight ≤ 1000
+  pub weight : r .weight ≤ limit
 
 module _ (g : Grid) (r : Rule) (table list : List ℕ) where
   -- the shots of the whole grid
@@ -62,12 +61,12 @@ module _ (g : Grid) (r : Rule) (table list : List ℕ) where
         cost = sumOf (charge g r) all;
         sliver = sumOf (sliver g r) all;
         table = table;
-        list = written (numbers g all) list;
+        list = written (numbersOf g all) list;
       }
 
   -- only the count, and the list as it was
   abbrev pub lacking : Outcome
-  lacking = record { number = 7; shots = length all; cost = 0; sliver = 0; table = table; list = list }
+  lacking = record { number = refusalNo because.List; shots = length all; cost = 0; sliver = 0; table = table; list = list }
 
   -- by the room that the list has
   unfoldable pub delivered : Outcome
@@ -78,5 +77,5 @@ module _ (g : Grid) (r : Rule) (table list : List ℕ) where
   unfoldable pub settled : Outcome
   settled =
       cond (ltb (length table) (entryCount (g .columns) (g .rows)))
-      (record { number = 6; shots = 0; cost = 0; sliver = 0; table = table; list = list })
+      (record { number = refusalNo because.Table; shots = 0; cost = 0; sliver = 0; table = table; list = list })
       (delivered g r (written (costs g r) table) list)

@@ -1,7 +1,2 @@
-pub mod Verdict
-pub mod Memory
-pub mod Emission
-pub mod Delivery
 pub mod Told
-pub mod Search
-pub mod Sides
+pub mod Delivery

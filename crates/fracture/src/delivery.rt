@@ -1,20 +1,19 @@
 // From a filled table to the list: is there room for the shots, and then the shots.
 use super::Fractured;
-use super::Piece;
-use super::Plan;
-use super::Refusal;
-use super::emission::emit;
+use emission::emit;
 use outline::Line;
+use piece::Piece;
+use refusal::Refusal;
 use table::numbering::entry;
+use verdict::Plan;
 ghost use mathlib.Core.Path.{_≡_};
-ghost use Prim.Native.Nat.{ℕ, _+_, _*_, _<_, _≤_};
 ghost use lib.ListN.{length};
 ghost use Rattle.outline.specs.Grid.{Grid};
 ghost use Rattle.rule.specs.declared.Rule.{Rule};
+ghost use Rattle.piece.specs.Meant.{meant};
 ghost use Rattle.piece.specs.Piece.{box};
 ghost use Rattle.piece.specs.Straight.{shots};
-ghost use Rattle.fracture.specs.Verdict.{meant};
-ghost use Rattle.fracture.specs.Emission.{Walk, Emittable};
+ghost use Rattle.emission.specs.Emission.{Walk, Emittable};
 ghost use Rattle.fracture.specs.Delivery.{roomOf, Walkable, delivered};
 ghost use Rattle.fracture.specs.Told.{told};
 
@@ -25,7 +24,7 @@ pub enum Room {
 }
 
 // The piece from the lowest lines to the highest.
-fn whole(plan: Plan) -> Piece
+fn frame_of(plan: Plan) -> Piece
     ensures { λ p. ⌜ meant p ≡ box 0 (plan .columns) 0 (plan .rows) ⌝ }
 {
     let columns = plan.columns;
@@ -79,10 +78,10 @@ pub fn deliver(
     requires { ⌜ Walkable (now costs) (now cells) (now xs) (now ys) plan ⌝ }
     ensures { λ a. ⌜ ((g : Grid) (r : Rule) → Walk g r (now (costs .entry)) (now (cells .entry)) (now (xs .entry)) (now (ys .entry)) plan → told a (now (costs .entry)) (now (list .exit)) ≡ delivered g r (now (costs .entry)) (now (list .entry))) ⌝ }
 {
-    let frame = whole(plan);
+    let frame = frame_of(plan);
     let room = room_for(costs, cells, xs, ys, plan, frame, list.len());
     match room {
-        Room::Short(needed) => Fractured::Refused(Refusal::List(needed as u32)),
+        Room::Short(needed) => Fractured::Refused(Refusal::List, needed as u32),
         Room::Enough => {
             let tally = emit(costs, cells, xs, ys, list, plan, 0, frame);
             let columns = plan.columns;

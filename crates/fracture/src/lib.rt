@@ -1,14 +1,15 @@
-// From an outline to its shots: the verdict of each piece, emission, and the two calls.
+// From an outline to its shots: the fill, the delivery, and the two calls.
 use delivery::deliver;
 use outline::Answer;
-use outline::Line;
 use outline::draw;
+use refusal::Refusal;
 use rule::Made;
 use rule::Preset;
 use rule::Rule;
 use table::filling::fill;
 use table::numbering::entries;
 use table::numbering::pair_count;
+use verdict::Plan;
 ghost use mathlib.Core.Path.{_≡_};
 ghost use mathlib.Core.Bool.{true};
 ghost use Rattle.rule.specs.Rules.{inRange, presetTold};
@@ -18,55 +19,12 @@ ghost use Rattle.fracture.specs.Delivery.{Laid, Fillable, settled};
 ghost use Rattle.fracture.specs.Told.{told};
 
 mod delivery;
-mod emission;
-mod judging;
-mod slivers;
 
-// A piece lies between the x lines a < c and the y lines b < d.
-pub struct Piece {
-    pub a: Line,
-    pub c: Line,
-    pub b: Line,
-    pub d: Line,
-}
-
-// A cut names its direction and its line: a vertical cut lies on an x line, a horizontal one on a y line.
-pub enum Direction {
-    Vertical(Line),
-    Horizontal(Line),
-}
-
-// What becomes of a piece: nothing of it is inside, or all of it is one shot, or it is cut.
-pub enum Verdict {
-    Outside,
-    Shot,
-    Cut(Direction),
-}
-
-// What a walk over the pieces goes by besides the lent slices: the size of the grid, the count of its pairs of y lines, and the rule's
-// threshold in nm.
-pub struct Plan {
-    pub columns: usize,
-    pub rows: usize,
-    pub pairs: usize,
-    pub threshold: u32,
-}
-
-// Why a fracture is refused, in document 01's order, 1 to 7. A list that is too short tells how many shots there are.
-pub enum Refusal {
-    Rule,
-    Length,
-    Slanted,
-    Straight,
-    Empty,
-    Table,
-    List(u32),
-}
-
-// What a fracture answers: how many shots, their cost in thousandths of a shot and their sliver length in nm; or why there are none.
+// What a fracture answers: how many shots, their cost in thousandths of a shot and their sliver length in nm; or why there are none, and
+// beside it how many shots there are where the list is too short for them, else 0.
 pub enum Fractured {
     Done { shots: u32, cost: u32, sliver: u32 },
-    Refused(Refusal),
+    Refused(Refusal, u32),
 }
 
 // The fracture of the grid of an outline by a rule in range: 6, 7 or the shots.
@@ -84,16 +42,15 @@ fn fracture_grid(
     ensures { λ a. ⌜ ((g : Grid) → Laid g (memory columns rows (now (xs .entry)) (now (ys .entry)) (now (cells .entry))) → told a (now (table .exit)) (now (list .exit)) ≡ settled g rule (now (table .entry)) (now (list .entry))) ⌝ }
 {
     if table.len() < entries(columns, rows) {
-        return Fractured::Refused(Refusal::Table);
+        return Fractured::Refused(Refusal::Table, 0);
     }
-    let threshold = rule.threshold;
     fill(xs, ys, cells, columns, rows, rule, table);
     let pairs = pair_count(rows);
     let plan = Plan {
         columns,
         rows,
         pairs,
-        threshold,
+        rule,
     };
     deliver(table, cells, xs, ys, list, plan)
 }
@@ -114,10 +71,10 @@ fn fracture_by(corners: &[u16], rule: Rule, table: &mut [u32], list: &mut [u16])
             let rows = drawing.rows;
             fracture_grid(columns, rows, &xs, &ys, &cells, rule, table, list)
         }
-        Answer::Length => Fractured::Refused(Refusal::Length),
-        Answer::Slanted => Fractured::Refused(Refusal::Slanted),
-        Answer::Straight => Fractured::Refused(Refusal::Straight),
-        Answer::Empty => Fractured::Refused(Refusal::Empty),
+        Answer::Length => Fractured::Refused(Refusal::Length, 0),
+        Answer::Slanted => Fractured::Refused(Refusal::Slanted, 0),
+        Answer::Straight => Fractured::Refused(Refusal::Unturned, 0),
+        Answer::Empty => Fractured::Refused(Refusal::Empty, 0),
     }
 }
 
@@ -134,7 +91,7 @@ pub fn fracture(
 {
     match Rule::new(threshold, weight) {
         Made::Rule(rule) => fracture_by(corners, rule, table, list),
-        Made::Refused => Fractured::Refused(Refusal::Rule),
+        Made::Refused(why) => Fractured::Refused(why, 0),
     }
 }
 
@@ -144,6 +101,6 @@ pub fn fracture_default(corners: &[u16], table: &mut [u32], list: &mut [u16]) ->
 {
     match Rule::preset(Rule::DEFAULT_PRESET) {
         Preset::Row(rule) => fracture_by(corners, rule, table, list),
-        Preset::Unknown => Fractured::Refused(Refusal::Rule),
+        Preset::Refused(why) => Fractured::Refused(why, 0),
     }
 }

@@ -2,22 +2,24 @@
 --
 --   sliver-turn      == x for y
 --   sliver-most      == no more than what is exposed
+--   sliver-spared    == a shot no side of which counts has no sliver length
+--   spared-wide, spared-narrow == a shot that is wide enough is spared by its height, any other by its width: it is not
 --   narrow           == where a wider extent is below the threshold, so is a narrower one
 --   sliver-cut       == a cut across the width never lowers it, whatever the new sides have
 --   charge-least     == a shot costs something
 --   charge-cut       == nor does it lower the charge
 --   charge-most      == a longer sliver costs no less
-use Prim.Native.Nat.{ℕ, _+_, _*_, _≤_}
+use Prim.Native.Nat.{ℕ, _+_, _*_, _≤_, _<_}
 use mathlib.Core.Path.{_≡_, refl}
-use mathlib.Core.Bool.{Bool, true, false}
+use mathlib.Core.Bool.{Bool, true, false, _&&_, false≢true}
 use native.Mathlib.Omega.{arith}
 use native.Mathlib.Nat.{mul-le-mul-left}
-use lib.Dec.{ltb}
-use borrow.Author.Tests.{ltb-true, lt-ltb}
+use lib.Dec.{leb, ltb}
+use borrow.Author.Tests.{ltb-true, lt-ltb, le-ltb, le-leb, lt-leb, leb-true}
 use Rattle.sum.specs.Sum.{only}
 use Rattle.sum.proofs.Sum.{only-most, only-add}
 use Rattle.rule.specs.declared.Rule.{Rule}
-use Rattle.rule.specs.Charge.{sliverOf, chargeOf}
+use Rattle.rule.specs.Charge.{sliverOf, spared, chargeOf}
 
 pub narrow : (v w t n : ℕ) → v ≤ w → only (ltb w t) n ≤ only (ltb v t) n
 narrow v w t n h = go (ltb w t) refl
@@ -34,6 +36,25 @@ module _ (r : Rule) where
   pub sliver-most : (w h u l : ℕ) → sliverOf r w h u l ≤ u + l
   unfolding sliverOf
   sliver-most w h u l = omega (arith, only-most (ltb w (r .threshold)) u, only-most (ltb h (r .threshold)) l)
+
+  pub spared-wide : (w h : ℕ) → r .threshold ≤ w → leb (r .threshold) h ≡ spared r w h
+  unfolding spared
+  spared-wide w h k = simp le-leb
+
+  pub spared-narrow : (w h : ℕ) → w < r .threshold → leb (r .threshold) w ≡ spared r w h
+  unfolding spared
+  spared-narrow w h k = simp lt-leb
+
+  pub sliver-spared : (w h u l : ℕ) → spared r w h ≡ true → sliverOf r w h u l ≡ 0
+  unfolding spared sliverOf
+  sliver-spared w h u l e = go (leb (r .threshold) w) refl (leb (r .threshold) h) refl e
+    where
+      go : (a : Bool) → leb (r .threshold) w ≡ a → (b : Bool) → leb (r .threshold) h ≡ b → (a && b) ≡ true
+          → only (ltb w (r .threshold)) u + only (ltb h (r .threshold)) l ≡ 0
+      go true p true q z =
+          rw (le-ltb w (r .threshold) (leb-true (r .threshold) w p), le-ltb h (r .threshold) (leb-true (r .threshold) h q))
+      go true p false q z = absurd (false≢true z)
+      go false p b q z = absurd (false≢true z)
 
   pub charge-least : (n : ℕ) → 1000 ≤ chargeOf r n
   unfolding chargeOf

@@ -4,7 +4,7 @@ ghost use mathlib.Core.Path.{_≡_};
 ghost use Prim.Native.Nat.{_≤_};
 ghost use Rattle.sum.specs.Sum.{only};
 ghost use Rattle.rule.specs.Rules.{Told, madeTold, rowTold, ruleTold, presetTold};
-ghost use Rattle.rule.specs.Charge.{sliverOf, chargeOf};
+ghost use Rattle.rule.specs.Charge.{sliverOf, spared, chargeOf};
 
 // A shot narrower than the threshold (in nm) is a sliver; each nm of its exposed sides weighs so many thousandths of a shot.
 pub struct Rule {
@@ -85,6 +85,7 @@ impl Rule {
             Preset::Refused(Refusal::Preset)
         }
     }
+
     // The sliver length of a shot of this width and height, whose left and right sides are exposed over `upright` nm together and its
     // bottom and top over `level` nm. How a sliver is reckoned stands here and nowhere else.
     pub fn sliver(self, width: u32, height: u32, upright: u32, level: u32) -> u32
@@ -93,6 +94,14 @@ impl Rule {
     {
         let threshold = self.threshold;
         counted(width < threshold, upright) + counted(height < threshold, level)
+    }
+
+    // Whether no side of a shot of this width and height counts, whatever is exposed: then its sides need not be measured.
+    pub fn spares(self, width: u32, height: u32) -> bool
+        ensures { λ r. ⌜ r ≡ spared self width height ⌝ }
+    {
+        let threshold = self.threshold;
+        threshold <= width && threshold <= height
     }
 
     // What a shot of this sliver length costs, in thousandths of a shot.

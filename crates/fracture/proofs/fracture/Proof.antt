@@ -2,7 +2,6 @@
 use mathlib.Core.Path.{_≡_, sym, _∙_, ap}
 use borrow.Author.Needs.{needs}
 use Rattle.rule.specs.Rules.{madeTold, given, ruleTold}
-use Rattle.rule.proofs.Rules.{rule-refused}
 use Rattle.fracture.proofs.Settled.{told-rule, rule-range, rule-outcome}
 use Rattle.fracture.proofs.fracture.Statement.{statement}
 use Rattle.fracture.proofs.fracture.Tie as tie
@@ -20,8 +19,8 @@ enum-known-rule c = search needs
 fracture-by-requires : tie.Need-fracture-by-requires
 fracture-by-requires c κs = rule-range _ _ (made (c .before .before .before))
 
-enum-told : tie.Need-enum-told
-enum-told c = search needs
+enum-known-why : tie.Need-enum-known-why
+enum-known-why c = search needs
 
 same-length : tie.Need-same-length
 same-length c = search needs
@@ -33,7 +32,7 @@ returns : tie.Need-returns
 returns c = c .before .before .before .before .fracture-by .ensures ∙ rule-outcome _ _ _ _ _ (made (c .before .before .before .before .before .before .before .before))
 
 returns-2 : tie.Need-returns-2
-returns-2 c = told-rule _ _ _ _ _ (rule-refused _ _ (sym (ap madeTold (c .enum-told .given .1)) ∙ c .before .before .new .ensures))
+returns-2 c = told-rule _ _ _ _ _ (c .before .why .given .0 .0) (sym (ap madeTold (c .before .why .given .1)) ∙ c .before .before .before .new .ensures)
 
 pub fracture-spec : {M : Type 1} → statement M
 fracture-spec =
@@ -42,7 +41,7 @@ fracture-spec =
     new-requires
     enum-known-rule
     fracture-by-requires
-    enum-told
+    enum-known-why
     same-length
     same-length-2
     returns

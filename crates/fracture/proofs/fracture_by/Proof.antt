@@ -1,12 +1,10 @@
 -- `fracture::fracture_by` meets its contract. Assumes nothing.
-use mathlib.Core.Path.{_≡_, refl, sym, _∙_}
-use native.Mathlib.Omega.{arith}
+use mathlib.Core.Path.{_≡_, sym, _∙_}
 use borrow.Author.Needs.{needs}
 use Rattle.rule.proofs.Rules.{range-true}
 use Rattle.outline.specs.Promise.{number, refusal, lent}
 use Rattle.outline.proofs.Memory.{drawing-lengths}
-use Rattle.fracture.specs.declared.Refusal.the-variants as because
-use Rattle.fracture.specs.Told.{reason}
+use Rattle.refusal.specs.declared.Refusal.the-variants as because
 use Rattle.fracture.proofs.Settled.{answered, told-outline, laid-drawing, outcome-settled}
 use Rattle.fracture.proofs.fracture_by.Statement.{statement}
 use Rattle.fracture.proofs.fracture_by.Tie as tie
@@ -77,32 +75,32 @@ returns c =
     ∙ outcome-settled (s .args .corners .now) (s .args .rule .threshold) (s .args .rule .weight) (s .args .table .now) (s .args .list .now) (s .pre) h
 
 returns-2 : tie.Need-returns-2
-unfolding number reason lent
+unfolding number lent
 returns-2 c =
     let d = c .before .before in
     let s = d .before .before .before .before .before .before .before in
-    told-outline _ _ _ _ _ (s .pre) because.Length (answered _ (lent _ _ _ _) (d .draw .ensures) _ (c .enum-told2 .given .1)) (omega arith) refl
+    told-outline _ _ _ _ _ (s .pre) because.Length (answered _ (lent _ _ _ _) (d .draw .ensures) _ (c .enum-told2 .given .1))
 
 returns-3 : tie.Need-returns-3
-unfolding number reason lent
+unfolding number lent
 returns-3 c =
     let d = c .before .before in
     let s = d .before .before .before .before .before .before .before in
-    told-outline _ _ _ _ _ (s .pre) because.Slanted (answered _ (lent _ _ _ _) (d .draw .ensures) _ (c .enum-told3 .given .1)) (omega arith) refl
+    told-outline _ _ _ _ _ (s .pre) because.Slanted (answered _ (lent _ _ _ _) (d .draw .ensures) _ (c .enum-told3 .given .1))
 
 returns-4 : tie.Need-returns-4
-unfolding number reason lent
+unfolding number lent
 returns-4 c =
     let d = c .before .before in
     let s = d .before .before .before .before .before .before .before in
-    told-outline _ _ _ _ _ (s .pre) because.Straight (answered _ (lent _ _ _ _) (d .draw .ensures) _ (c .enum-told4 .given .1)) (omega arith) refl
+    told-outline _ _ _ _ _ (s .pre) because.Unturned (answered _ (lent _ _ _ _) (d .draw .ensures) _ (c .enum-told4 .given .1))
 
 returns-5 : tie.Need-returns-5
-unfolding number reason lent
+unfolding number lent
 returns-5 c =
     let d = c .before .before in
     let s = d .before .before .before .before .before .before .before in
-    told-outline _ _ _ _ _ (s .pre) because.Empty (answered _ (lent _ _ _ _) (d .draw .ensures) _ (c .enum-told5 .given .1)) (omega arith) refl
+    told-outline _ _ _ _ _ (s .pre) because.Empty (answered _ (lent _ _ _ _) (d .draw .ensures) _ (c .enum-told5 .given .1))
 
 pub fracture-by-spec : {M : Type 1} → statement M
 fracture-by-spec =

@@ -21,8 +21,8 @@ fracture-by-requires c κs =
     let s = c .before .before .before .before .before .before .before .before .before .args in
     preset-range (s .corners .now) (s .table .now) (s .list .now) (row (c .before .before .before))
 
-enum-told : tie.Need-enum-told
-enum-told c = search needs
+enum-known-why : tie.Need-enum-known-why
+enum-known-why c = search needs
 
 same-length : tie.Need-same-length
 same-length c = search needs
@@ -34,7 +34,7 @@ returns : tie.Need-returns
 returns c = c .before .before .before .before .fracture-by .ensures ∙ preset-outcome _ _ _ (row (c .before .before .before .before .before .before .before .before))
 
 returns-2 : tie.Need-returns-2
-returns-2 c = absurd (preset-known (sym (ap rowTold (c .enum-told .given .1)) ∙ c .before .before .preset .ensures))
+returns-2 c = absurd (preset-known (c .before .why .given .0 .0) (sym (ap rowTold (c .before .why .given .1)) ∙ c .before .before .before .preset .ensures))
 
 pub fracture-default-spec : {M : Type 1} → statement M
 fracture-default-spec =
@@ -43,7 +43,7 @@ fracture-default-spec =
     preset-requires
     enum-known-rule
     fracture-by-requires
-    enum-told
+    enum-known-why
     same-length
     same-length-2
     returns

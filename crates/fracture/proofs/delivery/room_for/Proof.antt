@@ -1,19 +1,19 @@
 -- `fracture::delivery::room_for` meets its contract. Assumes nothing.
 use native.Mathlib.Omega.{arith}
 use borrow.Author.Needs.{needs}
-use Rattle.fracture.proofs.Emitted.{count-few}
+use Rattle.emission.proofs.Emitted.{count-few}
 use Rattle.fracture.proofs.Delivered.{area-few, room-all, room-fits, room-short}
 use Rattle.fracture.proofs.delivery.room_for.Statement.{statement}
 use Rattle.fracture.proofs.delivery.room_for.Tie as tie
 
 mul-if1 : tie.Need-mul-if1
-mul-if1 c = omega (arith, area-few _ _ _ _ _ (c .before .before .before .before .pre .walk .filled))
+mul-if1 c = omega (arith, area-few _ _ _ _ _ (c .before .before .before .before .pre .walk .costed))
 
 mul-if1-2 : tie.Need-mul-if1-2
-mul-if1-2 c = omega (arith, area-few _ _ _ _ _ (c .before .before .before .before .pre .walk .filled))
+mul-if1-2 c = omega (arith, area-few _ _ _ _ _ (c .before .before .before .before .pre .walk .costed))
 
 returns : tie.Need-returns
-returns c g r w = room-all g r _ _ _ (w .filled) _ (c .before .before .before .before .before .pre .valid) _ (c .if1 .taken)
+returns c g r w = room-all g r _ _ _ (w .costed) _ (c .before .before .before .before .before .pre .valid) _ (c .if1 .taken)
 
 slice-aggregate-emit : tie.Need-slice-aggregate-emit
 slice-aggregate-emit c = search needs
@@ -27,7 +27,7 @@ mul-if2 c =
     omega (
       arith,
       c .before .emit .ensures (e .grid) (e .rule) (e .walk) .count,
-      count-few _ _ _ _ _ (e .walk .filled) _ (e .valid),
+      count-few _ _ _ _ _ (e .walk .costed) _ (e .valid),
     )
 
 returns-2 : tie.Need-returns-2

@@ -1,0 +1,3 @@
+pub mod Across
+pub mod Judged
+pub mod Search

@@ -1,0 +1,34 @@
+-- Inner: what lies in memory when the pieces are judged (nobody has to believe these).
+--
+--   Costed g r table cells plan   == the table begins with the cost of every piece of the grid g under the rule r, cells are g's cells,
+--                                    and plan has its size
+--   Judgeable table cells plan p  == there are such a grid and such a rule, and p is one of the grid's pieces
+use Prim.Native.Nat.{ℕ, _+_, _*_, _≤_, _<_}
+use mathlib.Core.Path.{_≡_}
+use mathlib.Core.List.{List}
+use lib.ListN.{length, getD}
+use Rattle.sum.specs.Sum.{only}
+use Rattle.outline.specs.Grid.{Grid, Sound}
+use Rattle.rule.specs.declared.Rule.{Rule}
+use Rattle.rule.specs.Rules.{limit}
+use Rattle.piece.specs.Piece.{Piece}
+use Rattle.piece.specs.Straight.{cost}
+use Rattle.table.specs.Entry.{Valid, pairCount, entryOf, entryCount}
+use Rattle.verdict.specs.declared.Plan.{Plan}
+
+pub record Costed (g : Grid) (r : Rule) (table cells : List ℕ) (plan : Plan) : Type 0 where
+  pub sound : Sound g
+  pub weight : r .weight ≤ limit
+  pub columns : plan .columns ≡ g .columns
+  pub rows : plan .rows ≡ g .rows
+  pub pairs : plan .pairs ≡ pairCount (plan .rows)
+  pub cells-length : length cells ≡ 256
+  pub cell-at : (i j : ℕ) → i < 16 → j < 16 → getD cells (16 * i + j) 0 ≡ only (g .inside i j) 1
+  pub entries : entryCount (plan .columns) (plan .rows) ≤ length table
+  pub cost-at : (p : Piece) → Valid (plan .columns) (plan .rows) p → getD table (entryOf (plan .columns) (plan .rows) p) 0 ≡ cost g r p
+
+pub record Judgeable (table cells : List ℕ) (plan : Plan) (p : Piece) : Type 0 where
+  pub grid : Grid
+  pub rule : Rule
+  pub costed : Costed grid rule table cells plan
+  pub valid : Valid (plan .columns) (plan .rows) p
