@@ -3,7 +3,7 @@ use job::read;
 use job::read::Checked;
 use number::Cursor;
 use number::Read;
-use number::refusal_no;
+use refusal::refusal_no;
 
 // The worked example of document 01: drawing L by the rule 25, 40.
 const WORKED: [u8; 16] = [

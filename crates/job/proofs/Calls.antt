@@ -1,15 +1,22 @@
 -- Laws of what the calls on job bytes promise. Assumes nothing.
 --
---   whole-long, whole-fault, whole-header == what `whole` is, by what the job is
+--   whole-fault, whole-read == what `whole` is, by what the job is
+--   fault-whole, read-whole == what the job is, by what `whole` is
+--   job-said         == threshold, weight and K of a job are its header's
 --   checked-fault, checked-read == checking a job, by `whole`
+--   located-before, located-fault, located-part == where an outline stands, by those before it and by itself
+--   located-within   == it stands within the bytes
+--   taken-fault, taken-missing, taken-never, taken-part == taking outline k, by `whole` and `located`
 use Prim.Native.Nat.{ℕ, _-_, _<_, _≤_}
 use mathlib.Core.Path.{_≡_, _∙_, refl, sym, ap, ap₂}
 use mathlib.Core.List.{List, []}
 use native.Mathlib.Omega.{arith}
 use lib.ListN.{length, getD, take, drop}
 use borrow.Author.Tests.{lt-ltb, le-ltb}
-use Rattle.number.specs.declared.Refusal.{Refusal}
-use Rattle.number.specs.Reading.{Reading, read, fault, andThen, past, refusalNo}
+use Rattle.refusal.specs.declared.Refusal.{Refusal}
+use Rattle.refusal.specs.declared.Refusal.the-variants.{Missing}
+use Rattle.refusal.specs.Refusals.{refusalNo}
+use Rattle.number.specs.Reading.{Reading, read, fault, andThen, past}
 use Rattle.number.proofs.Number.{apart}
 use Rattle.number.proofs.Reading.{then-same, then-inv, past-fault, past-read, many-length, many-nth}
 use Rattle.job.specs.Job.{outline, Part, part, outlines, header, Header, job, Job}
@@ -119,7 +126,7 @@ module _ (s : List ℕ) (k : ℕ) where
   taken-fault {r} {p} e f = ap (λ n. told n p []) f ∙ sym (ap (partTaken s k) (fault-whole s e))
 
   module _ {h : Header} {next : ℕ} (e : read h next ≡ whole s) where
-    pub taken-missing : {n : ℕ} → h .count ≤ k → n ≡ 13 → told n 0 [] ≡ taken s k
+    pub taken-missing : {n : ℕ} → h .count ≤ k → n ≡ refusalNo Missing → told n 0 [] ≡ taken s k
     unfolding taken
     taken-missing {n} c f =
         let w = read-whole s e in

@@ -1,8 +1,15 @@
 -- Laws of reading a job: the ways that each step can go. Assumes nothing.
 --
 --   value-fault, value-under, value-over, value-in == a number held to its range
---   value-range       == a value that is read lies in its range
+--   value-read        == a value that is read lies in its range
 --   outline-fault, outline-go == an outline, by its V
+--   part-past, part-read == a part, by its outline
+--   value-onward, outline-onward == what is read goes on within the bytes
+--   header-threshold, header-weight, header-count, header-read == a header, by its three numbers
+--   filled-extra, filled-read == what is read to the end of the bytes, or short of it
+--   filled-inv        == what fills the bytes is read, to their end
+--   job-long, job-header, job-outlines, job-extra, job-made, job-read == a job, by its parts
+--   Whole, job-whole  == what a job that is read is made of
 use Prim.Native.Nat.{ℕ, _-_, _*_, _<_, _≤_}
 use mathlib.Core.Path.{_≡_, _∙_, refl, sym, ap, ap₂, subst}
 use mathlib.Core.List.{List}
@@ -11,14 +18,16 @@ use native.Mathlib.Omega.{arith}
 use lib.Dec.{leb, ltb}
 use lib.ListN.{length}
 use borrow.Author.Tests.{le-leb, lt-leb, leb-true, lt-ltb, le-ltb, ltb-false}
-use Rattle.number.specs.declared.Refusal.{Refusal}
-use Rattle.number.specs.declared.Refusal.the-variants.{Range, Extra, Long}
+use Rattle.refusal.specs.declared.Refusal.{Refusal}
+use Rattle.refusal.specs.declared.Refusal.the-variants.{Range, Extra, Long}
 use Rattle.number.specs.Reading.{Reading, read, fault, andThen, past}
 use Rattle.number.specs.Number.{number}
 use Rattle.number.proofs.Number.{apart}
 use Rattle.number.proofs.Bytes.{number-onward}
 use Rattle.number.proofs.Reading.{then-same, then-inv, past-fault, past-read, many-onward}
-use Rattle.job.specs.Job.{value, coordinates, outline, Part, part, outlines, header, Header, filled, body, job, Job}
+use Rattle.rule.specs.Rules.{limit}
+use Rattle.figure.specs.Figure.{mostCorners}
+use Rattle.job.specs.Job.{mostBytes, mostOutlines, mostPlace, value, coordinates, outline, Part, part, outlines, header, Header, filled, body, job, Job}
 
 -- value
 
@@ -60,11 +69,11 @@ module _ (s : List ℕ) (low high at : ℕ) where
 -- outline
 
 module _ (s : List ℕ) (at : ℕ) where
-  pub outline-fault : {r : Refusal} {p : ℕ} → fault r p ≡ value s 4 32 at → fault r p ≡ past (outline s at)
+  pub outline-fault : {r : Refusal} {p : ℕ} → fault r p ≡ value s 4 mostCorners at → fault r p ≡ past (outline s at)
   unfolding outline
   outline-fault e = ap past (then-same (λ v next. coordinates s (2 * v) next) e)
 
-  pub outline-go : {v next : ℕ} → read v next ≡ value s 4 32 at → past (coordinates s (2 * v) next) ≡ past (outline s at)
+  pub outline-go : {v next : ℕ} → read v next ≡ value s 4 mostCorners at → past (coordinates s (2 * v) next) ≡ past (outline s at)
   unfolding outline
   outline-go e = ap past (then-same (λ v next. coordinates s (2 * v) next) e)
 
@@ -97,9 +106,9 @@ value-onward s low high at v next e = let h = number-onward s at (value-read s l
 pub outline-onward : (s : List ℕ) (at : ℕ) (l : List ℕ) (next : ℕ) → outline s at ≡ read l next → (at ≤ next) × (next ≤ length s)
 unfolding outline coordinates
 outline-onward s at l next e =
-    let i = then-inv (λ v next. coordinates s (2 * v) next) (value s 4 32 at) e in
-    let h = value-onward s 4 32 at (i .0) (i .1) (i .2) in
-    let k = many-onward (value s 0 65535) (length s) (value-onward s 0 65535) (2 * i .0) (i .1) (h .1) (i .3) in
+    let i = then-inv (λ v next. coordinates s (2 * v) next) (value s 4 mostCorners at) e in
+    let h = value-onward s 4 mostCorners at (i .0) (i .1) (i .2) in
+    let k = many-onward (value s 0 mostPlace) (length s) (value-onward s 0 mostPlace) (2 * i .0) (i .1) (h .1) (i .3) in
     omega arith
 
 -- header
@@ -109,28 +118,48 @@ module _ (s : List ℕ) where
   counted t w k next = read (record { threshold = t; weight = w; count = k }) next
 
   weighed : ℕ → ℕ → ℕ → Reading Header
-  weighed t w q = andThen (value s 0 255 q) (counted t w)
+  weighed t w q = andThen (value s 0 mostOutlines q) (counted t w)
 
   heard : ℕ → ℕ → Reading Header
-  heard t p = andThen (value s 0 1000 p) (weighed t)
+  heard t p = andThen (value s 0 limit p) (weighed t)
 
-  pub header-threshold : {r : Refusal} {p : ℕ} → fault r p ≡ value s 0 1000 0 → fault r p ≡ header s
+  pub header-threshold : {r : Refusal} {p : ℕ} → fault r p ≡ value s 0 limit 0 → fault r p ≡ header s
   unfolding header heard weighed counted
   header-threshold e = then-same heard e
 
-  module _ {t p : ℕ} (e : read t p ≡ value s 0 1000 0) where
-    pub header-weight : {r : Refusal} {q : ℕ} → fault r q ≡ value s 0 1000 p → fault r q ≡ header s
+  module _ {t p : ℕ} (e : read t p ≡ value s 0 limit 0) where
+    pub header-weight : {r : Refusal} {q : ℕ} → fault r q ≡ value s 0 limit p → fault r q ≡ header s
     unfolding header heard weighed counted
     header-weight f = then-same (weighed t) f ∙ then-same heard e
 
-    module _ {w q : ℕ} (f : read w q ≡ value s 0 1000 p) where
-      pub header-count : {r : Refusal} {m : ℕ} → fault r m ≡ value s 0 255 q → fault r m ≡ header s
+    module _ {w q : ℕ} (f : read w q ≡ value s 0 limit p) where
+      pub header-count : {r : Refusal} {m : ℕ} → fault r m ≡ value s 0 mostOutlines q → fault r m ≡ header s
       unfolding header heard weighed counted
       header-count g = then-same (counted t w) g ∙ then-same (weighed t) f ∙ then-same heard e
 
-      pub header-read : {k next : ℕ} → read k next ≡ value s 0 255 q → read (record { threshold = t; weight = w; count = k }) next ≡ header s
+      pub header-read : {k next : ℕ} → read k next ≡ value s 0 mostOutlines q → read (record { threshold = t; weight = w; count = k }) next ≡ header s
       unfolding header heard weighed counted
       header-read g = then-same (counted t w) g ∙ then-same (weighed t) f ∙ then-same heard e
+
+-- what fills the bytes
+
+module _ {A : Type 0} (s : List ℕ) where
+  pub filled-extra : (a : A) {last : ℕ} → last < length s → filled s (read a last) ≡ fault Extra last
+  unfolding filled
+  filled-extra a h = simp lt-ltb
+
+  pub filled-read : {a : A} {last : ℕ} → length s ≤ last → filled s (read a last) ≡ read a last
+  unfolding filled
+  filled-read h = simp le-ltb
+
+  pub filled-inv : (u : Reading A) {a : A} {last : ℕ} → filled s u ≡ read a last → (u ≡ read a last) × (length s ≤ last)
+  unfolding filled
+  filled-inv (fault r p) e = absurd (apart (sym e))
+  filled-inv (read b n) {a} {last} e = go (ltb n (length s)) refl e
+    where
+      go : (t : Bool) → ltb n (length s) ≡ t → cond t (fault Extra n) (read b n) ≡ read a last → (read b n ≡ read a last) × (length s ≤ last)
+      go true p q = absurd (apart (sym q))
+      go false p q = let z : n ≡ last = cc in (q, subst (λ m. length s ≤ m) z (ltb-false n (length s) p))
 
 -- the whole job
 
@@ -141,49 +170,41 @@ module _ (s : List ℕ) where
   bodied : Header → ℕ → Reading Job
   bodied h next = andThen (outlines s (h .count) next) (together h)
 
-  ended : Job → ℕ → Reading Job
-  ended j last = cond (ltb last (length s)) (fault Extra last) (read j last)
-
-  pub job-long : 4096 < length s → job s ≡ fault Long 0
+  pub job-long : mostBytes < length s → job s ≡ fault Long 0
   unfolding job
   job-long h = simp lt-ltb
 
-  module _ (short : length s ≤ 4096) where
-    job-short : {u : Reading Job} → u ≡ body s → job s ≡ andThen u ended
-    unfolding job filled ended
-    job-short {u} e = let p : job s ≡ andThen (body s) ended = simp le-ltb in p ∙ then-same ended (sym e)
+  module _ (short : length s ≤ mostBytes) where
+    job-short : {u : Reading Job} → u ≡ body s → job s ≡ filled s u
+    unfolding job
+    job-short {u} e = let p : job s ≡ filled s (body s) = simp le-ltb in p ∙ ap (filled s) (sym e)
 
     pub job-header : {r : Refusal} {p : ℕ} → fault r p ≡ header s → job s ≡ fault r p
-    unfolding body bodied together
+    unfolding filled body bodied together
     job-header e = job-short (then-same bodied e)
 
     module _ {h : Header} {next : ℕ} (e : read h next ≡ header s) where
       pub job-outlines : {r : Refusal} {p : ℕ} → fault r p ≡ past (outlines s (h .count) next) → job s ≡ fault r p
-      unfolding body bodied together
+      unfolding filled body bodied together
       job-outlines f = job-short (then-same (together h) (sym (past-fault (outlines s (h .count) next) f)) ∙ then-same bodied e)
 
       pub job-extra : {last : ℕ} → read tt last ≡ past (outlines s (h .count) next) → last < length s → job s ≡ fault Extra last
-      unfolding body bodied together ended
-      job-extra {last} f k =
+      unfolding body bodied together
+      job-extra f k =
           let u = past-read (outlines s (h .count) next) f in
-          let j : Job = record { threshold = h .threshold; weight = h .weight; parts = u .0 } in
-          let p : ended j last ≡ fault Extra last = simp lt-ltb in
-          job-short (then-same (together h) (sym (u .1)) ∙ then-same bodied e) ∙ p
+          job-short (then-same (together h) (sym (u .1)) ∙ then-same bodied e) ∙ filled-extra s _ k
 
       pub job-made : {ps : List Part} {last : ℕ} → outlines s (h .count) next ≡ read ps last → length s ≤ last
           → job s ≡ read (record { threshold = h .threshold; weight = h .weight; parts = ps }) last
-      unfolding body bodied together ended
-      job-made {ps} {last} f k =
-          let j : Job = record { threshold = h .threshold; weight = h .weight; parts = ps } in
-          let p : ended j last ≡ read j last = simp le-ltb in
-          job-short (then-same (together h) (sym f) ∙ then-same bodied e) ∙ p
+      unfolding body bodied together
+      job-made f k = job-short (then-same (together h) (sym f) ∙ then-same bodied e) ∙ filled-read s k
 
       pub job-read : {last : ℕ} → read tt last ≡ past (outlines s (h .count) next) → length s ≤ last → (j : Job) × (job s ≡ read j last)
       job-read f k = let u = past-read (outlines s (h .count) next) f in (_, job-made (u .1) k)
 
 -- what a job that is read is made of
 pub record Whole (s : List ℕ) (j : Job) (last : ℕ) : Type 0 where
-  pub short : length s ≤ 4096
+  pub short : length s ≤ mostBytes
   pub head : Header
   pub first : ℕ
   pub header-is : header s ≡ read head first
@@ -193,32 +214,25 @@ pub record Whole (s : List ℕ) (j : Job) (last : ℕ) : Type 0 where
   pub ends : length s ≤ last
 
 pub job-whole : (s : List ℕ) {j : Job} {last : ℕ} → job s ≡ read j last → Whole s j last
-unfolding job filled body together
-job-whole s {j} {last} e = go (ltb 4096 (length s)) refl e
+unfolding job body together
+job-whole s {j} {last} e = go (ltb mostBytes (length s)) refl e
   where
-    end : (b : Bool) (k : Job) (n : ℕ) → ltb n (length s) ≡ b → cond b (fault Extra n) (read k n) ≡ read j last → (k ≡ j) × (n ≡ last) × (length s ≤ last)
-    end true k n p q = absurd (apart (sym q))
-    end false k n p q = let z : n ≡ last = cc in (cc, z, subst (λ m. length s ≤ m) z (ltb-false n (length s) p))
-
-    go : (b : Bool) → ltb 4096 (length s) ≡ b → cond b (fault Long 0) (andThen (body s) (λ k n. cond (ltb n (length s)) (fault Extra n) (read k n))) ≡ read j last
-        → Whole s j last
+    go : (b : Bool) → ltb mostBytes (length s) ≡ b → cond b (fault Long 0) (filled s (body s)) ≡ read j last → Whole s j last
     go true p q = absurd (apart (sym q))
     go false p q =
-        let f = then-inv (λ k n. cond (ltb n (length s)) (fault Extra n) (read k n)) (body s) q in
-        let h = then-inv (λ h next. andThen (outlines s (h .count) next) (together s h)) (header s) (f .2) in
+        let f = filled-inv s (body s) q in
+        let h = then-inv (λ h next. andThen (outlines s (h .count) next) (together s h)) (header s) (f .0) in
         let o = then-inv (together s (h .0)) (outlines s (h .0 .count) (h .1)) (h .3) in
-        let z = end (ltb (f .1) (length s)) (f .0) (f .1) refl (f .3) in
         let made : Job = record { threshold = h .0 .threshold; weight = h .0 .weight; parts = o .0 } in
-        let m : made ≡ f .0 = cc in
-        let y : made ≡ j = m ∙ z .0 in
-        let n : o .1 ≡ f .1 = cc in
+        let y : made ≡ j = cc in
+        let n : o .1 ≡ last = cc in
         record {
-          short = ltb-false 4096 (length s) p;
+          short = ltb-false mostBytes (length s) p;
           head = h .0;
           first = h .1;
           header-is = h .2;
-          parts-are = o .2 ∙ ap₂ read (ap (λ (k : Job). k .parts) y) (n ∙ z .1);
+          parts-are = o .2 ∙ ap₂ read (ap (λ (k : Job). k .parts) y) n;
           threshold-is = sym (ap (λ (k : Job). k .threshold) y);
           weight-is = sym (ap (λ (k : Job). k .weight) y);
-          ends = z .2;
+          ends = f .1;
         }

@@ -1,6 +1,6 @@
 -- Jobs read back as written, and have one byte form. Assumes nothing.
 --
---   Drawable l           == a list that can be written: 8 to 64 coordinates, an even number of them, each 0 to 65,535
+--   Drawable l           == a list that can be written: its length passes 2, and each coordinate is 0 to 65,535
 --   partsOf at ls        == where outlines stand that are written one after another from a place on
 --   value-back, coordinates-back, outline-back, outlines-back, header-back == what is written is read back
 --   job-back             == a job that is written is read back
@@ -10,32 +10,32 @@
 --   one-form             == two accepted jobs that say the same are the same bytes
 --   written-checked, written-taken, written-unpacked == the reading calls on what the writers wrote
 --   said-taken           == taking outline k of an accepted job gives the bytes of what the job says of it
-use Prim.Native.Nat.{ℕ, zero, suc, _+_, _-_, _*_, _/_, _%_, _<_, _≤_, suc-le-suc}
+use Prim.Native.Nat.{ℕ, zero, suc, _+_, _-_, _*_, _/_, _<_, _≤_, suc-le-suc}
 use mathlib.Core.Path.{_≡_, _∙_, refl, sym, ap, ap₂, subst}
 use mathlib.Core.List.{List, [], _∷_, _++_, map}
-use mathlib.Core.Bool.{cond}
+use mathlib.Core.Bool.{false}
 use native.Mathlib.Nat.{add-zero, add-assoc, le-of-suc-le-suc, not-suc-le-zero}
 use native.Mathlib.Omega.{arith}
-use lib.Dec.{ltb}
 use lib.ListN.{length, getD, take, drop, length-append, length-map}
 use lib.Seq.{take-all}
 use borrow.Author.Tests.{lt-ltb, le-ltb, le-leb}
-use Rattle.number.specs.declared.Refusal.the-variants.{Extra}
-use Rattle.number.specs.Reading.{read, fault, andThen, many}
+use Rattle.number.specs.Reading.{read, andThen, many}
 use Rattle.number.specs.Number.{most, number, numberBytes}
 use Rattle.number.proofs.Bytes.{Stands, AllBytes, stands-join, stands-front, stands-back, stands-whole, number-back, number-only}
 use Rattle.number.proofs.Reading.{then-same, then-inv, many-first, many-length}
+use Rattle.rule.specs.Rules.{limit}
+use Rattle.figure.specs.Figure.{figure, mostCorners, badFigure}
+use Rattle.figure.proofs.Corners.{length-many}
+use Rattle.figure.proofs.Fault.{length-good}
 use Rattle.job.specs.Bytes.{coordinateBytes, headerBytes, outlineBytes, outlinesBytes, jobBytes}
-use Rattle.job.specs.Job.{value, coordinates, outline, Part, part, outlines, Header, header, filled, Job, job}
-use Rattle.job.proofs.Job.{value-in, value-read, header-read, job-made, part-read, job-whole}
+use Rattle.job.specs.Job.{mostBytes, mostOutlines, mostPlace, value, coordinates, outline, Part, part, outlines, Header, header, filled, Job, job}
+use Rattle.job.proofs.Job.{value-in, value-read, header-read, filled-read, job-made, part-read, job-whole}
 use Rattle.job.specs.Calls.{noPart, partBytes, partTaken, taken, told, jobSaid, checked, partUnpacked, unpacked}
 
 -- a list that can be written as an outline
 pub record Drawable (l : List ℕ) : Type 0 where
-  pub even : length l % 2 ≡ 0
-  pub least : 8 ≤ length l
-  pub greatest : length l ≤ 64
-  pub each : (i : ℕ) → getD l i 0 ≤ 65535
+  pub good : badFigure (figure l) ≡ false
+  pub each : (i : ℕ) → getD l i 0 ≤ mostPlace
 
 -- what is written is read back
 
@@ -44,15 +44,15 @@ module _ (s : List ℕ) where
       → value s low high at ≡ read n (at + length (numberBytes n))
   value-back low high at n h k m e = sym (value-in s low high at (sym (number-back s at n m e)) h k)
 
-  pub coordinates-back : (l : List ℕ) (at : ℕ) → ((i : ℕ) → getD l i 0 ≤ 65535) → Stands s at (coordinateBytes l)
+  pub coordinates-back : (l : List ℕ) (at : ℕ) → ((i : ℕ) → getD l i 0 ≤ mostPlace) → Stands s at (coordinateBytes l)
       → coordinates s (length l) at ≡ read l (at + length (coordinateBytes l))
   unfolding coordinates coordinateBytes many
   coordinates-back [] at h e = ap (read []) (sym (add-zero at))
   coordinates-back (n ∷ l) at h e =
       let small = h 0 in
-      let first = value-back 0 65535 at n (omega arith) small (omega arith) (stands-front s at (numberBytes n) (coordinateBytes l) e) in
+      let first = value-back 0 mostPlace at n (omega arith) small (omega arith) (stands-front s at (numberBytes n) (coordinateBytes l) e) in
       let rest = coordinates-back l (at + length (numberBytes n)) (λ i. h (suc i)) (stands-back s at (numberBytes n) (coordinateBytes l) e) in
-      then-same (λ a next. andThen (many (value s 0 65535) (length l) next) (λ m last. read (a ∷ m) last)) first
+      then-same (λ a next. andThen (many (value s 0 mostPlace) (length l) next) (λ m last. read (a ∷ m) last)) first
       ∙ then-same (λ m last. read (n ∷ m) last) rest
       ∙ ap (read (n ∷ l)) (add-assoc at (length (numberBytes n)) (length (coordinateBytes l)) ∙ ap (λ k. at + k) (sym (length-append (numberBytes n) (coordinateBytes l))))
 
@@ -61,8 +61,9 @@ module _ (s : List ℕ) where
   unfolding outline outlineBytes
   outline-back l at d e =
       let v : ℕ = length l / 2 in
-      let twice : 2 * (length l / 2) ≡ length l = omega (arith, d .even) in
-      let first = value-back 4 32 at v (omega (arith, d .least)) (omega (arith, d .greatest)) (omega (arith, d .greatest)) (stands-front s at (numberBytes v) (coordinateBytes l) e) in
+      let n = length-good (figure l) (d .good) in
+      let twice : 2 * (length l / 2) ≡ length l = omega arith in
+      let first = value-back 4 mostCorners at v (omega arith) (omega arith) (omega arith) (stands-front s at (numberBytes v) (coordinateBytes l) e) in
       let rest = coordinates-back l (at + length (numberBytes v)) (d .each) (stands-back s at (numberBytes v) (coordinateBytes l) e) in
       then-same (λ v next. coordinates s (2 * v) next) first
       ∙ ap (λ n. coordinates s n (at + length (numberBytes v))) twice
@@ -97,27 +98,27 @@ module _ (s : List ℕ) where
       ∙ ap (read (partsOf at (l ∷ ls)))
       (add-assoc at (length (outlineBytes l)) (length (outlinesBytes ls)) ∙ ap (λ k. at + k) (sym (length-append (outlineBytes l) (outlinesBytes ls))))
 
-  pub header-back : (t w k : ℕ) → t ≤ 1000 → w ≤ 1000 → k ≤ 255 → Stands s 0 (headerBytes t w k)
+  pub header-back : (t w k : ℕ) → t ≤ limit → w ≤ limit → k ≤ mostOutlines → Stands s 0 (headerBytes t w k)
       → header s ≡ read (record { threshold = t; weight = w; count = k }) (length (headerBytes t w k))
   unfolding headerBytes
   header-back t w k ht hw hk e =
       let T : List ℕ = numberBytes t in
       let W : List ℕ = numberBytes w in
       let K : List ℕ = numberBytes k in
-      let a = value-back s 0 1000 0 t (omega arith) ht (omega arith) (stands-front s 0 T (W ++ K) e) in
+      let a = value-back s 0 limit 0 t (omega arith) ht (omega arith) (stands-front s 0 T (W ++ K) e) in
       let r = stands-back s 0 T (W ++ K) e in
-      let b = value-back s 0 1000 (0 + length T) w (omega arith) hw (omega arith) (stands-front s (0 + length T) W K r) in
-      let c = value-back s 0 255 (0 + length T + length W) k (omega arith) hk (omega arith) (stands-back s (0 + length T) W K r) in
+      let b = value-back s 0 limit (0 + length T) w (omega arith) hw (omega arith) (stands-front s (0 + length T) W K r) in
+      let c = value-back s 0 mostOutlines (0 + length T + length W) k (omega arith) hk (omega arith) (stands-back s (0 + length T) W K r) in
       let n : 0 + length T + length W + length K ≡ length (T ++ (W ++ K)) = simp length-append (omega arith) in
       sym (header-read s (sym a) (sym b) (sym c)) ∙ ap (read (record { threshold = t; weight = w; count = k })) n
 
 -- a job as it is written
 pub record Writable (t w : ℕ) (ls : List (List ℕ)) : Type 0 where
-  pub threshold : t ≤ 1000
-  pub weight : w ≤ 1000
-  pub count : length ls ≤ 255
+  pub threshold : t ≤ limit
+  pub weight : w ≤ limit
+  pub count : length ls ≤ mostOutlines
   pub outlines : (k : ℕ) → k < length ls → Drawable (getD ls k [])
-  pub short : length (jobBytes t w ls) ≤ 4096
+  pub short : length (jobBytes t w ls) ≤ mostBytes
 
 pub job-back : (t w : ℕ) (ls : List (List ℕ)) → Writable t w ls
     → job (jobBytes t w ls)
@@ -160,16 +161,16 @@ module _ (s : List ℕ) (bytes : AllBytes s) where
 
   -- each coordinate's bytes, one after another
   Coordinates : ℕ → ℕ → ℕ → List ℕ → Type 0
-  Coordinates n at next l = Here s at (coordinateBytes l) next × (length l ≡ n) × ((i : ℕ) → getD l i 0 ≤ 65535)
+  Coordinates n at next l = Here s at (coordinateBytes l) next × (length l ≡ n) × ((i : ℕ) → getD l i 0 ≤ mostPlace)
 
-  coordinates-cons : (n at mid next v : ℕ) (m : List ℕ) → value s 0 65535 at ≡ read v mid → Coordinates n mid next m
+  coordinates-cons : (n at mid next v : ℕ) (m : List ℕ) → value s 0 mostPlace at ≡ read v mid → Coordinates n mid next m
       → Coordinates (suc n) at next (v ∷ m)
   unfolding coordinateBytes Coordinates
   coordinates-cons n at mid next v m p rest =
-      (here-join s at (numberBytes v) (coordinateBytes m) (value-only 0 65535 at p) (rest .0), ap suc (rest .1), each)
+      (here-join s at (numberBytes v) (coordinateBytes m) (value-only 0 mostPlace at p) (rest .0), ap suc (rest .1), each)
     where
-      each : (i : ℕ) → getD (v ∷ m) i 0 ≤ 65535
-      each zero = value-read s 0 65535 at p .2
+      each : (i : ℕ) → getD (v ∷ m) i 0 ≤ mostPlace
+      each zero = value-read s 0 mostPlace at p .2
       each (suc i) = rest .2 i
 
   coordinates-only : (n at : ℕ) {l : List ℕ} {next : ℕ} → coordinates s n at ≡ read l next → Coordinates n at next l
@@ -179,7 +180,7 @@ module _ (s : List ℕ) (bytes : AllBytes s) where
       let b : at ≡ next = cc in
       subst (λ (k : List ℕ). Coordinates 0 at next k) a (subst (λ m. Coordinates 0 at m []) b (here-none s at, refl, λ i. omega arith))
   coordinates-only (suc n) at {l} {next} e =
-      let i = many-first (value s 0 65535) n at e in
+      let i = many-first (value s 0 mostPlace) n at e in
       subst (λ (k : List ℕ). Coordinates (suc n) at next k) (sym (i .5))
       (coordinates-cons n at (i .1) next (i .0) (i .2) (i .3) (coordinates-only n (i .1) (i .4)))
 
@@ -187,13 +188,16 @@ module _ (s : List ℕ) (bytes : AllBytes s) where
   pub outline-only : (at : ℕ) {l : List ℕ} {next : ℕ} → outline s at ≡ read l next → Here s at (outlineBytes l) next × Drawable l
   unfolding outline outlineBytes Coordinates
   outline-only at {l} {next} e =
-      let i = then-inv (λ v next. coordinates s (2 * v) next) (value s 4 32 at) e in
-      let r = value-read s 4 32 at (i .2) in
+      let i = then-inv (λ v next. coordinates s (2 * v) next) (value s 4 mostCorners at) e in
+      let r = value-read s 4 mostCorners at (i .2) in
       let c = coordinates-only (2 * i .0) (i .1) (i .3) in
       let v : i .0 ≡ length l / 2 = omega (arith, c .1) in (
         subst (λ n. Here s at (numberBytes n ++ coordinateBytes l) next) v
-            (here-join s at (numberBytes (i .0)) (coordinateBytes l) (value-only 4 32 at (i .2)) (c .0)),
-        record { even = omega (arith, c .1); least = omega (arith, c .1, r .1); greatest = omega (arith, c .1, r .2); each = c .2 },
+            (here-join s at (numberBytes (i .0)) (coordinateBytes l) (value-only 4 mostCorners at (i .2)) (c .0)),
+        record {
+          good = sym (length-many l (λ e. omega (arith, c .1)) (omega (arith, c .1, r .1))) ∙ le-ltb 64 (length l) (omega (arith, c .1, r .2));
+          each = c .2;
+        },
       )
 
   -- the lists of some parts
@@ -232,16 +236,16 @@ module _ (s : List ℕ) (bytes : AllBytes s) where
       → Here s 0 (headerBytes (h .threshold) (h .weight) (h .count)) next
   unfolding header headerBytes
   header-only {h} {next} e =
-      let a = then-inv (λ t p. andThen (value s 0 1000 p) (λ w q. andThen (value s 0 255 q) (λ k n. read (record { threshold = t; weight = w; count = k }) n))) (value s 0 1000 0) e in
-      let b = then-inv (λ w q. andThen (value s 0 255 q) (λ k n. read (record { threshold = a .0; weight = w; count = k }) n)) (value s 0 1000 (a .1)) (a .3) in
-      let c = then-inv (λ k n. read (record { threshold = a .0; weight = b .0; count = k }) n) (value s 0 255 (b .1)) (b .3) in
+      let a = then-inv (λ t p. andThen (value s 0 limit p) (λ w q. andThen (value s 0 mostOutlines q) (λ k n. read (record { threshold = t; weight = w; count = k }) n))) (value s 0 limit 0) e in
+      let b = then-inv (λ w q. andThen (value s 0 mostOutlines q) (λ k n. read (record { threshold = a .0; weight = w; count = k }) n)) (value s 0 limit (a .1)) (a .3) in
+      let c = then-inv (λ k n. read (record { threshold = a .0; weight = b .0; count = k }) n) (value s 0 mostOutlines (b .1)) (b .3) in
       let made : Header = record { threshold = a .0; weight = b .0; count = c .0 } in
       let z : made ≡ h = cc in
       let y : c .1 ≡ next = cc in
       subst (λ (k : Header). Here s 0 (headerBytes (k .threshold) (k .weight) (k .count)) next) z
       (subst (λ n. Here s 0 (headerBytes (a .0) (b .0) (c .0)) n) y
-      (here-join s 0 (numberBytes (a .0)) (numberBytes (b .0) ++ numberBytes (c .0)) (value-only 0 1000 0 (a .2))
-      (here-join s (a .1) (numberBytes (b .0)) (numberBytes (c .0)) (value-only 0 1000 (a .1) (b .2)) (value-only 0 255 (b .1) (c .2)))))
+      (here-join s 0 (numberBytes (a .0)) (numberBytes (b .0) ++ numberBytes (c .0)) (value-only 0 limit 0 (a .2))
+      (here-join s (a .1) (numberBytes (b .0)) (numberBytes (c .0)) (value-only 0 limit (a .1) (b .2)) (value-only 0 mostOutlines (b .1) (c .2)))))
 
   -- writing anew what an accepted job says gives its bytes
   pub job-only : {j : Job} {last : ℕ} → job s ≡ read j last → s ≡ jobBytes (j .threshold) (j .weight) (lists j)
@@ -319,17 +323,14 @@ written-taken t w ls ok k h =
 -- unpacking the bytes of a list gives the list
 pub written-unpacked : (l m : List ℕ) → Drawable l → length l ≤ length m
     → unpacked (outlineBytes l) m ≡ record { number = 0; corners = length l / 2; offset = 0; list = l ++ drop (length l) m }
-unfolding unpacked filled
+unfolding unpacked
 written-unpacked l m d h =
     let s : List ℕ = outlineBytes l in
     let e : outline s 0 ≡ read l (0 + length s) = outline-back s l 0 d (stands-whole s) in
-    let p : cond (ltb (0 + length s) (length s)) (fault Extra (0 + length s)) (read l (0 + length s)) ≡ read l (0 + length s) =
-    simp (le-ltb (0 + length s) (length s) (omega arith))
-    in
     let q : partUnpacked m (read l (0 + length s)) ≡ record { number = 0; corners = length l / 2; offset = 0; list = l ++ drop (length l) m } =
     simp le-leb
     in
-    ap (λ u. partUnpacked m (andThen u (λ a last. cond (ltb last (length s)) (fault Extra last) (read a last)))) e ∙ ap (partUnpacked m) p ∙ q
+    ap (λ u. partUnpacked m (filled s u)) e ∙ ap (partUnpacked m) (filled-read s (omega arith)) ∙ q
 
 -- and what an accepted job says of outline k is what taking and unpacking it give
 pub said-taken : (s : List ℕ) {j : Job} {last : ℕ} → AllBytes s → job s ≡ read j last → (k : ℕ) → k < length (j .parts)

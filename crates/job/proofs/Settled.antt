@@ -1,24 +1,20 @@
 -- Each promise settles its call: two outcomes that satisfy it are equal, answer and lent memory. Assumes nothing.
 --
 --   check-settled, take-settled, unpack-settled, header-settled, outline-settled == for each call of the crate
-use Prim.Native.Nat.{ℕ, _≤_}
-use mathlib.Core.Path.{_≡_, _∙_, refl, sym, ap, ap₂}
+use Prim.Native.Nat.{ℕ}
+use mathlib.Core.Path.{_≡_, _∙_, sym, ap, ap₂}
 use mathlib.Core.List.{List}
-use mathlib.Core.Bool.{cond}
 use native.Mathlib.Omega.{arith}
-use lib.Dec.{eqb}
-use Rattle.number.specs.declared.Refusal.{Refusal}
-use Rattle.number.specs.Reading.{refusalNo}
-use Rattle.number.proofs.Reading.{refusal-one, refusal-some}
+use Rattle.refusal.specs.declared.Refusal.{Refusal}
+use Rattle.refusal.specs.Refusals.{refusalNo}
+use Rattle.refusal.proofs.Refusals.{refusal-one, refusal-some}
 use Rattle.job.specs.declared.read.Checked.{Checked}
 use Rattle.job.specs.declared.read.Checked.the-variants as check
 use Rattle.job.specs.declared.unpack.Unpacked.{Unpacked}
 use Rattle.job.specs.declared.unpack.Unpacked.the-variants as unpack
-use Rattle.job.specs.declared.write.Unwritable.{Unwritable}
-use Rattle.job.specs.declared.write.Unwritable.the-variants as unwritable
 use Rattle.job.specs.declared.write.Written.{Written}
 use Rattle.job.specs.declared.write.Written.the-variants as write
-use Rattle.job.specs.Calls.{CheckSaid, checked, checkTold, TakeSaid, taken, told, UnpackSaid, unpacked, unpackTold, WriteSaid, headerWritten, outlineWritten, unwritableNo, writeTold}
+use Rattle.job.specs.Calls.{CheckSaid, checked, checkTold, TakeSaid, taken, told, UnpackSaid, unpacked, unpackTold, WriteSaid, headerWritten, outlineWritten, writeTold}
 
 -- a refusal's number is no 0
 never : (r : Refusal) → 0 ≡ refusalNo r → ⊥
@@ -58,32 +54,13 @@ pub unpack-settled : (p l : List ℕ) (u v : Unpacked) (m m′ : List ℕ) → u
     → (u ≡ v) × (m ≡ m′)
 unpack-settled p l u v m m′ e f = unpack-one u v m m′ (e ∙ sym f)
 
--- the writers' refusals, by their numbers
-of-number : ℕ → Unwritable
-of-number n = cond (eqb n 1) unwritable.Rule (cond (eqb n 2) unwritable.Length (cond (eqb n 10) unwritable.Outlines unwritable.Room))
-
-back : (u : Unwritable) → of-number (unwritableNo u) ≡ u
-unfolding of-number
-back unwritable.Rule = refl
-back unwritable.Length = refl
-back unwritable.Outlines = refl
-back unwritable.Room = refl
-
-unwritable-some : (u : Unwritable) → 1 ≤ unwritableNo u
-unwritable-some unwritable.Rule = omega arith
-unwritable-some unwritable.Length = omega arith
-unwritable-some unwritable.Outlines = omega arith
-unwritable-some unwritable.Room = omega arith
-
 write-one : (u v : Written) (o p : List ℕ) → writeTold u o ≡ writeTold v p → (u ≡ v) × (o ≡ p)
 write-one (write.Bytes n) (write.Bytes n′) o p e =
     (ap write.Bytes (ap (λ (s : WriteSaid). s .bytes) e), ap (λ (s : WriteSaid). s .out) e)
-write-one (write.Bytes n) (write.Refused u) o p e =
-    let z : 0 ≡ unwritableNo u = ap (λ (s : WriteSaid). s .number) e in absurd (omega (arith, unwritable-some u))
-write-one (write.Refused u) (write.Bytes n) o p e =
-    let z : unwritableNo u ≡ 0 = ap (λ (s : WriteSaid). s .number) e in absurd (omega (arith, unwritable-some u))
-write-one (write.Refused u) (write.Refused v) o p e =
-    (ap write.Refused (sym (back u) ∙ ap of-number (ap (λ (s : WriteSaid). s .number) e) ∙ back v), ap (λ (s : WriteSaid). s .out) e)
+write-one (write.Bytes n) (write.Refused r) o p e = absurd (never r (ap (λ (s : WriteSaid). s .number) e))
+write-one (write.Refused r) (write.Bytes n) o p e = absurd (never r (sym (ap (λ (s : WriteSaid). s .number) e)))
+write-one (write.Refused r) (write.Refused r′) o p e =
+    (ap write.Refused (refusal-one r r′ (ap (λ (s : WriteSaid). s .number) e)), ap (λ (s : WriteSaid). s .out) e)
 
 pub header-settled : (t w k : ℕ) (out : List ℕ) (u v : Written) (o p : List ℕ)
     → writeTold u o ≡ headerWritten t w k out → writeTold v p ≡ headerWritten t w k out → (u ≡ v) × (o ≡ p)

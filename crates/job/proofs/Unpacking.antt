@@ -7,21 +7,22 @@
 use Prim.Native.Nat.{ℕ, suc, _+_, _-_, _*_, _/_, _<_, _≤_}
 use mathlib.Core.Path.{_≡_, _∙_, refl, sym, ap, ap₂, subst}
 use mathlib.Core.List.{List, [], _∷_, _++_, append-assoc}
-use mathlib.Core.Bool.{cond}
 use native.Mathlib.Nat.{sub-zero}
 use native.Mathlib.Numerals.{add-one}
 use native.Mathlib.Omega.{arith}
-use lib.Dec.{ltb}
 use lib.ListN.{length, take, drop, set, length-set, take-append-drop}
 use lib.Seq.{take-suc-set, drop-set-lt, drop-drop}
-use borrow.Author.Tests.{le-leb, lt-leb, lt-ltb, le-ltb}
-use Rattle.number.specs.declared.Refusal.{Refusal}
-use Rattle.number.specs.declared.Refusal.the-variants.{Extra}
-use Rattle.number.specs.Reading.{Reading, read, fault, andThen, many, past, refusalNo}
-use Rattle.number.proofs.Reading.{then-same, many-length, past-read, past-fault}
-use Rattle.job.specs.Job.{value, coordinates, outline, filled}
+use borrow.Author.Tests.{le-leb, lt-leb}
+use Rattle.refusal.specs.declared.Refusal.{Refusal}
+use Rattle.refusal.specs.declared.Refusal.the-variants.{Extra, Room}
+use Rattle.refusal.specs.Refusals.{refusalNo}
+use Rattle.number.specs.Reading.{Reading, read, fault, andThen, many, past}
+use Rattle.figure.specs.Figure.{mostCorners}
+use Rattle.number.proofs.Reading.{then-same, one-less, many-length, past-read, past-fault}
+use Rattle.job.specs.Job.{mostPlace, value, coordinates, outline, filled}
 use Rattle.job.specs.Steps.{IsRead, valuesOf}
 use Rattle.job.specs.Calls.{UnpackSaid, partUnpacked, unpacked}
+use Rattle.job.proofs.Job.{filled-extra, filled-read}
 
 -- the numbers read from one on
 
@@ -68,21 +69,18 @@ module _ (s : List ℕ) (n from : ℕ) (before : List ℕ) where
 
   module _ (i at : ℕ) (list : List ℕ) (h : Storing s n from before i at list) where
     module _ (k : i < n) where
-      one-less : n - i ≡ suc (n - (i + 1))
-      one-less = omega arith
-
       still : IsRead (coordinates s (suc (n - (i + 1))) at)
-      still = subst (λ m. IsRead (coordinates s m at)) one-less (h .reads)
+      still = subst (λ m. IsRead (coordinates s m at)) (one-less n i k) (h .reads)
 
-      pub storing-never : {r : Refusal} {p : ℕ} → fault r p ≡ value s 0 65535 at → ⊥
+      pub storing-never : {r : Refusal} {p : ℕ} → fault r p ≡ value s 0 mostPlace at → ⊥
       unfolding coordinates
-      storing-never e = values-never (value s 0 65535) (n - (i + 1)) at e still
+      storing-never e = values-never (value s 0 mostPlace) (n - (i + 1)) at e still
 
-      pub storing-more : {v next : ℕ} → n ≤ length before → read v next ≡ value s 0 65535 at
+      pub storing-more : {v next : ℕ} → n ≤ length before → read v next ≡ value s 0 mostPlace at
           → Storing s n from before (i + 1) next (set list i v)
       unfolding coordinates
       storing-more {v} {next} room e =
-          let m = values-more (value s 0 65535) (n - (i + 1)) at e still in
+          let m = values-more (value s 0 mostPlace) (n - (i + 1)) at e still in
           let rest : List ℕ = valuesOf (coordinates s (n - (i + 1)) next) in
           let fits : i < length list = omega (arith, h .same) in
           record {
@@ -92,7 +90,7 @@ module _ (s : List ℕ) (n from : ℕ) (before : List ℕ) where
             beyond = drop-set-lt (i + 1) list i v (omega arith) ∙ sym (drop-drop 1 i list) ∙ ap (drop 1) (h .beyond) ∙ drop-drop 1 i before;
             all =
                 h .all
-                ∙ ap (λ (l : List ℕ). take i list ++ (l ++ drop n before)) (ap (λ j. valuesOf (coordinates s j at)) one-less ∙ m .1)
+                ∙ ap (λ (l : List ℕ). take i list ++ (l ++ drop n before)) (ap (λ j. valuesOf (coordinates s j at)) (one-less n i k) ∙ m .1)
                 ∙ sym (append-assoc (take i list) (v ∷ []) (rest ++ drop n before))
                 ∙ ap (λ (l : List ℕ). l ++ (rest ++ drop n before)) (sym (take-suc-set list i v fits) ∙ ap (λ j. take j (set list i v)) (sym (add-one i)));
           }
@@ -116,47 +114,41 @@ abbrev said : ℕ → ℕ → ℕ → List ℕ → UnpackSaid
 said n v p m = record { number = n; corners = v; offset = p; list = m }
 
 module _ (s l : List ℕ) where
-  ended : List ℕ → ℕ → Reading (List ℕ)
-  ended vs last = cond (ltb last (length s)) (fault Extra last) (read vs last)
+  from : {u : Reading (List ℕ)} → outline s 0 ≡ u → unpacked s l ≡ partUnpacked l (filled s u)
+  unfolding unpacked
+  from e = ap (λ u. partUnpacked l (filled s u)) e
 
-  from : {u : Reading (List ℕ)} → outline s 0 ≡ u → unpacked s l ≡ partUnpacked l (andThen u ended)
-  unfolding unpacked filled ended
-  from e = ap (λ u. partUnpacked l (andThen u ended)) e
-
-  pub unpacked-V : {r : Refusal} {p : ℕ} → fault r p ≡ value s 4 32 0 → said (refusalNo r) 0 p l ≡ unpacked s l
-  unfolding outline
+  pub unpacked-V : {r : Refusal} {p : ℕ} → fault r p ≡ value s 4 mostCorners 0 → said (refusalNo r) 0 p l ≡ unpacked s l
+  unfolding outline filled
   unpacked-V e = sym (from (sym (then-same (λ v next. coordinates s (2 * v) next) e)))
 
-  module _ {v next : ℕ} (e : read v next ≡ value s 4 32 0) where
+  module _ {v next : ℕ} (e : read v next ≡ value s 4 mostCorners 0) where
     go-on : {u : Reading (List ℕ)} → coordinates s (2 * v) next ≡ u → outline s 0 ≡ u
     unfolding outline
     go-on f = sym (then-same (λ v next. coordinates s (2 * v) next) e) ∙ f
 
     pub unpacked-coordinates : {r : Refusal} {p : ℕ} → fault r p ≡ past (coordinates s (2 * v) next) → said (refusalNo r) 0 p l ≡ unpacked s l
+    unfolding filled
     unpacked-coordinates f = sym (from (go-on (past-fault (coordinates s (2 * v) next) f)))
 
     module _ {last : ℕ} (f : read tt last ≡ past (coordinates s (2 * v) next)) where
       pub unpacked-extra : last < length s → said (refusalNo Extra) 0 last l ≡ unpacked s l
-      unfolding ended
       unpacked-extra h =
           let u = past-read (coordinates s (2 * v) next) f in
-          let p : said (refusalNo Extra) 0 last l ≡ partUnpacked l (ended (u .0) last) = simp lt-ltb in
-          p ∙ sym (from (go-on (u .1)))
+          ap (partUnpacked l) (sym (filled-extra s (u .0) h)) ∙ sym (from (go-on (u .1)))
 
       module _ (h : length s ≤ last) where
         read-all : (vs : List ℕ) → coordinates s (2 * v) next ≡ read vs last → partUnpacked l (read vs last) ≡ unpacked s l
-        unfolding ended
-        read-all vs g =
-            let p : ended vs last ≡ read vs last = simp le-ltb in ap (partUnpacked l) (sym p) ∙ sym (from (go-on g))
+        read-all vs g = ap (partUnpacked l) (sym (filled-read s h)) ∙ sym (from (go-on g))
 
         how-many : (vs : List ℕ) → coordinates s (2 * v) next ≡ read vs last → length vs ≡ 2 * v
         unfolding coordinates
-        how-many vs g = many-length (value s 0 65535) (2 * v) next g
+        how-many vs g = many-length (value s 0 mostPlace) (2 * v) next g
 
-        pub unpacked-room : length l < 2 * v → said 14 0 0 l ≡ unpacked s l
+        pub unpacked-room : length l < 2 * v → said (refusalNo Room) 0 0 l ≡ unpacked s l
         unpacked-room k =
             let u = past-read (coordinates s (2 * v) next) f in
-            let p : said 14 0 0 l ≡ partUnpacked l (read (u .0) last) =
+            let p : said (refusalNo Room) 0 0 l ≡ partUnpacked l (read (u .0) last) =
             simp (lt-leb (length (u .0)) (length l) (omega (arith, how-many (u .0) (u .1))))
             in p ∙ read-all (u .0) (u .1)
 

@@ -11,19 +11,24 @@
 use Prim.Native.Nat.{ℕ, suc, _+_, _-_, _/_, _%_, _<_, _≤_}
 use mathlib.Core.Path.{_≡_, _∙_, refl, sym, ap, ap₂}
 use mathlib.Core.List.{List, [], _∷_, _++_}
-use mathlib.Core.Bool.{true, false, or-true}
+use mathlib.Core.Bool.{Bool, true, false, cond}
 use native.Mathlib.Nat.{add-zero, add-suc, suc-add}
 use native.Mathlib.Numerals.{add-one}
 use native.Mathlib.Omega.{arith}
 use lib.ListN.{length, getD, drop, set, length-append, drop-of-length-le}
 use lib.Seq.{sets, sets-eq, drop-cons}
-use borrow.Author.Tests.{le-leb, lt-leb, lt-ltb, le-ltb, eq-eqb, ne-eqb}
+use borrow.Author.Tests.{le-leb, lt-leb, lt-ltb, le-ltb}
+use Rattle.refusal.specs.declared.Refusal.{Refusal}
+use Rattle.refusal.specs.declared.Refusal.the-variants.{Rule, Length, Range, Room}
+use Rattle.refusal.specs.Refusals.{refusalNo}
+use Rattle.refusal.proofs.Refusals.{refusal-some}
 use Rattle.number.specs.Number.{numberBytes}
 use Rattle.number.proofs.Bytes.{bytes-one, bytes-two, bytes-three}
-use Rattle.rule.specs.Rules.{inRange}
+use Rattle.rule.specs.Rules.{Told, refused, given, inRange, ruleTold}
+use Rattle.figure.specs.Figure.{figure, badFigure}
 use Rattle.job.specs.Bytes.{coordinateBytes, headerBytes, outlineBytes}
+use Rattle.job.specs.Job.{mostOutlines}
 use Rattle.job.specs.Calls.{WriteSaid, unwritten, writtenTo, headerWritten, outlineWritten}
-use Rattle.outline.specs.Corners.{badLength, odd}
 
 -- a number
 
@@ -105,7 +110,7 @@ put-done l out i at E e h = sym (ap (sets out at) (coordinates-done l i h)) ∙ 
 -- bytes at the front of a buffer
 
 module _ (out b : List ℕ) (n : ℕ) (all : n ≡ length b) where
-  pub written-room : length out < n → unwritten 14 out ≡ writtenTo out b
+  pub written-room : length out < n → unwritten (refusalNo Room) out ≡ writtenTo out b
   written-room h = simp (lt-leb (length b) (length out) (omega arith))
 
   pub written-fits : (q : List ℕ) → n ≤ length out → q ≡ sets out 0 b → record { number = 0; bytes = n; out = q } ≡ writtenTo out b
@@ -122,16 +127,23 @@ unfolding headerBytes
 header-length t w k ea eb ed = simp length-append (omega arith)
 
 module _ (t w k : ℕ) (out : List ℕ) where
-  pub header-rule : inRange t w ≡ false → unwritten 1 out ≡ headerWritten t w k out
-  unfolding headerWritten
-  header-rule e = simp e
+  -- the rule's own refusal
+  pub header-rule : (why : Refusal) → refused (refusalNo why) ≡ ruleTold t w → unwritten (refusalNo why) out ≡ headerWritten t w k out
+  unfolding headerWritten ruleTold
+  header-rule why e = go (inRange t w) _ e
+    where
+      go : (b : Bool) (said : WriteSaid) → refused (refusalNo why) ≡ cond b (given (record { threshold = t; weight = w })) (refused (refusalNo Rule))
+          → unwritten (refusalNo why) out ≡ cond b said (unwritten (refusalNo Rule) out)
+      go true said f =
+          let z : refusalNo why ≡ 0 = ap (λ (t : Told). t .number) f in absurd (omega (arith, refusal-some why))
+      go false said f = ap (λ (t : Told). unwritten (t .number) out) f
 
   module _ (e : inRange t w ≡ true) where
-    pub header-many : 255 < k → unwritten 10 out ≡ headerWritten t w k out
+    pub header-many : mostOutlines < k → unwritten (refusalNo Range) out ≡ headerWritten t w k out
     unfolding headerWritten
     header-many h = simp (e, lt-ltb)
 
-    pub header-few : k ≤ 255 → writtenTo out (headerBytes t w k) ≡ headerWritten t w k out
+    pub header-few : k ≤ mostOutlines → writtenTo out (headerBytes t w k) ≡ headerWritten t w k out
     unfolding headerWritten
     header-few h = simp (e, le-ltb)
 
@@ -147,8 +159,8 @@ module _ (t w k : ℕ) (out : List ℕ) where
       ∙ sym (sets-append out 0 (numberBytes t) (numberBytes w ++ numberBytes k))
 
 module _ (t w k : ℕ) (out : List ℕ) (range : inRange t w ≡ true) {a b d : ℕ}
-    (ea : a ≡ length (numberBytes t)) (eb : b ≡ length (numberBytes w)) (ed : d ≡ length (numberBytes k)) (few : k ≤ 255) where
-  pub header-room : length out < a + b + d → unwritten 14 out ≡ headerWritten t w k out
+    (ea : a ≡ length (numberBytes t)) (eb : b ≡ length (numberBytes w)) (ed : d ≡ length (numberBytes k)) (few : k ≤ mostOutlines) where
+  pub header-room : length out < a + b + d → unwritten (refusalNo Room) out ≡ headerWritten t w k out
   header-room h = written-room out (headerBytes t w k) (a + b + d) (header-length t w k ea eb ed) h ∙ header-few t w k out range few
 
   pub header-fits : (q : List ℕ) → q ≡ sets out 0 (headerBytes t w k) → a + b + d ≤ length out
@@ -159,26 +171,18 @@ module _ (t w k : ℕ) (out : List ℕ) (range : inRange t w ≡ true) {a b d : 
 -- an outline
 
 module _ (l out : List ℕ) where
-  pub outline-odd : length l % 2 ≡ 1 → unwritten 2 out ≡ outlineWritten l out
-  unfolding outlineWritten badLength odd
-  outline-odd e = simp (eq-eqb (length l % 2) 1 e)
+  pub outline-bad : badFigure (figure l) ≡ true → unwritten (refusalNo Length) out ≡ outlineWritten l out
+  unfolding outlineWritten
+  outline-bad e = rw e
 
-  pub outline-short : length l < 8 → unwritten 2 out ≡ outlineWritten l out
-  unfolding outlineWritten badLength odd
-  outline-short h = simp (lt-ltb, or-true)
+  pub outline-good : badFigure (figure l) ≡ false → writtenTo out (outlineBytes l) ≡ outlineWritten l out
+  unfolding outlineWritten
+  outline-good e = rw e
 
-  pub outline-long : 64 < length l → unwritten 2 out ≡ outlineWritten l out
-  unfolding outlineWritten badLength odd
-  outline-long h = simp (lt-ltb, or-true)
-
-  pub outline-right : (length l % 2 ≡ 1 → ⊥) → 8 ≤ length l → length l ≤ 64 → writtenTo out (outlineBytes l) ≡ outlineWritten l out
-  unfolding outlineWritten badLength odd
-  outline-right e h k = simp (ne-eqb (length l % 2) 1 e, le-ltb)
-
-  pub outline-put : (v at : ℕ) (o q : List ℕ) → v ≡ length l / 2 → at ≡ 0 + length (numberBytes v) → o ≡ sets out 0 (numberBytes v)
-      → q ≡ sets o at (coordinateBytes l) → q ≡ sets out 0 (outlineBytes l)
+  pub outline-put : (v at : ℕ) (o q : List ℕ) → at ≡ 0 + length (numberBytes v) → o ≡ sets out 0 (numberBytes v)
+      → q ≡ sets o at (coordinateBytes l) → v ≡ length l / 2 → q ≡ sets out 0 (outlineBytes l)
   unfolding outlineBytes
-  outline-put v at o q ev ea eo eq =
+  outline-put v at o q ea eo eq ev =
       eq
       ∙ ap₂ (λ (m : List ℕ) i. sets m i (coordinateBytes l)) eo ea
       ∙ sym (sets-append out 0 (numberBytes v) (coordinateBytes l))
@@ -190,12 +194,12 @@ unfolding outlineBytes
 outline-length l v e ea eb =
     ap₂ _+_ (ea ∙ ap (λ u. length (numberBytes u)) e) eb ∙ sym (length-append (numberBytes (length l / 2)) (coordinateBytes l))
 
-module _ (l out : List ℕ) (v : ℕ) {a b : ℕ} (ev : v ≡ length l / 2) (ea : a ≡ length (numberBytes v)) (eb : b ≡ length (coordinateBytes l))
-    (even : length l % 2 ≡ 1 → ⊥) (low : 8 ≤ length l) (high : length l ≤ 64) where
-  pub outline-room : length out < a + b → unwritten 14 out ≡ outlineWritten l out
-  outline-room h = written-room out (outlineBytes l) (a + b) (outline-length l v ev ea eb) h ∙ outline-right l out even low high
+module _ (l out : List ℕ) (v : ℕ) {a b : ℕ} (ea : a ≡ length (numberBytes v)) (eb : b ≡ length (coordinateBytes l)) (ev : v ≡ length l / 2)
+    (good : badFigure (figure l) ≡ false) where
+  pub outline-room : length out < a + b → unwritten (refusalNo Room) out ≡ outlineWritten l out
+  outline-room h = written-room out (outlineBytes l) (a + b) (outline-length l v ev ea eb) h ∙ outline-good l out good
 
   pub outline-fits : (q : List ℕ) → q ≡ sets out 0 (outlineBytes l) → a + b ≤ length out
       → record { number = 0; bytes = a + b; out = q } ≡ outlineWritten l out
   outline-fits q e h =
-      written-fits out (outlineBytes l) (a + b) (outline-length l v ev ea eb) q h e ∙ outline-right l out even low high
+      written-fits out (outlineBytes l) (a + b) (outline-length l v ev ea eb) q h e ∙ outline-good l out good

@@ -1,15 +1,19 @@
 // Reading a job: numbers from the front, the first fault deciding.
+use crate::MOST_BYTES;
+use crate::MOST_CORNERS;
+use crate::MOST_OUTLINES;
+use crate::MOST_PLACE;
 use number::Cursor;
 use number::Read;
-use number::Refusal;
-use number::refusal_no;
+use refusal::Refusal;
+use refusal::refusal_no;
+use rule::Rule;
 ghost use mathlib.Core.Path.{_≡_};
-ghost use Prim.Native.Nat.{_≤_, _*_};
 ghost use Rattle.number.specs.Number.{readTold};
 ghost use Rattle.number.specs.Reading.{past};
 ghost use Rattle.job.specs.Job.{value, coordinates, outline, outlines, header, job};
 ghost use Rattle.job.specs.Calls.{checked, checkTold, taken, told};
-ghost use Rattle.job.specs.Steps.{pastTold, headTold, whole, placeTold, located};
+ghost use Rattle.job.specs.Steps.{pastTold, headTold, whole, locatedTold, located};
 
 // Where reading got to, or the first fault.
 pub enum Past {
@@ -29,7 +33,7 @@ pub enum Head {
 }
 
 // Where an outline starts and ends, or the first fault on the way to it.
-pub enum Place {
+pub enum Located {
     Part(usize, usize),
     Fault(Refusal, usize),
 }
@@ -70,7 +74,7 @@ pub fn coordinates(job: &[u8], from: Cursor, n: u32) -> Past
     let mut c = from;
     let mut i = 0;
     while i < n {
-        match value(job, c, 0, 65535) {
+        match value(job, c, 0, MOST_PLACE) {
             Read::Fault(r, p) => {
                 return Past::Fault(r, p);
             }
@@ -87,7 +91,7 @@ pub fn coordinates(job: &[u8], from: Cursor, n: u32) -> Past
 pub fn outline(job: &[u8], from: Cursor) -> Past
     ensures { λ r. ⌜ pastTold r ≡ past (outline (now (job .entry)) (from .at)) ⌝ }
 {
-    match value(job, from, 4, 32) {
+    match value(job, from, 4, MOST_CORNERS) {
         Read::Fault(r, p) => Past::Fault(r, p),
         Read::Number(v, next) => coordinates(job, next, 2 * v),
     }
@@ -117,11 +121,11 @@ pub fn outlines(job: &[u8], from: Cursor, k: usize) -> Past
 pub fn header(job: &[u8]) -> Head
     ensures { λ r. ⌜ headTold r ≡ header (now (job .entry)) ⌝ }
 {
-    match value(job, Cursor { at: 0 }, 0, 1000) {
+    match value(job, Cursor { at: 0 }, 0, Rule::MAX_THRESHOLD) {
         Read::Fault(r, p) => Head::Fault(r, p),
-        Read::Number(threshold, c) => match value(job, c, 0, 1000) {
+        Read::Number(threshold, c) => match value(job, c, 0, Rule::MAX_WEIGHT) {
             Read::Fault(r, p) => Head::Fault(r, p),
-            Read::Number(weight, d) => match value(job, d, 0, 255) {
+            Read::Number(weight, d) => match value(job, d, 0, MOST_OUTLINES) {
                 Read::Fault(r, p) => Head::Fault(r, p),
                 Read::Number(outlines, next) => Head::Header {
                     threshold,
@@ -138,7 +142,7 @@ pub fn header(job: &[u8]) -> Head
 pub fn whole(job: &[u8]) -> Head
     ensures { λ r. ⌜ headTold r ≡ whole (now (job .entry)) ⌝ }
 {
-    if 4096 < job.len() {
+    if MOST_BYTES < job.len() {
         return Head::Fault(Refusal::Long, 0);
     }
     match header(job) {
@@ -186,14 +190,14 @@ pub fn check(job: &[u8]) -> Checked
 }
 
 // Where outline k stands, by reading k outlines and then one more.
-pub fn locate(job: &[u8], first: Cursor, k: usize) -> Place
-    ensures { λ r. ⌜ placeTold r ≡ located (now (job .entry)) k (first .at) ⌝ }
+pub fn locate(job: &[u8], first: Cursor, k: usize) -> Located
+    ensures { λ r. ⌜ locatedTold r ≡ located (now (job .entry)) k (first .at) ⌝ }
 {
     match outlines(job, first, k) {
-        Past::Fault(r, p) => Place::Fault(r, p),
+        Past::Fault(r, p) => Located::Fault(r, p),
         Past::At(start) => match outline(job, start) {
-            Past::Fault(r, p) => Place::Fault(r, p),
-            Past::At(end) => Place::Part(start.at, end.at),
+            Past::Fault(r, p) => Located::Fault(r, p),
+            Past::At(end) => Located::Part(start.at, end.at),
         },
     }
 }
@@ -221,12 +225,12 @@ pub fn take<'a>(job: &'a [u8], k: usize, refusal: &mut u32, offset: &mut usize) 
                 return &job[0..0];
             }
             match locate(job, next, k) {
-                Place::Fault(r, p) => {
+                Located::Fault(r, p) => {
                     *refusal = refusal_no(r);
                     *offset = p;
                     &job[0..0]
                 }
-                Place::Part(start, end) => {
+                Located::Part(start, end) => {
                     *refusal = 0;
                     &job[start..end]
                 }

@@ -1,9 +1,11 @@
 // Unpacking: from the bytes of one outline to its list of coordinates.
+use crate::MOST_CORNERS;
+use crate::MOST_PLACE;
 use crate::read;
 use crate::read::Past;
 use number::Cursor;
 use number::Read;
-use number::Refusal;
+use refusal::Refusal;
 ghost use mathlib.Core.Path.{_≡_};
 ghost use mathlib.Core.List.{_++_};
 ghost use Prim.Native.Nat.{_≤_};
@@ -27,7 +29,7 @@ fn store(part: &[u8], from: Cursor, n: usize, list: &mut [u16])
     let mut c = from;
     let mut i = 0;
     while i < n {
-        match read::value(part, c, 0, 65535) {
+        match read::value(part, c, 0, MOST_PLACE) {
             Read::Fault(_, _) => {
                 return;
             }
@@ -44,7 +46,7 @@ fn store(part: &[u8], from: Cursor, n: usize, list: &mut [u16])
 pub fn unpack(part: &[u8], list: &mut [u16]) -> Unpacked
     ensures settled { λ r. ⌜ unpackTold r (now (list .exit)) ≡ unpacked (now (part .entry)) (now (list .entry)) ⌝ }
 {
-    match read::value(part, Cursor { at: 0 }, 4, 32) {
+    match read::value(part, Cursor { at: 0 }, 4, MOST_CORNERS) {
         Read::Fault(r, p) => Unpacked::Refused(r, p),
         Read::Number(v, first) => match read::coordinates(part, first, 2 * v) {
             Past::Fault(r, p) => Unpacked::Refused(r, p),

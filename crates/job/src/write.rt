@@ -1,26 +1,22 @@
 // Writing: a header, or an outline, at the front of a buffer. The room is known to suffice before a byte is written.
+use crate::MOST_OUTLINES;
+use figure::edges;
+use refusal::Refusal;
 use rule::Made;
 use rule::Rule;
 ghost use mathlib.Core.Path.{_≡_};
-ghost use Prim.Native.Nat.{_≤_, _+_};
+ghost use Prim.Native.Nat.{_≤_, _+_, _*_};
 ghost use lib.ListN.{length};
 ghost use lib.Seq.{sets};
+ghost use Rattle.figure.specs.Figure.{mostCorners};
 ghost use Rattle.number.specs.Number.{most, numberBytes};
 ghost use Rattle.job.specs.Bytes.{coordinateBytes};
 ghost use Rattle.job.specs.Calls.{writeTold, headerWritten, outlineWritten};
 
-// Why nothing is written: document 01's 1, 2, 10 and 14.
-pub enum Unwritable {
-    Rule,
-    Length,
-    Outlines,
-    Room,
-}
-
 // How many bytes stand at the front of the buffer, or why none do.
 pub enum Written {
     Bytes(usize),
-    Refused(Unwritable),
+    Refused(Refusal),
 }
 
 // How many bytes a number has.
@@ -64,8 +60,8 @@ fn wide(x: u16) -> u32
 
 // How many bytes the coordinates have.
 fn sizes(corners: &[u16]) -> usize
-    requires { ⌜ length (now corners) ≤ 64 ⌝ }
-    ensures { λ r. ⌜ (r ≡ length (coordinateBytes (now (corners .entry)))) × (r ≤ 192) ⌝ }
+    requires { ⌜ length (now corners) ≤ 2 * mostCorners ⌝ }
+    ensures { λ r. ⌜ (r ≡ length (coordinateBytes (now (corners .entry)))) × (r ≤ 6 * mostCorners) ⌝ }
 {
     let mut total = 0;
     let mut i = 0;
@@ -94,14 +90,14 @@ pub fn write_header(threshold: u32, weight: u32, outlines: u32, out: &mut [u8]) 
     ensures settled { λ r. ⌜ writeTold r (now (out .exit)) ≡ headerWritten threshold weight outlines (now (out .entry)) ⌝ }
 {
     match Rule::new(threshold, weight) {
-        Made::Refused => Written::Refused(Unwritable::Rule),
+        Made::Refused(why) => Written::Refused(why),
         Made::Rule(_) => {
-            if 255 < outlines {
-                return Written::Refused(Unwritable::Outlines);
+            if MOST_OUTLINES < outlines {
+                return Written::Refused(Refusal::Range);
             }
             let n = size(threshold) + size(weight) + size(outlines);
             if out.len() < n {
-                return Written::Refused(Unwritable::Room);
+                return Written::Refused(Refusal::Room);
             }
             let a = put(out, 0, threshold);
             let b = put(out, a, weight);
@@ -115,20 +111,13 @@ pub fn write_header(threshold: u32, weight: u32, outlines: u32, out: &mut [u8]) 
 pub fn write_outline(corners: &[u16], out: &mut [u8]) -> Written
     ensures settled { λ r. ⌜ writeTold r (now (out .exit)) ≡ outlineWritten (now (corners .entry)) (now (out .entry)) ⌝ }
 {
-    let count = corners.len();
-    if count % 2 == 1 {
-        return Written::Refused(Unwritable::Length);
+    if edges::bad_length(corners) {
+        return Written::Refused(Refusal::Length);
     }
-    if count < 8 {
-        return Written::Refused(Unwritable::Length);
-    }
-    if 64 < count {
-        return Written::Refused(Unwritable::Length);
-    }
-    let v = (count / 2) as u32;
+    let v = (corners.len() / 2) as u32;
     let need = size(v) + sizes(corners);
     if out.len() < need {
-        return Written::Refused(Unwritable::Room);
+        return Written::Refused(Refusal::Room);
     }
     let at = put(out, 0, v);
     put_all(corners, out, at);

@@ -3,6 +3,8 @@
 --   then-same        == what follows a reading goes by what it found
 --   past-then        == the place past a reading stays where only its value is put to use
 --   many-none, many-more, many-stop == the ways that reading n + 1 in a row can go
+--   one-less         == how many of n are left after i, by those left after one more
+--   many-more-left, many-stop-left, many-done-left == the same by how many of n are left after i
 --   past-fault, past-read == a reading, by the place that it got to
 --   many-first, many-length == what many in a row begin with, and how many they are
 --   many-nth         == one of many: those before it are read, and then it
@@ -42,6 +44,9 @@ module _ {A B : Type 0} where
   then-inv f (read a next) e = (a, next, refl, e)
   then-inv f (fault r p) e = absurd (apart (sym e))
 
+pub one-less : (n i : ℕ) → i < n → n - i ≡ suc (n - (i + 1))
+one-less n i h = omega arith
+
 module _ {A : Type 0} (f : ℕ → Reading A) (at : ℕ) where
   pub many-none : many f 0 at ≡ read [] at
   unfolding many
@@ -67,16 +72,12 @@ module _ {A : Type 0} (f : ℕ → Reading A) (at : ℕ) where
       go (read a m) q w = absurd (apart (sym w))
       go (fault t k) q w = ap past (then-same (onward n) q) ∙ sym w
 
-  -- the same by how many of n are left after i
   module _ (n i : ℕ) (h : i < n) where
-    one-less : n - i ≡ suc (n - (i + 1))
-    one-less = omega arith
-
     pub many-more-left : {next : ℕ} → read tt next ≡ past (f at) → past (many f (n - i) at) ≡ past (many f (n - (i + 1)) next)
-    many-more-left e = ap (λ m. past (many f m at)) one-less ∙ many-more (n - (i + 1)) e
+    many-more-left e = ap (λ m. past (many f m at)) (one-less n i h) ∙ many-more (n - (i + 1)) e
 
     pub many-stop-left : {r : Refusal} {p : ℕ} → fault r p ≡ past (f at) → past (many f (n - i) at) ≡ fault r p
-    many-stop-left e = ap (λ m. past (many f m at)) one-less ∙ many-stop (n - (i + 1)) e
+    many-stop-left e = ap (λ m. past (many f m at)) (one-less n i h) ∙ many-stop (n - (i + 1)) e
 
   pub many-done-left : (n i : ℕ) → n ≤ i → past (many f (n - i) at) ≡ read tt at
   many-done-left n i h = ap (λ m. past (many f m at)) (let z : n - i ≡ 0 = omega arith in z) ∙ ap past many-none

@@ -1,8 +1,8 @@
--- The number of a job: groups of seven bits, lowest group first, one to a byte; the top bit is set on every byte but the last.
--- It has the fewest bytes possible and at most three.
+-- To believe: the number of a job, groups of seven bits, lowest group first, one to a byte; the top bit is set on every byte but
+-- the last. It has the fewest bytes possible and at most three.
 --
---   numberBytes n    == the bytes of the number n
---   most             == the highest number that three bytes hold
+--   most             == the highest number that three groups of seven bits hold
+--   numberBytes n    == the bytes of the number n: the fewest groups that hold it
 --   number s at      == what reading a number of the bytes s at a place finds
 --   group, groups    == the same from one of its groups on
 --   readTold         == what each case of the reader's answer tells
@@ -16,11 +16,9 @@ use Rattle.number.specs.declared.Read.{Read}
 use Rattle.number.specs.declared.Read.the-variants as answer
 use Rattle.number.specs.Reading.{Reading, read, fault}
 
--- the highest number of three groups of seven bits
 abbrev pub most : ℕ
 most = 2097151
 
--- the fewest groups that hold n
 unfoldable pub numberBytes : ℕ → List ℕ
 numberBytes n =
     cond (ltb n 128) (n ∷ [])
@@ -46,7 +44,6 @@ groups (suc n) s start at low unit =
 unfoldable pub number : List ℕ → ℕ → Reading ℕ
 number s at = groups 2 s at at 0 1
 
--- document 01's number and values for each answer of the reader
 abbrev pub readTold : Read → Reading ℕ
 readTold (answer.Number v c) = read v (c .at)
 readTold (answer.Fault r at) = fault r at

@@ -1,11 +1,8 @@
 // Numbers of a job: groups of seven bits, lowest group first, one to a byte; the top bit is set on every byte but the last.
 use refusal::Refusal;
 ghost use mathlib.Core.Path.{_≡_};
-ghost use mathlib.Core.List.{_++_};
 ghost use Prim.Native.Nat.{_≤_, _+_, _-_, _*_};
-ghost use lib.ListN.{length};
-ghost use lib.Seq.{sets};
-ghost use Rattle.number.specs.Number.{most, number, numberBytes, readTold};
+ghost use Rattle.number.specs.Number.{number, readTold};
 
 // A place in the bytes of a job.
 pub struct Cursor {

@@ -1,5 +1,5 @@
 -- `check` meets its contract: what `whole` tells, without the place of the first outline. Assumes nothing.
-use Rattle.number.proofs.Reading.{told-as}
+use Rattle.refusal.proofs.Refusals.{told-as}
 use Rattle.job.specs.Steps.{headTold}
 use Rattle.job.proofs.Calls.{checked-fault, checked-read}
 use borrow.Author.Needs.{needs}

@@ -6,7 +6,8 @@ use native.Mathlib.Omega.{arith}
 use borrow.Author.Needs.{needs}
 use Rattle.number.specs.Number.{readTold}
 use Rattle.number.specs.Reading.{past}
-use Rattle.number.proofs.Reading.{told-as, many-more-left, many-stop-left, many-done-left}
+use Rattle.refusal.proofs.Refusals.{told-as}
+use Rattle.number.proofs.Reading.{many-more-left, many-stop-left, many-done-left}
 use Rattle.job.specs.Job.{coordinates}
 use Rattle.job.proofs.read.coordinates.Statement.{statement}
 use Rattle.job.proofs.read.coordinates.Tie as tie

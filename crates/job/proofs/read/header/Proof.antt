@@ -1,6 +1,6 @@
 -- `header` meets its contract: each exit is a case of the definition's `header`. Assumes nothing.
 use Rattle.number.specs.Number.{readTold}
-use Rattle.number.proofs.Reading.{told-as}
+use Rattle.refusal.proofs.Refusals.{told-as}
 use Rattle.job.proofs.Job.{header-threshold, header-weight, header-count, header-read}
 use borrow.Author.Needs.{needs}
 use Rattle.job.proofs.read.header.Statement.{statement}

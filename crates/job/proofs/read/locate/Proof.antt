@@ -1,5 +1,5 @@
 -- `locate` meets its contract: past k outlines, and then past one more. Assumes nothing.
-use Rattle.number.proofs.Reading.{told-as}
+use Rattle.refusal.proofs.Refusals.{told-as}
 use Rattle.job.specs.Steps.{pastTold}
 use Rattle.job.proofs.Calls.{located-before, located-fault, located-part}
 use borrow.Author.Needs.{needs}

@@ -5,7 +5,8 @@ use native.Mathlib.Nat.{sub-zero}
 use native.Mathlib.Omega.{arith}
 use borrow.Author.Needs.{needs}
 use Rattle.number.specs.Reading.{past}
-use Rattle.number.proofs.Reading.{told-as, many-more-left, many-stop-left, many-done-left}
+use Rattle.refusal.proofs.Refusals.{told-as}
+use Rattle.number.proofs.Reading.{many-more-left, many-stop-left, many-done-left}
 use Rattle.job.specs.Job.{outlines}
 use Rattle.job.specs.Steps.{pastTold}
 use Rattle.job.proofs.Job.{part-past}

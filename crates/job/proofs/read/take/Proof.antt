@@ -1,7 +1,7 @@
 -- `take` meets its contract: the job's fault, or 13, or the part that `locate` finds, which is outline k's. Assumes nothing.
 use native.Mathlib.Omega.{arith}
-use Rattle.number.proofs.Reading.{told-as}
-use Rattle.job.specs.Steps.{headTold, placeTold}
+use Rattle.refusal.proofs.Refusals.{told-as}
+use Rattle.job.specs.Steps.{headTold, locatedTold}
 use Rattle.job.proofs.Calls.{located-within, taken-fault, taken-missing, taken-never, taken-part}
 use borrow.Author.Needs.{needs}
 use Rattle.job.proofs.read.take.Statement.{statement}
@@ -68,22 +68,22 @@ enum-known-start : tie.Need-enum-known-start
 enum-known-start c = search needs
 
 sub-result-4 : tie.Need-sub-result-4
-sub-result-4 c = omega (arith, located-within _ _ _ (told-as placeTold (c .before .start .given .1) (c .before .before .before .locate .ensures)))
+sub-result-4 c = omega (arith, located-within _ _ _ (told-as locatedTold (c .before .start .given .1) (c .before .before .before .locate .ensures)))
 
 part-result-start-4 : tie.Need-part-result-start-4
-part-result-start-4 c = omega (arith, located-within _ _ _ (told-as placeTold (c .before .start .given .1) (c .before .before .before .locate .ensures)))
+part-result-start-4 c = omega (arith, located-within _ _ _ (told-as locatedTold (c .before .start .given .1) (c .before .before .before .locate .ensures)))
 
 part-result-end-4 : tie.Need-part-result-end-4
-part-result-end-4 c = omega (arith, located-within _ _ _ (told-as placeTold (c .before .start .given .1) (c .before .before .before .locate .ensures)))
+part-result-end-4 c = omega (arith, located-within _ _ _ (told-as locatedTold (c .before .start .given .1) (c .before .before .before .locate .ensures)))
 
 returns-2 : tie.Need-returns-2
 returns-2 c = taken-fault _ _ (told-as headTold (c .before .before .before .fault .given .1) (c .before .before .before .before .before .whole .ensures)) (c .before .refusal-no .ensures)
 
 returns-3 : tie.Need-returns-3
-returns-3 c = absurd (taken-never _ _ (told-as headTold (c .before .before .before .before .before .before .before .before .count .given .1) (c .before .before .before .before .before .before .before .before .before .before .whole .ensures)) (omega arith) (told-as placeTold (c .before .before .before .r .given .1) (c .before .before .before .before .before .locate .ensures)))
+returns-3 c = absurd (taken-never _ _ (told-as headTold (c .before .before .before .before .before .before .before .before .count .given .1) (c .before .before .before .before .before .before .before .before .before .before .whole .ensures)) (omega arith) (told-as locatedTold (c .before .before .before .r .given .1) (c .before .before .before .before .before .locate .ensures)))
 
 returns-4 : tie.Need-returns-4
-returns-4 c = taken-part _ _ (told-as headTold (c .before .before .before .before .before .before .before .count .given .1) (c .before .before .before .before .before .before .before .before .before .whole .ensures)) (omega arith) (told-as placeTold (c .before .before .start .given .1) (c .before .before .before .before .locate .ensures))
+returns-4 c = taken-part _ _ (told-as headTold (c .before .before .before .before .before .before .before .count .given .1) (c .before .before .before .before .before .before .before .before .before .whole .ensures)) (omega arith) (told-as locatedTold (c .before .before .start .given .1) (c .before .before .before .before .locate .ensures))
 
 pub take-spec : {M : Type 1} → statement M
 take-spec =

@@ -1,7 +1,7 @@
 -- `value` meets its contract: each exit is a case of the definition's `value`. Assumes nothing.
 use native.Mathlib.Omega.{arith}
 use Rattle.number.specs.Number.{readTold}
-use Rattle.number.proofs.Reading.{told-as}
+use Rattle.refusal.proofs.Refusals.{told-as}
 use Rattle.job.proofs.Job.{value-fault, value-under, value-over, value-in}
 use borrow.Author.Needs.{needs}
 use Rattle.job.proofs.read.value.Statement.{statement}

@@ -1,6 +1,6 @@
 -- `whole` meets its contract: each exit is a case of the definition's `job`. Assumes nothing.
 use native.Mathlib.Omega.{arith}
-use Rattle.number.proofs.Reading.{told-as}
+use Rattle.refusal.proofs.Refusals.{told-as}
 use Rattle.job.specs.Steps.{headTold, pastTold}
 use Rattle.job.proofs.Job.{job-long, job-header, job-outlines, job-extra, job-read}
 use Rattle.job.proofs.Calls.{whole-fault, whole-read}

@@ -4,7 +4,8 @@ use mathlib.Core.Path.{sym}
 use native.Mathlib.Omega.{arith}
 use borrow.Author.Needs.{needs}
 use Rattle.number.specs.Number.{readTold}
-use Rattle.number.proofs.Reading.{told-as}
+use Rattle.refusal.proofs.Refusals.{told-as}
+use Rattle.job.specs.Job.{mostPlace}
 use Rattle.job.proofs.Job.{value-read}
 use Rattle.job.proofs.Unpacking.{Storing, storing-start, storing-more, storing-never, storing-done}
 use Rattle.job.proofs.unpack.store.Statement.{statement}
@@ -35,7 +36,7 @@ enum-known-v : tie.Need-enum-known-v Inv-loop μ-loop
 enum-known-v c = search needs
 
 cast-list : tie.Need-cast-list Inv-loop μ-loop
-cast-list c = omega (arith, value-read _ 0 65535 _ (sym (told-as readTold (c .before .v .given .1) (c .before .before .before .value .ensures))) .2)
+cast-list c = omega (arith, value-read _ 0 mostPlace _ (sym (told-as readTold (c .before .v .given .1) (c .before .before .before .value .ensures))) .2)
 
 mul-list : tie.Need-mul-list Inv-loop μ-loop
 mul-list c = search needs

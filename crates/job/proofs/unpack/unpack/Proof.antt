@@ -2,7 +2,8 @@
 use mathlib.Core.Path.{sym}
 use native.Mathlib.Omega.{arith}
 use Rattle.number.specs.Number.{readTold}
-use Rattle.number.proofs.Reading.{told-as}
+use Rattle.figure.specs.Figure.{mostCorners}
+use Rattle.refusal.proofs.Refusals.{told-as}
 use Rattle.job.specs.Steps.{pastTold}
 use Rattle.job.proofs.Job.{value-read}
 use Rattle.job.proofs.Unpacking.{unpacked-V, unpacked-coordinates, unpacked-extra, unpacked-room, unpacked-stored, coordinates-are}
@@ -20,7 +21,7 @@ enum-known-v : tie.Need-enum-known-v
 enum-known-v c = search needs
 
 mul-coordinates : tie.Need-mul-coordinates
-mul-coordinates c = omega (arith, value-read _ 4 32 _ (sym (told-as readTold (c .before .v .given .1) (c .before .before .before .value .ensures))) .2)
+mul-coordinates c = omega (arith, value-read _ 4 mostCorners _ (sym (told-as readTold (c .before .v .given .1) (c .before .before .before .value .ensures))) .2)
 
 coordinates-requires : tie.Need-coordinates-requires
 coordinates-requires c κs = search needs
