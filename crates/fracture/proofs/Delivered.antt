@@ -30,10 +30,10 @@ use Rattle.verdict.specs.Memory.{Costed}
 use Rattle.emission.specs.declared.Tally.{Tally}
 use Rattle.emission.specs.Emission.{Written, Walk, Emittable}
 use Rattle.emission.proofs.Emitted.{count-cells, count-few}
-use Rattle.demands.specs.Promise.{written}
+use Rattle.demands.specs.Promise.{frameShots, frameCost, frameSliver, frameNumbers, Outcome, written, delivered}
 use Rattle.fracture.specs.declared.Fractured.the-variants.{Done, Refused}
 use Rattle.fracture.specs.declared.delivery.Room.the-variants.{Enough, Short}
-use Rattle.fracture.specs.Delivery.{roomOf, all, listed, lacking, delivered}
+use Rattle.fracture.specs.Delivery.{roomOf}
 use Rattle.fracture.specs.Told.{told}
 
 pub room-fits : (n : ℕ) {m l : ℕ} → m ≡ l → 4 * m ≤ n → Enough ≡ roomOf n l
@@ -113,32 +113,52 @@ module _ (g : Grid) (r : Rule) (t cs xs ys : List ℕ) (plan : Plan) (w : Walk g
   pub frame-emittable : {n : ℕ} → Enough ≡ roomOf n (length (shots g r q)) → Emittable t cs xs ys n plan 0 q
   frame-emittable {n} h = frame-fits n (enough-says n (length (shots g r q)) h)
 
+  same-frame : shots g r q ≡ frameShots g r
+  unfolding frameShots
+  same-frame = same
+
+  -- the two ends of a delivery
+  lacking : List ℕ → Outcome
+  lacking list =
+      record { number = 7; shots = length (frameShots g r); cost = 0; sliver = 0; table = t; list = list }
+
+  listed : List ℕ → Outcome
+  listed list =
+      record {
+        number = 0;
+        shots = length (frameShots g r);
+        cost = frameCost g r;
+        sliver = frameSliver g r;
+        table = t;
+        list = written (frameNumbers g r) list;
+      }
+
   pub told-lacking : (list : List ℕ) {k : ℕ} → Short k ≡ roomOf (length list) (length (shots g r q))
       → told (Refused because.List k) t list ≡ delivered g r t list
-  unfolding delivered told
+  unfolding delivered told lacking listed
   told-lacking list {k} h =
       let s = short-says (length list) (length (shots g r q)) k h in
-      let b : length list < 4 * length (all g r t list) = omega (arith, s .1, ap length same) in
-      (λ i. record { number = 7; shots = (s .0 ∙ ap length same) i; cost = 0; sliver = 0; table = t; list = list })
-      ∙ sym (ap (λ x. cond x (lacking g r t list) (listed g r t list)) (lt-ltb (length list) (4 * length (all g r t list)) b))
+      let b : length list < 4 * length (frameShots g r) = omega (arith, s .1, ap length same-frame) in
+      (λ i. record { number = 7; shots = (s .0 ∙ ap length same-frame) i; cost = 0; sliver = 0; table = t; list = list })
+      ∙ sym (ap (λ x. cond x (lacking list) (listed list)) (lt-ltb (length list) (4 * length (frameShots g r)) b))
 
   pub told-listed : (list list′ : List ℕ) (a : Tally) {c at : ℕ} → Enough ≡ roomOf (length list) (length (shots g r q))
       → Written g r list list′ 0 (shots g r q) a
       → at ≡ entryOf (plan .columns) (plan .rows) q
       → c ≡ getD t at 0
       → told (Done (a .shots) c (a .sliver)) t list′ ≡ delivered g r t list
-  unfolding delivered cost told
+  unfolding delivered told lacking listed cost frameCost frameSliver frameNumbers
   told-listed list list′ a h v at-e c-e =
       let m = enough-says (length list) (length (shots g r q)) h in
-      let b : 4 * length (all g r t list) ≤ length list = omega (arith, m, ap length same) in
+      let b : 4 * length (frameShots g r) ≤ length list = omega (arith, m, ap length same-frame) in
       let n = v .list ∙ sets-front list (numbersOf g (shots g r q)) (omega (arith, m, numbers-length g (shots g r q))) in
       (λ i.
       record {
         number = 0;
-        shots = (v .count ∙ ap length same) i;
-        cost = (c-e ∙ ap (λ j. getD t j 0) at-e ∙ w .costed .cost-at q frame-valid ∙ ap (sumOf (charge g r)) same) i;
-        sliver = (v .slivers ∙ ap (sumOf (sliver g r)) same) i;
+        shots = (v .count ∙ ap length same-frame) i;
+        cost = (c-e ∙ ap (λ j. getD t j 0) at-e ∙ w .costed .cost-at q frame-valid ∙ ap (sumOf (charge g r)) same-frame) i;
+        sliver = (v .slivers ∙ ap (sumOf (sliver g r)) same-frame) i;
         table = t;
-        list = (n ∙ ap (λ s. written (numbersOf g s) list) same) i;
+        list = (n ∙ ap (λ s. written (numbersOf g s) list) same-frame) i;
       })
-      ∙ sym (ap (λ x. cond x (lacking g r t list) (listed g r t list)) (le-ltb (length list) (4 * length (all g r t list)) b))
+      ∙ sym (ap (λ x. cond x (lacking list) (listed list)) (le-ltb (length list) (4 * length (frameShots g r)) b))

@@ -3,8 +3,8 @@
 --   laid-few, laid-ready   : the grid is small, and the fill may have it
 --   laid-filled            : what the fill leaves in the table
 --   laid-walk              : then the pieces may be walked
---   settled-table          : the outcome with too few entries
---   settled-delivered      : and with enough of them
+--   gridded-table          : the outcome with too few entries
+--   gridded-delivered      : and with enough of them
 use Prim.Native.Nat.{ℕ, _≤_, _<_}
 use mathlib.Core.Path.{_≡_, refl, ap, ap₂, sym, _∙_, subst}
 use mathlib.Core.Bool.{cond}
@@ -22,11 +22,11 @@ use Rattle.table.specs.Entry.{Valid, pairCount, entryCount, entryOf, costs}
 use Rattle.table.specs.Fill.{Ready}
 use Rattle.table.proofs.Entry.{costs-length, costs-at, entry-below}
 use Rattle.emission.specs.Emission.{Walk}
-use Rattle.demands.specs.Promise.{written}
+use Rattle.demands.specs.Promise.{written, refused, delivered, gridded}
 use Rattle.demands.proofs.Outcome.{written-length, written-at}
 use Rattle.fracture.specs.declared.Fractured.{Fractured}
 use Rattle.fracture.specs.declared.Fractured.the-variants.{Refused}
-use Rattle.fracture.specs.Delivery.{Laid, delivered, settled}
+use Rattle.fracture.specs.Delivery.{Laid}
 use Rattle.fracture.specs.Told.{told}
 
 module _ (g : Grid) (m : Memory) (w : Laid g m) where
@@ -81,25 +81,25 @@ module _ (g : Grid) (m : Memory) (w : Laid g m) where
             rule = refl;
           }
 
-      pub settled-delivered : (a : Fractured) (l l′ : List ℕ) → told a u l′ ≡ delivered g r u l → told a u l′ ≡ settled g r t l
-      unfolding settled
-      settled-delivered a l l′ h =
+      pub gridded-delivered : (a : Fractured) (l l′ : List ℕ) → told a u l′ ≡ delivered g r u l → told a u l′ ≡ gridded g r t l
+      unfolding gridded refused
+      gridded-delivered a l l′ h =
           h
           ∙ ap (λ (x : List ℕ). delivered g r x l) e
           ∙ sym
           (ap
           (λ b.
-          cond b (record { number = 6; shots = 0; cost = 0; sliver = 0; table = t; list = l })
+          cond b (refused 6 t l)
           (delivered g r (written (costs g r) t) l))
           (le-ltb (length t) (entryCount (g .columns) (g .rows)) (omega (arith, counted))))
 
-    pub settled-table : (l : List ℕ) → length t < entryCount (m .columns) (m .rows)
-        → told (Refused because.Table 0) t l ≡ settled g r t l
-    unfolding settled told
-    settled-table l h =
+    pub gridded-table : (l : List ℕ) → length t < entryCount (m .columns) (m .rows)
+        → told (Refused because.Table 0) t l ≡ gridded g r t l
+    unfolding gridded refused told
+    gridded-table l h =
         sym
         (ap
         (λ b.
-        cond b (record { number = 6; shots = 0; cost = 0; sliver = 0; table = t; list = l })
+        cond b (refused 6 t l)
         (delivered g r (written (costs g r) t) l))
         (lt-ltb (length t) (entryCount (g .columns) (g .rows)) (omega (arith, counted))))

@@ -14,7 +14,8 @@ ghost use Rattle.piece.specs.Meant.{meant};
 ghost use Rattle.piece.specs.Piece.{box};
 ghost use Rattle.piece.specs.Straight.{shots};
 ghost use Rattle.emission.specs.Emission.{Walk, Emittable};
-ghost use Rattle.fracture.specs.Delivery.{roomOf, Walkable, delivered};
+ghost use Rattle.demands.specs.Promise.{delivered};
+ghost use Rattle.fracture.specs.Delivery.{roomOf, Walkable};
 ghost use Rattle.fracture.specs.Told.{told};
 
 // Whether a list has room for the shots, and how many there are where it has not.

@@ -1,4 +1,4 @@
-// From an outline to its shots: the fill, the delivery, and the two calls.
+// From a figure to its shots: the fill, the delivery, and the two calls.
 use delivery::deliver;
 use outline::Answer;
 use outline::draw;
@@ -13,9 +13,10 @@ use verdict::Plan;
 ghost use mathlib.Core.Path.{_≡_};
 ghost use mathlib.Core.Bool.{true};
 ghost use Rattle.rule.specs.Rules.{inRange, presetTold};
-ghost use Rattle.demands.specs.Promise.{outcome};
+ghost use Rattle.figure.specs.Figure.{figure};
 ghost use Rattle.outline.specs.Grid.{Grid, memory};
-ghost use Rattle.fracture.specs.Delivery.{Laid, Fillable, settled};
+ghost use Rattle.demands.specs.Promise.{asked, gridded, ruled, outcome};
+ghost use Rattle.fracture.specs.Delivery.{Laid, Fillable};
 ghost use Rattle.fracture.specs.Told.{told};
 
 mod delivery;
@@ -27,7 +28,7 @@ pub enum Fractured {
     Refused(Refusal, u32),
 }
 
-// The fracture of the grid of an outline by a rule in range: 6, 7 or the shots.
+// The fracture of the grid of a figure by a rule in range: 6, 7 or the shots.
 fn fracture_grid(
     columns: usize,
     rows: usize,
@@ -39,7 +40,7 @@ fn fracture_grid(
     list: &mut [u16],
 ) -> Fractured
     requires { ⌜ Fillable (memory columns rows (now xs) (now ys) (now cells)) rule ⌝ }
-    ensures { λ a. ⌜ ((g : Grid) → Laid g (memory columns rows (now (xs .entry)) (now (ys .entry)) (now (cells .entry))) → told a (now (table .exit)) (now (list .exit)) ≡ settled g rule (now (table .entry)) (now (list .entry))) ⌝ }
+    ensures { λ a. ⌜ ((g : Grid) → Laid g (memory columns rows (now (xs .entry)) (now (ys .entry)) (now (cells .entry))) → told a (now (table .exit)) (now (list .exit)) ≡ gridded g rule (now (table .entry)) (now (list .entry))) ⌝ }
 {
     if table.len() < entries(columns, rows) {
         return Fractured::Refused(Refusal::Table, 0);
@@ -55,10 +56,10 @@ fn fracture_grid(
     deliver(table, cells, xs, ys, list, plan)
 }
 
-// The fracture of an outline by a rule in range: 2 to 7 or the shots.
+// The fracture of a figure by a rule in range: 2 to 7 or the shots.
 fn fracture_by(corners: &[u16], rule: Rule, table: &mut [u32], list: &mut [u16]) -> Fractured
     requires { ⌜ inRange (rule .threshold) (rule .weight) ≡ true ⌝ }
-    ensures { λ a. ⌜ told a (now (table .exit)) (now (list .exit)) ≡ outcome (now (corners .entry)) (rule .threshold) (rule .weight) (now (table .entry)) (now (list .entry)) ⌝ }
+    ensures { λ a. ⌜ told a (now (table .exit)) (now (list .exit)) ≡ ruled (figure (now (corners .entry))) rule (now (table .entry)) (now (list .entry)) ⌝ }
 {
     let mut xs = [0u16; 16];
     let mut ys = [0u16; 16];
@@ -71,14 +72,11 @@ fn fracture_by(corners: &[u16], rule: Rule, table: &mut [u32], list: &mut [u16])
             let rows = drawing.rows;
             fracture_grid(columns, rows, &xs, &ys, &cells, rule, table, list)
         }
-        Answer::Length => Fractured::Refused(Refusal::Length, 0),
-        Answer::Slanted => Fractured::Refused(Refusal::Slanted, 0),
-        Answer::Straight => Fractured::Refused(Refusal::Unturned, 0),
-        Answer::Empty => Fractured::Refused(Refusal::Empty, 0),
+        Answer::Refused(why) => Fractured::Refused(why, 0),
     }
 }
 
-// Fractures an outline, given as x, y, x, y, .. of its corners, by a threshold in nm and a weight in thousandths of a shot per nm. It
+// Fractures a figure, given as x, y, x, y, .. of its corners, by a threshold in nm and a weight in thousandths of a shot per nm. It
 // leaves the cost of every piece at the front of the table and the shots at the front of the list, and touches nothing beyond.
 pub fn fracture(
     corners: &[u16],
@@ -87,7 +85,7 @@ pub fn fracture(
     table: &mut [u32],
     list: &mut [u16],
 ) -> Fractured
-    ensures settled { λ a. ⌜ told a (now (table .exit)) (now (list .exit)) ≡ outcome (now (corners .entry)) threshold weight (now (table .entry)) (now (list .entry)) ⌝ }
+    ensures settled { λ a. ⌜ told a (now (table .exit)) (now (list .exit)) ≡ outcome (asked (now (corners .entry)) threshold weight (now (table .entry)) (now (list .entry))) ⌝ }
 {
     match Rule::new(threshold, weight) {
         Made::Rule(rule) => fracture_by(corners, rule, table, list),
@@ -97,7 +95,7 @@ pub fn fracture(
 
 // The same by the default preset.
 pub fn fracture_default(corners: &[u16], table: &mut [u32], list: &mut [u16]) -> Fractured
-    ensures settled { λ a. ⌜ told a (now (table .exit)) (now (list .exit)) ≡ outcome (now (corners .entry)) (presetTold 0 .threshold) (presetTold 0 .weight) (now (table .entry)) (now (list .entry)) ⌝ }
+    ensures settled { λ a. ⌜ told a (now (table .exit)) (now (list .exit)) ≡ outcome (asked (now (corners .entry)) (presetTold 0 .threshold) (presetTold 0 .weight) (now (table .entry)) (now (list .entry))) ⌝ }
 {
     match Rule::preset(Rule::DEFAULT_PRESET) {
         Preset::Row(rule) => fracture_by(corners, rule, table, list),

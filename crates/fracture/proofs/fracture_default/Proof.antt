@@ -17,9 +17,7 @@ enum-known-rule : tie.Need-enum-known-rule
 enum-known-rule c = search needs
 
 fracture-by-requires : tie.Need-fracture-by-requires
-fracture-by-requires c κs =
-    let s = c .before .before .before .before .before .before .before .before .before .args in
-    preset-range (s .corners .now) (s .table .now) (s .list .now) (row (c .before .before .before))
+fracture-by-requires c κs = preset-range (row (c .before .before .before))
 
 enum-known-why : tie.Need-enum-known-why
 enum-known-why c = search needs
@@ -31,7 +29,7 @@ same-length-2 : tie.Need-same-length-2
 same-length-2 c = search needs
 
 returns : tie.Need-returns
-returns c = c .before .before .before .before .fracture-by .ensures ∙ preset-outcome _ _ _ (row (c .before .before .before .before .before .before .before .before))
+returns c = c .before .before .before .before .fracture-by .ensures ∙ preset-outcome (row (c .before .before .before .before .before .before .before .before)) _ _ _
 
 returns-2 : tie.Need-returns-2
 returns-2 c = absurd (preset-known (c .before .why .given .0 .0) (sym (ap rowTold (c .before .why .given .1)) ∙ c .before .before .before .preset .ensures))

@@ -5,7 +5,7 @@ use borrow.Author.Needs.{needs}
 use lib.ListN.{length}
 use Rattle.outline.specs.Grid.{stored}
 use Rattle.table.specs.Entry.{entryCount}
-use Rattle.fracture.proofs.Gridded.{laid-few, laid-ready, laid-filled, laid-walk, settled-table, settled-delivered}
+use Rattle.fracture.proofs.Gridded.{laid-few, laid-ready, laid-filled, laid-walk, gridded-table, gridded-delivered}
 use Rattle.fracture.proofs.fracture_grid.Statement.{statement}
 use Rattle.fracture.proofs.fracture_grid.Tie as tie
 
@@ -13,7 +13,7 @@ entries-requires : tie.Need-entries-requires
 entries-requires c κs = laid-few _ _ (c .before .before .before .before .before .pre .laid)
 
 returns : tie.Need-returns
-returns c g w = settled-table g _ w _ _ _ (omega (arith, c .if1 .taken, c .before .entries .ensures))
+returns c g w = gridded-table g _ w _ _ _ (omega (arith, c .if1 .taken, c .before .entries .ensures))
 
 -- the table has an entry for every piece
 room : (c : tie.Else1)
@@ -55,7 +55,7 @@ returns-2 c g w =
     let s = f .before .before .before .before .before .before .before .before .before in
     let e = laid-filled g _ w _ _ (stored _ _ _ _ _) (w .back) (f .fill .ensures) in
     let k = room (f .before .before) in
-    settled-delivered g _ w _ _ e k _ _ _ (d .deliver .ensures _ _ (laid-walk g _ w _ _ e k _ (n .pair-count .ensures .0) (s .pre .weight)))
+    gridded-delivered g _ w _ _ e k _ _ _ (d .deliver .ensures _ _ (laid-walk g _ w _ _ e k _ (n .pair-count .ensures .0) (s .pre .weight)))
 
 pub fracture-grid-spec : {M : Type 1} → statement M
 fracture-grid-spec =
