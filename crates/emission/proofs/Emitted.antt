@@ -1,7 +1,7 @@
 -- Laws of emission. Assumes nothing.
 --
 -- What is written
---   sets-append, sets-four               : a run of stores after another; four stores
+--   sets-four                            : a run of four stores
 --   written-none, written-one, written-join
 --                                        : no shot; one; those of one list, then those of another
 --   written-as, written-by               : the same shots, and the same rule, by another name
@@ -15,12 +15,11 @@ use Prim.Native.Nat.{ℕ, suc, _+_, _*_, _≤_, _<_}
 use mathlib.Core.Path.{_≡_, refl, ap, ap₂, sym, _∙_, subst}
 use mathlib.Core.List.{List, [], _∷_, _++_}
 use native.Mathlib.Omega.{arith}
-use native.Mathlib.Nat.{add-zero}
 use lib.ListN.{length, getD, set, length-append}
 use lib.Seq.{sets}
 use Rattle.sum.specs.Sum.{sumOf, only}
 use Rattle.sum.proofs.Sum.{only-most}
-use Rattle.sum.proofs.Lists.{sumOf-append, sumOf-ones, sumOf-le, All-imp}
+use Rattle.sum.proofs.Lists.{sumOf-append, sumOf-ones, sumOf-le, All-imp, sets-append}
 use Rattle.recurrence.specs.Scheme.{Kind, outside, full, mixed}
 use Rattle.outline.specs.Grid.{Grid}
 use Rattle.rule.specs.declared.Rule.{Rule}
@@ -42,12 +41,6 @@ use Rattle.emission.specs.declared.Tally.{Tally}
 use Rattle.emission.specs.Emission.{Written, Walk, Emittable}
 
 -- What is written
-
-pub sets-append : (l : List ℕ) (i : ℕ) (u v : List ℕ) → sets l i (u ++ v) ≡ sets (sets l i u) (i + length u) v
-sets-append l i [] v = rw add-zero
-sets-append l i (x ∷ u) v =
-    let e : i + suc (length u) ≡ suc i + length u = omega arith in
-    sets-append (set l i x) (suc i) u v ∙ ap (λ n. sets (sets (set l i x) (suc i) u) n v) (sym e)
 
 pub sets-four :
     (l : List ℕ) (at : ℕ) {x y z w x' y' z' w' : ℕ} → x ≡ x' → y ≡ y' → z ≡ z' → w ≡ w'

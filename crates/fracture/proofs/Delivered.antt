@@ -11,12 +11,12 @@ use mathlib.Core.Path.{_≡_, refl, ap, ap₂, sym, _∙_, subst}
 use mathlib.Core.Bool.{Bool, true, false, cond}
 use mathlib.Core.List.{List}
 use native.Mathlib.Omega.{arith}
-use native.Mathlib.Nat.{mul-le-mul, zero-add}
+use native.Mathlib.Nat.{mul-le-mul}
 use lib.Dec.{ltb}
 use lib.ListN.{length, getD}
-use lib.Seq.{sets, sets-eq}
 use borrow.Author.Tests.{lt-ltb, le-ltb, ltb-true, ltb-false}
 use Rattle.sum.specs.Sum.{sumOf}
+use Rattle.sum.proofs.Lists.{sets-front}
 use Rattle.refusal.specs.declared.Refusal.the-variants as because
 use Rattle.outline.specs.Grid.{Grid}
 use Rattle.rule.specs.declared.Rule.{Rule}
@@ -73,11 +73,6 @@ module _ (g : Grid) (r : Rule) (t cs : List ℕ) (plan : Plan) (f : Costed g r t
   pub frame-is : box 0 (plan .columns) 0 (plan .rows) ≡ frame g
   unfolding frame
   frame-is = ap₂ (λ c d. box 0 c 0 d) (f .columns) (f .rows)
-
--- a run of stores from the front on
-sets-front : (l vs : List ℕ) → length vs ≤ length l → sets l 0 vs ≡ written vs l
-unfolding written
-sets-front l vs h = sets-eq vs l 0 (omega arith) ∙ rw zero-add
 
 pub short-says : (n m k : ℕ) → Short k ≡ roomOf n m → (k ≡ m) × (n < 4 * m)
 unfolding roomOf
@@ -147,7 +142,7 @@ module _ (g : Grid) (r : Rule) (t cs xs ys : List ℕ) (plan : Plan) (w : Walk g
       → at ≡ entryOf (plan .columns) (plan .rows) q
       → c ≡ getD t at 0
       → told (Done (a .shots) c (a .sliver)) t list′ ≡ delivered g r t list
-  unfolding delivered told lacking listed cost frameCost frameSliver frameNumbers
+  unfolding delivered told written lacking listed cost frameCost frameSliver frameNumbers
   told-listed list list′ a h v at-e c-e =
       let m = enough-says (length list) (length (shots g r q)) h in
       let b : 4 * length (frameShots g r) ≤ length list = omega (arith, m, ap length same-frame) in

@@ -2,8 +2,6 @@
 --
 --   size-one, size-two, size-three == how many bytes a number has
 --   put-one, put-two, put-three    == stores that put a number's bytes at a place
---   sets-append      == what is put in two runs
---   sets-front       == what is put at the front
 --   coordinates-more == the bytes of the coordinates from one on
 --   sizes-more, put-room, put-more, put-done == the loops over the coordinates
 --   written-room, written-fits == bytes that do not fit the buffer, and bytes that do
@@ -12,12 +10,12 @@ use Prim.Native.Nat.{ℕ, suc, _+_, _-_, _/_, _%_, _<_, _≤_}
 use mathlib.Core.Path.{_≡_, _∙_, refl, sym, ap, ap₂}
 use mathlib.Core.List.{List, [], _∷_, _++_}
 use mathlib.Core.Bool.{Bool, true, false, cond}
-use native.Mathlib.Nat.{add-zero, add-suc, suc-add}
 use native.Mathlib.Numerals.{add-one}
 use native.Mathlib.Omega.{arith}
 use lib.ListN.{length, getD, drop, set, length-append, drop-of-length-le}
-use lib.Seq.{sets, sets-eq, drop-cons}
+use lib.Seq.{sets, drop-cons}
 use borrow.Author.Tests.{le-leb, lt-leb, lt-ltb, le-ltb}
+use Rattle.sum.proofs.Lists.{sets-append, sets-front}
 use Rattle.refusal.specs.declared.Refusal.{Refusal}
 use Rattle.refusal.specs.declared.Refusal.the-variants.{Rule, Length, Range, Room}
 use Rattle.refusal.specs.Refusals.{refusalNo}
@@ -56,17 +54,6 @@ module _ (n : ℕ) where
     put-three h =
         let e : at + 2 ≡ suc (suc at) = omega arith in
         (ap (λ k. at + k) (size-three h), rw (e, add-one) (sym (ap (sets l at) (bytes-three n h))))
-
--- runs of stores
-
-pub sets-append : (l : List ℕ) (i : ℕ) (u v : List ℕ) → sets l i (u ++ v) ≡ sets (sets l i u) (i + length u) v
-sets-append l i [] v = ap (λ n. sets l n v) (sym (add-zero i))
-sets-append l i (x ∷ u) v =
-    sets-append (set l i x) (suc i) u v
-    ∙ ap (λ n. sets (sets (set l i x) (suc i) u) n v) (suc-add i (length u) ∙ sym (add-suc i (length u)))
-
-pub sets-front : (l b : List ℕ) → length b ≤ length l → sets l 0 b ≡ b ++ drop (length b) l
-sets-front l b h = let e : 0 + length b ≡ length b = omega arith in sets-eq b l 0 (omega arith) ∙ ap (λ n. b ++ drop n l) e
 
 -- coordinates
 

@@ -1,4 +1,4 @@
--- Pieces of a grid: their kind, their exposed sides, and what they are charged as a shot (document 01, "Pieces, slivers, cost").
+-- To believe: pieces of a grid: their kind, their exposed sides, and what they are charged as a shot (document 01, "Pieces, slivers, cost").
 --
 -- Pieces
 --   Piece                     == between the x lines a < c and the y lines b < d
@@ -31,42 +31,33 @@ use Rattle.rule.specs.declared.Rule.{Rule}
 use Rattle.rule.specs.Charge.{sliverOf, chargeOf}
 use Rattle.shot.specs.Shot.{Shot}
 
--- between the x lines a < c and the y lines b < d
 pub record Piece : Type 0 where
   pub a : ℕ
   pub c : ℕ
   pub b : ℕ
   pub d : ℕ
 
--- the piece of these lines
 abbrev pub box : ℕ → ℕ → ℕ → ℕ → Piece
 box a c b d = record { a = a; c = c; b = b; d = d }
 
--- the part left of the x line j
 abbrev pub leftPart : Piece → ℕ → Piece
 leftPart p j = box (p .a) j (p .b) (p .d)
 
--- the part right of it
 abbrev pub rightPart : Piece → ℕ → Piece
 rightPart p j = box j (p .c) (p .b) (p .d)
 
--- the part below the y line j
 abbrev pub lowerPart : Piece → ℕ → Piece
 lowerPart p j = box (p .a) (p .c) (p .b) j
 
--- the part above it
 abbrev pub upperPart : Piece → ℕ → Piece
 upperPart p j = box (p .a) (p .c) j (p .d)
 
--- whether the cell (i, j) is one of the piece's
 unfoldable pub holds : ℕ → ℕ → Piece → Bool
 holds i j p = (leb (p .a) i && ltb i (p .c)) && (leb (p .b) j && ltb j (p .d))
 
--- the sum of f over the piece's cells
 unfoldable pub cellSum : (ℕ → ℕ → ℕ) → Piece → ℕ
 cellSum f p = over (p .a) (p .c) (λ i. over (p .b) (p .d) (f i))
 
--- how many cells it has
 unfoldable pub cells : Piece → ℕ
 cells p = cellSum (λ i j. 1) p
 
@@ -79,27 +70,22 @@ abbrev pub before : (ℕ → Bool) → ℕ → Bool
 before f zero = false
 before f (suc k) = f k
 
--- the low side of the cell k is exposed
 unfoldable pub lowSide : (ℕ → Bool) → ℕ → Bool
 lowSide f k = f k && not (before f k)
 
--- the high side of the cell before the line k is exposed
 unfoldable pub highSide : (ℕ → Bool) → ℕ → Bool
 highSide f k = before f k && not (f k)
 
 module _ (g : Grid) where
-  -- from the lowest lines to the highest
   unfoldable pub frame : Piece
   frame = box 0 (g .columns) 0 (g .rows)
 
   abbrev pub rectangle : Piece → Shot
   rectangle p = record { xlow = g .x (p .a); ylow = g .y (p .b); xhigh = g .x (p .c); yhigh = g .y (p .d) }
 
-  -- how many of its cells are inside
   unfoldable pub insideCells : Piece → ℕ
   insideCells p = cellSum (λ i j. only (g .inside i j) 1) p
 
-  -- outside: none; full: all; mixed: some
   unfoldable pub kind : Piece → Kind
   kind p = kindOf (insideCells p) (cells p)
 
@@ -111,19 +97,15 @@ module _ (g : Grid) where
   unfoldable pub height : ℕ → ℕ → ℕ
   height b d = g .y d - g .y b
 
-  -- the exposed length of the left side
   unfoldable pub left : Piece → ℕ
   left p = over (p .b) (p .d) (λ j. only (lowSide (λ i. g .inside i j) (p .a)) (height j (suc j)))
 
-  -- of the right side
   unfoldable pub right : Piece → ℕ
   right p = over (p .b) (p .d) (λ j. only (highSide (λ i. g .inside i j) (p .c)) (height j (suc j)))
 
-  -- of the bottom side
   unfoldable pub bottom : Piece → ℕ
   bottom p = over (p .a) (p .c) (λ i. only (lowSide (g .inside i) (p .b)) (width i (suc i)))
 
-  -- of the top side
   unfoldable pub top : Piece → ℕ
   top p = over (p .a) (p .c) (λ i. only (highSide (g .inside i) (p .d)) (width i (suc i)))
 

@@ -1,4 +1,4 @@
--- The straight-cut fracture of a grid (document 01, "Pieces, slivers, cost"; the paper's equation (2)).
+-- To believe: the straight-cut fracture of a grid (document 01, "Pieces, slivers, cost"; the paper's equation (2)).
 --
 --   Cut              == a vertical cut lies on an x line, a horizontal one on a y line; it runs across the whole piece
 --   between a c      == the lines strictly between two lines, from low to high
@@ -19,7 +19,6 @@ use Rattle.rule.specs.declared.Rule.{Rule}
 use Rattle.shot.specs.Shot.{numbers}
 use Rattle.piece.specs.Piece.{Piece, rectangle, cells, kind, charge, leftPart, rightPart, lowerPart, upperPart}
 
--- its direction, and its line
 pub data Cut : Type 0 where
   vertical horizontal : ℕ → Cut
 
@@ -28,21 +27,17 @@ unfoldable pub run : ℕ → ℕ → List ℕ
 run k zero = []
 run k (suc n) = k ∷ run (suc k) n
 
--- the lines strictly between two lines
 unfoldable pub between : ℕ → ℕ → List ℕ
 between a c = run (suc a) (c - suc a)
 
--- vertical before horizontal, the lower line before the higher
 unfoldable pub cuts : Piece → List Cut
 cuts p = map vertical (between (p .a) (p .c)) ++ map horizontal (between (p .b) (p .d))
 
--- the low part, then the high part
 unfoldable pub parts : Piece → Cut → List Piece
 parts p (vertical j) = leftPart p j ∷ rightPart p j ∷ []
 parts p (horizontal j) = lowerPart p j ∷ upperPart p j ∷ []
 
 module _ (g : Grid) (r : Rule) where
-  -- straight cuts as a scheme
   abbrev pub straight : Scheme Piece Cut
   straight = record { kind = kind g; charge = charge g r; cuts = cuts; parts = parts }
 
@@ -50,7 +45,6 @@ module _ (g : Grid) (r : Rule) where
   unfoldable pub shots : Piece → List Piece
   shots p = shotsBy straight (suc (cells p)) p
 
-  -- in thousandths of a shot
   unfoldable pub cost : Piece → ℕ
   cost p = sumOf (charge g r) (shots p)
 

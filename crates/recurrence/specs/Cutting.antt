@@ -1,4 +1,4 @@
--- Any way to cut a piece until no part of it is mixed, its shots and its price. Nothing here knows of the recurrence.
+-- To believe: any way to cut a piece until no part of it is mixed, its shots and its price. Nothing here knows of the recurrence.
 --
 --   Cutting S May p      == a way to cut the piece p: leave it where it is outside, shoot it where it is full, or, if it may be
 --                           cut (May p), make one of its cuts and cut the parts in turn. A full piece may be cut too, if May says so
@@ -13,29 +13,24 @@ use Rattle.recurrence.specs.Scheme.{Scheme, outside, full}
 
 module _ {P K : Type 0} (S : Scheme P K) (May : P → Type 0) where
   mutual
-    -- leave it, shoot it, or cut it and go on with its parts
     pub data Cutting : P → Type 0 where
       leave : {p : P} → S .kind p ≡ outside → Cutting p
       shoot : {p : P} → S .kind p ≡ full → Cutting p
       cut : {p : P} (k : K) → May p → Member k (S .cuts p) → Cuttings (S .parts p k) → Cutting p
 
-    -- one cutting for each piece of a list
     pub data Cuttings : List P → Type 0 where
       none : Cuttings []
       more : {p : P} {l : List P} → Cutting p → Cuttings l → Cuttings (p ∷ l)
 
   unfoldable mutual
-    -- the shots of a cutting, in list order
     pub shotsIn : {p : P} → Cutting p → List P
     shotsIn (leave e) = []
     shotsIn (shoot {p = p} e) = p ∷ []
     shotsIn (cut k a m t) = shotsAmong t
 
-    -- the shots of several
     pub shotsAmong : {l : List P} → Cuttings l → List P
     shotsAmong none = []
     shotsAmong (more t ts) = shotsIn t ++ shotsAmong ts
 
-  -- what its shots are charged together
   unfoldable pub price : {p : P} → Cutting p → ℕ
   price t = sumOf (S .charge) (shotsIn t)

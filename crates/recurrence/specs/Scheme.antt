@@ -1,4 +1,4 @@
--- What a fracture goes by, and the recurrence, over any sort of piece and cut: straight cuts are one scheme.
+-- To believe: what a fracture goes by, and the recurrence, over any sort of piece and cut: straight cuts are one scheme.
 --
 --   Kind             == a piece has no inside cell, or only inside cells, or cells of both sorts
 --   Scheme P K       == the kind of a piece, its charge as a shot, the cuts to weigh in tie order, and a cut's parts in list order
@@ -11,11 +11,9 @@ use mathlib.Core.List.{List, [], _∷_, map}
 use Rattle.sum.specs.Sum.{All, Some, join}
 use Rattle.recurrence.specs.Choice.{cheapest}
 
--- no inside cell, only inside cells, or cells of both sorts
 pub data Kind : Type 0 where
   outside full mixed : Kind
 
--- what a fracture goes by
 pub record Scheme (P K : Type 0) : Type 0 where
   pub kind : P → Kind
   pub charge : P → ℕ
@@ -33,7 +31,6 @@ module _ {P K : Type 0} (S : Scheme P K) where
         | mixed ↦ cheapest (S .charge) (map (λ k. join (shotsBy n) (S .parts p k)) (S .cuts p))
       ]
 
--- what makes the recurrence end
 pub record Ends {P K : Type 0} (S : Scheme P K) (size : P → ℕ) : Type 0 where
   pub smaller : (p : P) → S .kind p ≡ mixed → All (λ k. All (λ q. size q < size p) (S .parts p k)) (S .cuts p)
   pub some : (p : P) → S .kind p ≡ mixed → Some (S .cuts p)

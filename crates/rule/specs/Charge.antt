@@ -1,4 +1,4 @@
--- What a shot is charged (document 01, "Pieces, slivers, cost"), from its two extents and the exposed lengths of its two pairs of sides.
+-- To believe: what a shot is charged (document 01, "Pieces, slivers, cost"), from its two extents and the exposed lengths of its two pairs of sides.
 --
 --   sliverOf r w h u l   == the sliver length of a shot of width w and height h under the rule r, its left and right sides being exposed
 --                           over u nm together, its bottom and top over l nm

@@ -1,4 +1,4 @@
--- The rule: its limits, the preset table, and what the two calls tell.
+-- To believe: the rule, its limits, the preset table, and what the two calls tell.
 --
 --   limit          == the most that a threshold (nm) and a weight (thousandths of a shot per nm) may be
 --   inRange t w    == whether threshold and weight are both within the limit
@@ -22,33 +22,26 @@ use Rattle.rule.specs.declared.Made.the-variants as made
 use Rattle.rule.specs.declared.Preset.{Preset}
 use Rattle.rule.specs.declared.Preset.the-variants as preset
 
--- 0 to 1,000, for both numbers
 abbrev pub limit : ℕ
 limit = 1000
 
--- both numbers within the limit
 unfoldable pub inRange : ℕ → ℕ → Bool
 inRange t w = leb t limit && leb w limit
 
--- number, threshold and weight, as document 01 has a call give them
 pub record Told : Type 0 where
   pub number : ℕ
   pub threshold : ℕ
   pub weight : ℕ
 
--- a rule, and no refusal
 abbrev pub given : Rule → Told
 given r = record { number = 0; threshold = r .threshold; weight = r .weight }
 
--- a refusal has zeros beside its number
 abbrev pub refused : ℕ → Told
 refused n = record { number = n; threshold = 0; weight = 0 }
 
--- the rule of two numbers, or 1 where one is above the limit
 unfoldable pub ruleTold : ℕ → ℕ → Told
 ruleTold t w = cond (inRange t w) (given (record { threshold = t; weight = w })) (refused (refusalNo because.Rule))
 
--- the table of document 01
 abbrev pub presets : List Rule
 presets =
     record { threshold = 25; weight = 40 }
@@ -63,16 +56,13 @@ row [] n = refused (refusalNo because.Preset)
 row (r ∷ rs) zero = given r
 row (r ∷ rs) (suc n) = row rs n
 
--- the row of the preset table by its number, or 15
 unfoldable pub presetTold : ℕ → Told
 presetTold n = row presets n
 
--- document 01's number and values for each answer of the constructor
 abbrev pub madeTold : Made → Told
 madeTold (made.Rule r) = given r
 madeTold (made.Refused why) = refused (refusalNo why)
 
--- document 01's number and values for each answer of the preset call
 abbrev pub rowTold : Preset → Told
 rowTold (preset.Row r) = given r
 rowTold (preset.Refused why) = refused (refusalNo why)

@@ -3,7 +3,7 @@ use refusal::Refusal;
 ghost use mathlib.Core.Path.{_≡_};
 ghost use Prim.Native.Nat.{_≤_};
 ghost use Rattle.sum.specs.Sum.{only};
-ghost use Rattle.rule.specs.Rules.{Told, madeTold, rowTold, ruleTold, presetTold};
+ghost use Rattle.rule.specs.Rules.{limit, Told, madeTold, rowTold, ruleTold, presetTold};
 ghost use Rattle.rule.specs.Charge.{sliverOf, spared, chargeOf};
 
 // A shot narrower than the threshold (in nm) is a sliver; each nm of its exposed sides weighs so many thousandths of a shot.
@@ -106,7 +106,7 @@ impl Rule {
 
     // What a shot of this sliver length costs, in thousandths of a shot.
     pub fn charge(self, sliver: u32) -> u32
-        requires { ⌜ (sliver ≤ 262140) × (self .weight ≤ 1000) ⌝ }
+        requires { ⌜ (sliver ≤ 262140) × (self .weight ≤ limit) ⌝ }
         ensures { λ r. ⌜ r ≡ chargeOf self sliver ⌝ }
     {
         1000 + self.weight * sliver

@@ -1,6 +1,6 @@
 // The sliver length of one shot, from the places of its lines and the cells along its four sides.
-use outline::Line;
 use figure::Place;
+use outline::Line;
 use outline::place_of;
 use piece::Piece;
 use rule::Rule;

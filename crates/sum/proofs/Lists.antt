@@ -1,4 +1,4 @@
--- Laws of lists: sums, joins and properties of members. Assumes nothing.
+-- Laws of lists: sums, joins, properties of members, runs of stores. Assumes nothing.
 --
 --   sumOf-append, sumOf-one, sumOf-join, sumOf-map   == the sum over two lists, over one member, over joined lists, over a map
 --   sumOf-le, sumOf-same                 == member by member: at most, the same
@@ -8,11 +8,14 @@
 --   All-at, All-of                       == .. and of each member
 --   Some-map, Some-left, Some-right      == a member of a map, of two lists
 --   map-same, join-same, join-append     == member by member the same; the join of two lists
+--   sets-append, sets-front              == a run of stores after another; a run from the front on
 use Prim.Native.Nat.{ℕ, zero, suc, _+_, _≤_, _<_}
 use mathlib.Core.Path.{_≡_, refl, sym, _∙_, ap, subst}
 use mathlib.Core.List.{List, [], _∷_, _++_, map, append-assoc, List·Memᴰ as Member, List·Memᴰ·head, List·Memᴰ·tail}
 use native.Mathlib.Omega.{arith}
-use lib.ListN.{length, getD}
+use native.Mathlib.Nat.{add-zero, zero-add}
+use lib.ListN.{length, getD, drop, set}
+use lib.Seq.{sets, sets-eq}
 use Rattle.sum.specs.Sum.{sumOf, All, Some, join}
 
 module _ {A : Type 0} where
@@ -147,3 +150,12 @@ module _ {A B : Type 0} where
   unfolding join
   join-append f [] m = refl
   join-append f (s ∷ l) m = ap (λ k. f s ++ k) (join-append f l m) ∙ sym (append-assoc (f s) (join f l) (join f m))
+
+pub sets-append : (l : List ℕ) (i : ℕ) (u v : List ℕ) → sets l i (u ++ v) ≡ sets (sets l i u) (i + length u) v
+sets-append l i [] v = rw add-zero
+sets-append l i (x ∷ u) v =
+    let e : i + suc (length u) ≡ suc i + length u = omega arith in
+    sets-append (set l i x) (suc i) u v ∙ ap (λ n. sets (sets (set l i x) (suc i) u) n v) (sym e)
+
+pub sets-front : (l u : List ℕ) → length u ≤ length l → sets l 0 u ≡ u ++ drop (length u) l
+sets-front l u h = sets-eq u l 0 (omega arith) ∙ rw zero-add
