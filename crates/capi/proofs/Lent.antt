@@ -30,11 +30,11 @@ module _ (s : List ℕ) (k : ℕ) where
   module _ {h : Header} {next : ℕ} (e : read h next ≡ whole s) where
     pub outline-missing : {n : ℕ} → h .count ≤ k → n ≡ 13 → outlineLent n 0 0 0 ≡ outlineSaid s k
     unfolding outlineSaid
-    outline-missing c no =
+    outline-missing c is =
         let w = read-whole s e in
         let j = job-said s (w .2) (w .3) in
         let p : outlineLent 13 0 0 0 ≡ jobPart k (read (w .0) (w .1)) = simp (le-ltb k (length (w .0 .parts)) (omega arith)) in
-        ap (λ n. outlineLent n 0 0 0) no ∙ p ∙ sym (ap (jobPart k) (w .2))
+        ap (λ n. outlineLent n 0 0 0) is ∙ p ∙ sym (ap (jobPart k) (w .2))
 
     pub outline-part : {start end : ℕ} → k < h .count → read start end ≡ located s k next
         → outlineLent 0 start (end - start) 0 ≡ outlineSaid s k

@@ -23,8 +23,13 @@ enum-known-count c = search needs
 cast-if1 : tie.Need-cast-if1
 cast-if1 c = search needs
 
+refusal-no-requires-2 : tie.Need-refusal-no-requires-2
+refusal-no-requires-2 c κs = search needs
+
 returns : tie.Need-returns
-returns c = outline-missing _ _ (told-as headTold (c .before .before .count .given .1) (c .before .before .before .before .whole .ensures)) (omega arith)
+returns c =
+    let t = c .before in
+    outline-missing _ _ (told-as headTold (t .before .before .count .given .1) (t .before .before .before .before .whole .ensures)) (omega arith) (c .refusal-no2 .ensures)
 
 locate-requires : tie.Need-locate-requires
 locate-requires c κs = search needs
@@ -32,8 +37,8 @@ locate-requires c κs = search needs
 enum-known-r-2 : tie.Need-enum-known-r-2
 enum-known-r-2 c = search needs
 
-refusal-no-requires-2 : tie.Need-refusal-no-requires-2
-refusal-no-requires-2 c κs = search needs
+refusal-no-requires-3 : tie.Need-refusal-no-requires-3
+refusal-no-requires-3 c κs = search needs
 
 enum-known-from : tie.Need-enum-known-from
 enum-known-from c = search needs
@@ -59,10 +64,11 @@ pw-job-outline-spec =
     refusal-no-requires
     enum-known-count
     cast-if1
+    refusal-no-requires-2
     returns
     locate-requires
     enum-known-r-2
-    refusal-no-requires-2
+    refusal-no-requires-3
     enum-known-from
     sub-length
     returns-2

@@ -10,8 +10,8 @@ use Rattle.capi.proofs.pw_write_outline.Tie as tie
 write-outline-requires : tie.Need-write-outline-requires
 write-outline-requires c κs = search needs
 
-enum-known-n : tie.Need-enum-known-n
-enum-known-n c = search needs
+enum-known-size : tie.Need-enum-known-size
+enum-known-size c = search needs
 
 enum-known-why : tie.Need-enum-known-why
 enum-known-why c = search needs
@@ -23,7 +23,7 @@ same-length : tie.Need-same-length
 same-length c = search needs
 
 returns : tie.Need-returns
-returns c = told-as (λ u. writeTold u (c .before .before .before .before .before .write-outline .last .1 .0)) (c .before .n .given .1) (c .before .before .before .before .before .write-outline .ensures)
+returns c = told-as (λ u. writeTold u (c .before .before .before .before .before .write-outline .last .1 .0)) (c .before .size .given .1) (c .before .before .before .before .before .write-outline .ensures)
 
 same-length-2 : tie.Need-same-length-2
 same-length-2 c = search needs
@@ -36,7 +36,7 @@ pw-write-outline-spec =
     tie.close
     (tie.spec
     write-outline-requires
-    enum-known-n
+    enum-known-size
     enum-known-why
     refusal-no-requires
     same-length
