@@ -167,17 +167,18 @@ module _ {A : Type 0} (s : List ℕ) where
   filled-inv (fault r p) e = absurd (apart (sym e))
   filled-inv (read b n) {a} {last} e = go (ltb n (length s)) refl e
     where
-      go : (t : Bool) → ltb n (length s) ≡ t → cond t (fault Extra n) (read b n) ≡ read a last → (read b n ≡ read a last) × (length s ≤ last)
+      go : (t : Bool) → ltb n (length s) ≡ t → cond t (fault Extra n) (read b n) ≡ read a last
+          → (read b n ≡ read a last) × (length s ≤ last)
       go true p q = absurd (apart (sym q))
       go false p q = let z : n ≡ last = cc in (q, subst (λ m. length s ≤ m) z (ltb-false n (length s) p))
 
 -- the whole job
 
 module _ (s : List ℕ) where
-  together : Header → List Part → ℕ → Reading Job
+  abbrev together : Header → List Part → ℕ → Reading Job
   together h ps last = read (record { threshold = h .threshold; weight = h .weight; parts = ps }) last
 
-  bodied : Header → ℕ → Reading Job
+  abbrev bodied : Header → ℕ → Reading Job
   bodied h next = andThen (outlines s (h .count) next) (together h)
 
   pub job-long : mostBytes < length s → job s ≡ fault Long 0
@@ -190,23 +191,23 @@ module _ (s : List ℕ) where
     job-short {u} e = let p : job s ≡ filled s (body s) = simp le-ltb in p ∙ ap (filled s) (sym e)
 
     pub job-header : {r : Refusal} {p : ℕ} → fault r p ≡ header s → job s ≡ fault r p
-    unfolding filled body bodied together
+    unfolding filled body
     job-header e = job-short (then-same bodied e)
 
     module _ {h : Header} {next : ℕ} (e : read h next ≡ header s) where
       pub job-outlines : {r : Refusal} {p : ℕ} → fault r p ≡ past (outlines s (h .count) next) → job s ≡ fault r p
-      unfolding filled body bodied together
+      unfolding filled body
       job-outlines f = job-short (then-same (together h) (sym (past-fault (outlines s (h .count) next) f)) ∙ then-same bodied e)
 
       pub job-extra : {last : ℕ} → read tt last ≡ past (outlines s (h .count) next) → last < length s → job s ≡ fault Extra last
-      unfolding body bodied together
+      unfolding body
       job-extra f k =
           let u = past-read (outlines s (h .count) next) f in
           job-short (then-same (together h) (sym (u .1)) ∙ then-same bodied e) ∙ filled-extra s _ k
 
       pub job-made : {ps : List Part} {last : ℕ} → outlines s (h .count) next ≡ read ps last → length s ≤ last
           → job s ≡ read (record { threshold = h .threshold; weight = h .weight; parts = ps }) last
-      unfolding body bodied together
+      unfolding body
       job-made f k = job-short (then-same (together h) (sym f) ∙ then-same bodied e) ∙ filled-read s k
 
       pub job-read : {last : ℕ} → read tt last ≡ past (outlines s (h .count) next) → length s ≤ last → (j : Job) × (job s ≡ read j last)
@@ -224,14 +225,14 @@ pub record Whole (s : List ℕ) (j : Job) (last : ℕ) : Type 0 where
   pub ends : length s ≤ last
 
 pub job-whole : (s : List ℕ) {j : Job} {last : ℕ} → job s ≡ read j last → Whole s j last
-unfolding job body together
+unfolding job body
 job-whole s {j} {last} e = go (ltb mostBytes (length s)) refl e
   where
     go : (b : Bool) → ltb mostBytes (length s) ≡ b → cond b (fault Long 0) (filled s (body s)) ≡ read j last → Whole s j last
     go true p q = absurd (apart (sym q))
     go false p q =
         let f = filled-inv s (body s) q in
-        let h = then-inv (λ h next. andThen (outlines s (h .count) next) (together s h)) (header s) (f .0) in
+        let h = then-inv (bodied s) (header s) (f .0) in
         let o = then-inv (together s (h .0)) (outlines s (h .0 .count) (h .1)) (h .3) in
         let made : Job = record { threshold = h .0 .threshold; weight = h .0 .weight; parts = o .0 } in
         let y : made ≡ j = cc in
