@@ -161,7 +161,8 @@ module _ (s : List ℕ) (k : ℕ) where
     pub taken-never : {r : Refusal} {p : ℕ} → k < h .count → fault r p ≡ located s k next → ⊥
     taken-never c f = apart (sym (f ∙ located-nth c .4))
 
-    pub taken-part : {start end : ℕ} → k < h .count → read start end ≡ located s k next → told 0 0 (take (end - start) (drop start s)) ≡ taken s k
+    pub taken-part : {start end : ℕ} → k < h .count → read start end ≡ located s k next
+        → told 0 0 (take (end - start) (drop start s)) ≡ taken s k
     unfolding taken
     taken-part {start} {end} c f = go (located-nth c)
       where

@@ -2,7 +2,7 @@
 --
 --   value-fault, value-under, value-over, value-in == a number held to its range
 --   value-read        == a value that is read lies in its range
---   outline-fault, outline-go == an outline, by its V
+--   outline-fault, outline-go, outline-inv == an outline, by its V
 --   part-past, part-read == a part, by its outline
 --   value-onward, outline-onward == what is read goes on within the bytes
 --   header-threshold, header-weight, header-count, header-read == a header, by its three numbers
@@ -69,13 +69,21 @@ module _ (s : List ℕ) (low high at : ℕ) where
 -- outline
 
 module _ (s : List ℕ) (at : ℕ) where
-  pub outline-fault : {r : Refusal} {p : ℕ} → fault r p ≡ value s 4 mostCorners at → fault r p ≡ past (outline s at)
-  unfolding outline
-  outline-fault e = ap past (then-same (λ v next. coordinates s (2 * v) next) e)
+  abbrev cornered : ℕ → ℕ → Reading (List ℕ)
+  cornered v next = coordinates s (2 * v) next
 
-  pub outline-go : {v next : ℕ} → read v next ≡ value s 4 mostCorners at → past (coordinates s (2 * v) next) ≡ past (outline s at)
+  pub outline-fault : {r : Refusal} {p : ℕ} → fault r p ≡ value s 4 mostCorners at → fault r p ≡ outline s at
   unfolding outline
-  outline-go e = ap past (then-same (λ v next. coordinates s (2 * v) next) e)
+  outline-fault e = then-same cornered e
+
+  pub outline-go : {v next : ℕ} → read v next ≡ value s 4 mostCorners at → coordinates s (2 * v) next ≡ outline s at
+  unfolding outline
+  outline-go e = then-same cornered e
+
+  pub outline-inv : {l : List ℕ} {last : ℕ} → outline s at ≡ read l last
+      → (v : ℕ) × (next : ℕ) × (value s 4 mostCorners at ≡ read v next) × (coordinates s (2 * v) next ≡ read l last)
+  unfolding outline
+  outline-inv e = then-inv cornered (value s 4 mostCorners at) e
 
 -- parts
 
@@ -104,9 +112,9 @@ pub value-onward : (s : List ℕ) (low high at v next : ℕ) → value s low hig
 value-onward s low high at v next e = let h = number-onward s at (value-read s low high at e .0) in omega arith
 
 pub outline-onward : (s : List ℕ) (at : ℕ) (l : List ℕ) (next : ℕ) → outline s at ≡ read l next → (at ≤ next) × (next ≤ length s)
-unfolding outline coordinates
+unfolding coordinates
 outline-onward s at l next e =
-    let i = then-inv (λ v next. coordinates s (2 * v) next) (value s 4 mostCorners at) e in
+    let i = outline-inv s at e in
     let h = value-onward s 4 mostCorners at (i .0) (i .1) (i .2) in
     let k = many-onward (value s 0 mostPlace) (length s) (value-onward s 0 mostPlace) (2 * i .0) (i .1) (h .1) (i .3) in
     omega arith
@@ -114,31 +122,33 @@ outline-onward s at l next e =
 -- header
 
 module _ (s : List ℕ) where
-  counted : ℕ → ℕ → ℕ → ℕ → Reading Header
+  -- what follows K, the weight, the threshold
+  abbrev pub counted : ℕ → ℕ → ℕ → ℕ → Reading Header
   counted t w k next = read (record { threshold = t; weight = w; count = k }) next
 
-  weighed : ℕ → ℕ → ℕ → Reading Header
+  abbrev pub weighed : ℕ → ℕ → ℕ → Reading Header
   weighed t w q = andThen (value s 0 mostOutlines q) (counted t w)
 
-  heard : ℕ → ℕ → Reading Header
+  abbrev pub heard : ℕ → ℕ → Reading Header
   heard t p = andThen (value s 0 limit p) (weighed t)
 
   pub header-threshold : {r : Refusal} {p : ℕ} → fault r p ≡ value s 0 limit 0 → fault r p ≡ header s
-  unfolding header heard weighed counted
+  unfolding header
   header-threshold e = then-same heard e
 
   module _ {t p : ℕ} (e : read t p ≡ value s 0 limit 0) where
     pub header-weight : {r : Refusal} {q : ℕ} → fault r q ≡ value s 0 limit p → fault r q ≡ header s
-    unfolding header heard weighed counted
+    unfolding header
     header-weight f = then-same (weighed t) f ∙ then-same heard e
 
     module _ {w q : ℕ} (f : read w q ≡ value s 0 limit p) where
       pub header-count : {r : Refusal} {m : ℕ} → fault r m ≡ value s 0 mostOutlines q → fault r m ≡ header s
-      unfolding header heard weighed counted
+      unfolding header
       header-count g = then-same (counted t w) g ∙ then-same (weighed t) f ∙ then-same heard e
 
-      pub header-read : {k next : ℕ} → read k next ≡ value s 0 mostOutlines q → read (record { threshold = t; weight = w; count = k }) next ≡ header s
-      unfolding header heard weighed counted
+      pub header-read : {k next : ℕ} → read k next ≡ value s 0 mostOutlines q
+          → read (record { threshold = t; weight = w; count = k }) next ≡ header s
+      unfolding header
       header-read g = then-same (counted t w) g ∙ then-same (weighed t) f ∙ then-same heard e
 
 -- what fills the bytes
@@ -157,17 +167,18 @@ module _ {A : Type 0} (s : List ℕ) where
   filled-inv (fault r p) e = absurd (apart (sym e))
   filled-inv (read b n) {a} {last} e = go (ltb n (length s)) refl e
     where
-      go : (t : Bool) → ltb n (length s) ≡ t → cond t (fault Extra n) (read b n) ≡ read a last → (read b n ≡ read a last) × (length s ≤ last)
+      go : (t : Bool) → ltb n (length s) ≡ t → cond t (fault Extra n) (read b n) ≡ read a last
+          → (read b n ≡ read a last) × (length s ≤ last)
       go true p q = absurd (apart (sym q))
       go false p q = let z : n ≡ last = cc in (q, subst (λ m. length s ≤ m) z (ltb-false n (length s) p))
 
 -- the whole job
 
 module _ (s : List ℕ) where
-  together : Header → List Part → ℕ → Reading Job
+  abbrev together : Header → List Part → ℕ → Reading Job
   together h ps last = read (record { threshold = h .threshold; weight = h .weight; parts = ps }) last
 
-  bodied : Header → ℕ → Reading Job
+  abbrev bodied : Header → ℕ → Reading Job
   bodied h next = andThen (outlines s (h .count) next) (together h)
 
   pub job-long : mostBytes < length s → job s ≡ fault Long 0
@@ -180,23 +191,23 @@ module _ (s : List ℕ) where
     job-short {u} e = let p : job s ≡ filled s (body s) = simp le-ltb in p ∙ ap (filled s) (sym e)
 
     pub job-header : {r : Refusal} {p : ℕ} → fault r p ≡ header s → job s ≡ fault r p
-    unfolding filled body bodied together
+    unfolding filled body
     job-header e = job-short (then-same bodied e)
 
     module _ {h : Header} {next : ℕ} (e : read h next ≡ header s) where
       pub job-outlines : {r : Refusal} {p : ℕ} → fault r p ≡ past (outlines s (h .count) next) → job s ≡ fault r p
-      unfolding filled body bodied together
+      unfolding filled body
       job-outlines f = job-short (then-same (together h) (sym (past-fault (outlines s (h .count) next) f)) ∙ then-same bodied e)
 
       pub job-extra : {last : ℕ} → read tt last ≡ past (outlines s (h .count) next) → last < length s → job s ≡ fault Extra last
-      unfolding body bodied together
+      unfolding body
       job-extra f k =
           let u = past-read (outlines s (h .count) next) f in
           job-short (then-same (together h) (sym (u .1)) ∙ then-same bodied e) ∙ filled-extra s _ k
 
       pub job-made : {ps : List Part} {last : ℕ} → outlines s (h .count) next ≡ read ps last → length s ≤ last
           → job s ≡ read (record { threshold = h .threshold; weight = h .weight; parts = ps }) last
-      unfolding body bodied together
+      unfolding body
       job-made f k = job-short (then-same (together h) (sym f) ∙ then-same bodied e) ∙ filled-read s k
 
       pub job-read : {last : ℕ} → read tt last ≡ past (outlines s (h .count) next) → length s ≤ last → (j : Job) × (job s ≡ read j last)
@@ -214,14 +225,14 @@ pub record Whole (s : List ℕ) (j : Job) (last : ℕ) : Type 0 where
   pub ends : length s ≤ last
 
 pub job-whole : (s : List ℕ) {j : Job} {last : ℕ} → job s ≡ read j last → Whole s j last
-unfolding job body together
+unfolding job body
 job-whole s {j} {last} e = go (ltb mostBytes (length s)) refl e
   where
     go : (b : Bool) → ltb mostBytes (length s) ≡ b → cond b (fault Long 0) (filled s (body s)) ≡ read j last → Whole s j last
     go true p q = absurd (apart (sym q))
     go false p q =
         let f = filled-inv s (body s) q in
-        let h = then-inv (λ h next. andThen (outlines s (h .count) next) (together s h)) (header s) (f .0) in
+        let h = then-inv (bodied s) (header s) (f .0) in
         let o = then-inv (together s (h .0)) (outlines s (h .0 .count) (h .1)) (h .3) in
         let made : Job = record { threshold = h .0 .threshold; weight = h .0 .weight; parts = o .0 } in
         let y : made ≡ j = cc in

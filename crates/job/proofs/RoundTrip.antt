@@ -14,22 +14,22 @@ use Prim.Native.Nat.{ℕ, zero, suc, _+_, _-_, _*_, _/_, _<_, _≤_, suc-le-suc}
 use mathlib.Core.Path.{_≡_, _∙_, refl, sym, ap, ap₂, subst}
 use mathlib.Core.List.{List, [], _∷_, _++_, map}
 use mathlib.Core.Bool.{false}
-use native.Mathlib.Nat.{add-zero, add-assoc, le-of-suc-le-suc, not-suc-le-zero}
+use native.Mathlib.Nat.{add-zero, le-of-suc-le-suc, not-suc-le-zero}
 use native.Mathlib.Omega.{arith}
 use lib.ListN.{length, getD, take, drop, length-append, length-map}
 use lib.Seq.{take-all}
 use borrow.Author.Tests.{lt-ltb, le-ltb, le-leb}
-use Rattle.number.specs.Reading.{read, andThen, many}
+use Rattle.number.specs.Reading.{read, many}
 use Rattle.number.specs.Number.{most, number, numberBytes}
 use Rattle.number.proofs.Bytes.{Stands, AllBytes, stands-join, stands-front, stands-back, stands-whole, number-back, number-only}
-use Rattle.number.proofs.Reading.{then-same, then-inv, many-first, many-length}
+use Rattle.number.proofs.Reading.{then-same, then-inv, many-cons, many-first, many-length}
 use Rattle.rule.specs.Rules.{limit}
 use Rattle.figure.specs.Figure.{figure, mostCorners, badFigure}
 use Rattle.figure.proofs.Corners.{length-many}
 use Rattle.figure.proofs.Fault.{length-good}
 use Rattle.job.specs.Bytes.{coordinateBytes, headerBytes, outlineBytes, outlinesBytes, jobBytes}
 use Rattle.job.specs.Job.{mostBytes, mostOutlines, mostPlace, value, coordinates, outline, Part, part, outlines, Header, header, filled, Job, job}
-use Rattle.job.proofs.Job.{value-in, value-read, header-read, filled-read, job-made, part-read, job-whole}
+use Rattle.job.proofs.Job.{value-in, value-read, outline-go, outline-inv, counted, weighed, heard, header-read, filled-read, job-made, part-read, job-whole}
 use Rattle.job.specs.Calls.{noPart, partBytes, partTaken, taken, told, jobSaid, checked, partUnpacked, unpacked}
 
 -- a list that can be written as an outline
@@ -38,6 +38,10 @@ pub record Drawable (l : List ℕ) : Type 0 where
   pub each : (i : ℕ) → getD l i 0 ≤ mostPlace
 
 -- what is written is read back
+
+-- the place past two runs of bytes
+past-both : (at : ℕ) (a b : List ℕ) → at + length a + length b ≡ at + length (a ++ b)
+past-both at a b = omega (arith, length-append a b)
 
 module _ (s : List ℕ) where
   pub value-back : (low high at n : ℕ) → low ≤ n → n ≤ high → n ≤ most → Stands s at (numberBytes n)
@@ -52,23 +56,23 @@ module _ (s : List ℕ) where
       let small = h 0 in
       let first = value-back 0 mostPlace at n (omega arith) small (omega arith) (stands-front s at (numberBytes n) (coordinateBytes l) e) in
       let rest = coordinates-back l (at + length (numberBytes n)) (λ i. h (suc i)) (stands-back s at (numberBytes n) (coordinateBytes l) e) in
-      then-same (λ a next. andThen (many (value s 0 mostPlace) (length l) next) (λ m last. read (a ∷ m) last)) first
-      ∙ then-same (λ m last. read (n ∷ m) last) rest
-      ∙ ap (read (n ∷ l)) (add-assoc at (length (numberBytes n)) (length (coordinateBytes l)) ∙ ap (λ k. at + k) (sym (length-append (numberBytes n) (coordinateBytes l))))
+      many-cons (value s 0 mostPlace) at (length l) first rest
+      ∙ ap (read (n ∷ l)) (past-both at (numberBytes n) (coordinateBytes l))
 
   pub outline-back : (l : List ℕ) (at : ℕ) → Drawable l → Stands s at (outlineBytes l)
       → outline s at ≡ read l (at + length (outlineBytes l))
-  unfolding outline outlineBytes
+  unfolding outlineBytes
   outline-back l at d e =
       let v : ℕ = length l / 2 in
       let n = length-good (figure l) (d .good) in
       let twice : 2 * (length l / 2) ≡ length l = omega arith in
-      let first = value-back 4 mostCorners at v (omega arith) (omega arith) (omega arith) (stands-front s at (numberBytes v) (coordinateBytes l) e) in
+      let here = stands-front s at (numberBytes v) (coordinateBytes l) e in
+      let first = value-back 4 mostCorners at v (omega arith) (omega arith) (omega arith) here in
       let rest = coordinates-back l (at + length (numberBytes v)) (d .each) (stands-back s at (numberBytes v) (coordinateBytes l) e) in
-      then-same (λ v next. coordinates s (2 * v) next) first
+      sym (outline-go s at (sym first))
       ∙ ap (λ n. coordinates s n (at + length (numberBytes v))) twice
       ∙ rest
-      ∙ ap (read l) (add-assoc at (length (numberBytes v)) (length (coordinateBytes l)) ∙ ap (λ k. at + k) (sym (length-append (numberBytes v) (coordinateBytes l))))
+      ∙ ap (read l) (past-both at (numberBytes v) (coordinateBytes l))
 
 -- where outlines stand that are written one after another from a place on
 abbrev pub partsOf : ℕ → List (List ℕ) → List Part
@@ -92,11 +96,8 @@ module _ (s : List ℕ) where
       outlines-back ls (at + length (outlineBytes l)) (λ k h. d (suc k) (suc-le-suc h))
       (stands-back s at (outlineBytes l) (outlinesBytes ls) e)
       in
-      let p : Part = record { start = at; end = at + length (outlineBytes l); corners = l } in
-      then-same (λ a next. andThen (many (part s) (length ls) next) (λ m last. read (a ∷ m) last)) here
-      ∙ then-same (λ m last. read (p ∷ m) last) rest
-      ∙ ap (read (partsOf at (l ∷ ls)))
-      (add-assoc at (length (outlineBytes l)) (length (outlinesBytes ls)) ∙ ap (λ k. at + k) (sym (length-append (outlineBytes l) (outlinesBytes ls))))
+      many-cons (part s) at (length ls) here rest
+      ∙ ap (read (partsOf at (l ∷ ls))) (past-both at (outlineBytes l) (outlinesBytes ls))
 
   pub header-back : (t w k : ℕ) → t ≤ limit → w ≤ limit → k ≤ mostOutlines → Stands s 0 (headerBytes t w k)
       → header s ≡ read (record { threshold = t; weight = w; count = k }) (length (headerBytes t w k))
@@ -139,6 +140,11 @@ job-back t w ls ok =
     job-made s (ok .short) (sym h) (o ∙ ap (read (partsOf (length H) ls)) all) (omega arith)
 
 -- what is read is what would be written
+
+-- a list of 2V coordinates, V from 4 to 32, passes 2
+twice-good : (l : List ℕ) (v : ℕ) → length l ≡ 2 * v → 4 ≤ v → v ≤ mostCorners → badFigure (figure l) ≡ false
+twice-good l v e low high =
+    sym (length-many l (λ odd. omega arith) (omega arith)) ∙ le-ltb (2 * mostCorners) (length l) (omega arith)
 
 -- the bytes b stand at a place, and the next place is past them
 abbrev pub Here : List ℕ → ℕ → List ℕ → ℕ → Type 0
@@ -186,25 +192,23 @@ module _ (s : List ℕ) (bytes : AllBytes s) where
 
   -- an outline that is read can be written, and its bytes are those
   pub outline-only : (at : ℕ) {l : List ℕ} {next : ℕ} → outline s at ≡ read l next → Here s at (outlineBytes l) next × Drawable l
-  unfolding outline outlineBytes Coordinates
+  unfolding outlineBytes Coordinates
   outline-only at {l} {next} e =
-      let i = then-inv (λ v next. coordinates s (2 * v) next) (value s 4 mostCorners at) e in
+      let i = outline-inv s at e in
       let r = value-read s 4 mostCorners at (i .2) in
       let c = coordinates-only (2 * i .0) (i .1) (i .3) in
       let v : i .0 ≡ length l / 2 = omega (arith, c .1) in (
         subst (λ n. Here s at (numberBytes n ++ coordinateBytes l) next) v
             (here-join s at (numberBytes (i .0)) (coordinateBytes l) (value-only 4 mostCorners at (i .2)) (c .0)),
-        record {
-          good = sym (length-many l (λ e. omega (arith, c .1)) (omega (arith, c .1, r .1))) ∙ le-ltb 64 (length l) (omega (arith, c .1, r .2));
-          each = c .2;
-        },
+        record { good = twice-good l (i .0) (c .1) (r .1) (r .2); each = c .2 },
       )
 
   -- the lists of some parts
   Lists : ℕ → ℕ → ℕ → List Part → Type 0
   Lists n at next ps =
       Here s at (outlinesBytes (map (λ (p : Part). p .corners) ps)) next
-      × ((k : ℕ) → k < length ps → Here s (getD ps k noPart .start) (outlineBytes (getD ps k noPart .corners)) (getD ps k noPart .end) × Drawable (getD ps k noPart .corners))
+      × ((k : ℕ) → k < length ps
+      → Here s (getD ps k noPart .start) (outlineBytes (getD ps k noPart .corners)) (getD ps k noPart .end) × Drawable (getD ps k noPart .corners))
 
   lists-cons : (n at mid next : ℕ) (p : Part) (ps : List Part) → part s at ≡ read p mid → Lists n mid next ps → Lists (suc n) at next (p ∷ ps)
   unfolding outlinesBytes Lists
@@ -217,7 +221,8 @@ module _ (s : List ℕ) (bytes : AllBytes s) where
           → Here s (getD (p ∷ ps) k noPart .start) (outlineBytes (getD (p ∷ ps) k noPart .corners)) (getD (p ∷ ps) k noPart .end)
           × Drawable (getD (p ∷ ps) k noPart .corners)
       each o a b zero h =
-          (subst (λ u. Here s u (outlineBytes (p .corners)) (p .end)) (sym a) (subst (λ u. Here s at (outlineBytes (p .corners)) u) (sym b) (o .0)), o .1)
+          let here = subst (λ u. Here s at (outlineBytes (p .corners)) u) (sym b) (o .0) in
+          (subst (λ u. Here s u (outlineBytes (p .corners)) (p .end)) (sym a) here, o .1)
       each o a b (suc k) h = rest .1 k (le-of-suc-le-suc h)
 
   outlines-only : (n at : ℕ) {ps : List Part} {next : ℕ} → outlines s n at ≡ read ps next → Lists n at next ps
@@ -236,9 +241,9 @@ module _ (s : List ℕ) (bytes : AllBytes s) where
       → Here s 0 (headerBytes (h .threshold) (h .weight) (h .count)) next
   unfolding header headerBytes
   header-only {h} {next} e =
-      let a = then-inv (λ t p. andThen (value s 0 limit p) (λ w q. andThen (value s 0 mostOutlines q) (λ k n. read (record { threshold = t; weight = w; count = k }) n))) (value s 0 limit 0) e in
-      let b = then-inv (λ w q. andThen (value s 0 mostOutlines q) (λ k n. read (record { threshold = a .0; weight = w; count = k }) n)) (value s 0 limit (a .1)) (a .3) in
-      let c = then-inv (λ k n. read (record { threshold = a .0; weight = b .0; count = k }) n) (value s 0 mostOutlines (b .1)) (b .3) in
+      let a = then-inv (heard s) (value s 0 limit 0) e in
+      let b = then-inv (weighed s (a .0)) (value s 0 limit (a .1)) (a .3) in
+      let c = then-inv (counted s (a .0) (b .0)) (value s 0 mostOutlines (b .1)) (b .3) in
       let made : Header = record { threshold = a .0; weight = b .0; count = c .0 } in
       let z : made ≡ h = cc in
       let y : c .1 ≡ next = cc in
@@ -318,7 +323,9 @@ written-taken t w ls ok k h =
     let p : partTaken s k (read j (length s)) ≡ told 0 0 (partBytes s (getD ps k noPart)) =
     simp (lt-ltb k (length ps) (omega (arith, parts-length (length H) ls)))
     in
-    ap (partTaken s k) (job-back t w ls ok) ∙ p ∙ ap (told 0 0) (here-taken s (getD ps k noPart) (outlineBytes (getD ls k [])) (parts-stand s ls (length H) k st h))
+    ap (partTaken s k) (job-back t w ls ok)
+    ∙ p
+    ∙ ap (told 0 0) (here-taken s (getD ps k noPart) (outlineBytes (getD ls k [])) (parts-stand s ls (length H) k st h))
 
 -- unpacking the bytes of a list gives the list
 pub written-unpacked : (l m : List ℕ) → Drawable l → length l ≤ length m
@@ -339,4 +346,5 @@ unfolding taken
 said-taken s {j} {last} bs e k h =
     let o = part-only s bs e k h in
     let p : partTaken s k (read j last) ≡ told 0 0 (partBytes s (getD (j .parts) k noPart)) = simp lt-ltb in
-    (ap (partTaken s k) e ∙ p ∙ ap (told 0 0) (here-taken s (getD (j .parts) k noPart) (outlineBytes (getD (j .parts) k noPart .corners)) (o .0)), o .1)
+    let q : Part = getD (j .parts) k noPart in
+    (ap (partTaken s k) e ∙ p ∙ ap (told 0 0) (here-taken s q (outlineBytes (q .corners)) (o .0)), o .1)

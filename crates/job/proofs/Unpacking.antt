@@ -18,22 +18,19 @@ use Rattle.refusal.specs.declared.Refusal.the-variants.{Extra, Room}
 use Rattle.refusal.specs.Refusals.{refusalNo}
 use Rattle.number.specs.Reading.{Reading, read, fault, andThen, many, past}
 use Rattle.figure.specs.Figure.{mostCorners}
-use Rattle.number.proofs.Reading.{then-same, one-less, many-length, past-read, past-fault}
+use Rattle.number.proofs.Reading.{one-less, many-go, many-fault, many-length, past-read, past-fault}
 use Rattle.job.specs.Job.{mostPlace, value, coordinates, outline, filled}
 use Rattle.job.specs.Steps.{IsRead, valuesOf}
 use Rattle.job.specs.Calls.{UnpackSaid, partUnpacked, unpacked}
-use Rattle.job.proofs.Job.{filled-extra, filled-read}
+use Rattle.job.proofs.Job.{outline-fault, outline-go, filled-extra, filled-read}
 
 -- the numbers read from one on
 
 module _ (f : ℕ → Reading ℕ) (n at : ℕ) where
   pub values-more : {v next : ℕ} → read v next ≡ f at → IsRead (many f (suc n) at)
       → IsRead (many f n next) × (valuesOf (many f (suc n) at) ≡ v ∷ valuesOf (many f n next))
-  unfolding many
   values-more {v} {next} e h =
-      let p : many f (suc n) at ≡ andThen (many f n next) (λ l last. read (v ∷ l) last) =
-      sym (then-same (λ a m. andThen (many f n m) (λ l last. read (a ∷ l) last)) e)
-      in
+      let p = many-go f at n (sym e) in
       let q = go (many f n next) (subst IsRead p h) in
       (q .0, ap valuesOf p ∙ q .1)
     where
@@ -43,9 +40,7 @@ module _ (f : ℕ → Reading ℕ) (n at : ℕ) where
       go (fault r p) k = absurd k
 
   pub values-never : {r : Refusal} {p : ℕ} → fault r p ≡ f at → IsRead (many f (suc n) at) → ⊥
-  unfolding many
-  values-never e h =
-      subst IsRead (sym (then-same (λ a m. andThen (many f n m) (λ l last. read (a ∷ l) last)) e)) h
+  values-never e h = subst IsRead (many-fault f at n (sym e)) h
 
 -- storing
 
@@ -92,7 +87,8 @@ module _ (s : List ℕ) (n from : ℕ) (before : List ℕ) where
                 h .all
                 ∙ ap (λ (l : List ℕ). take i list ++ (l ++ drop n before)) (ap (λ j. valuesOf (coordinates s j at)) (one-less n i k) ∙ m .1)
                 ∙ sym (append-assoc (take i list) (v ∷ []) (rest ++ drop n before))
-                ∙ ap (λ (l : List ℕ). l ++ (rest ++ drop n before)) (sym (take-suc-set list i v fits) ∙ ap (λ j. take j (set list i v)) (sym (add-one i)));
+                ∙ ap (λ (l : List ℕ). l ++ (rest ++ drop n before))
+                (sym (take-suc-set list i v fits) ∙ ap (λ j. take j (set list i v)) (sym (add-one i)));
           }
 
     pub storing-done : n ≤ i → list ≡ valuesOf (coordinates s n from) ++ drop n before
@@ -119,13 +115,12 @@ module _ (s l : List ℕ) where
   from e = ap (λ u. partUnpacked l (filled s u)) e
 
   pub unpacked-V : {r : Refusal} {p : ℕ} → fault r p ≡ value s 4 mostCorners 0 → said (refusalNo r) 0 p l ≡ unpacked s l
-  unfolding outline filled
-  unpacked-V e = sym (from (sym (then-same (λ v next. coordinates s (2 * v) next) e)))
+  unfolding filled
+  unpacked-V e = sym (from (sym (outline-fault s 0 e)))
 
   module _ {v next : ℕ} (e : read v next ≡ value s 4 mostCorners 0) where
     go-on : {u : Reading (List ℕ)} → coordinates s (2 * v) next ≡ u → outline s 0 ≡ u
-    unfolding outline
-    go-on f = sym (then-same (λ v next. coordinates s (2 * v) next) e) ∙ f
+    go-on f = sym (outline-go s 0 e) ∙ f
 
     pub unpacked-coordinates : {r : Refusal} {p : ℕ} → fault r p ≡ past (coordinates s (2 * v) next) → said (refusalNo r) 0 p l ≡ unpacked s l
     unfolding filled

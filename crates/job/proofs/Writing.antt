@@ -57,7 +57,8 @@ module _ (n : ℕ) where
 
 -- coordinates
 
-pub coordinates-more : (l : List ℕ) (i : ℕ) → i < length l → coordinateBytes (drop i l) ≡ numberBytes (getD l i 0) ++ coordinateBytes (drop (i + 1) l)
+pub coordinates-more : (l : List ℕ) (i : ℕ) → i < length l
+    → coordinateBytes (drop i l) ≡ numberBytes (getD l i 0) ++ coordinateBytes (drop (i + 1) l)
 unfolding coordinateBytes
 coordinates-more l i h = rw (add-one, drop-cons l i 0)
 
@@ -119,7 +120,8 @@ module _ (t w k : ℕ) (out : List ℕ) where
   unfolding headerWritten ruleTold
   header-rule why e = go (inRange t w) _ e
     where
-      go : (b : Bool) (said : WriteSaid) → refused (refusalNo why) ≡ cond b (given (record { threshold = t; weight = w })) (refused (refusalNo Rule))
+      go : (b : Bool) (said : WriteSaid)
+          → refused (refusalNo why) ≡ cond b (given (record { threshold = t; weight = w })) (refused (refusalNo Rule))
           → unwritten (refusalNo why) out ≡ cond b said (unwritten (refusalNo Rule) out)
       go true said f =
           let z : refusalNo why ≡ 0 = ap (λ (t : Told). t .number) f in absurd (omega (arith, refusal-some why))
@@ -141,7 +143,9 @@ module _ (t w k : ℕ) (out : List ℕ) where
   unfolding headerBytes
   header-put a b o p q ea eo eb ep eq =
       eq
-      ∙ ap₂ (λ (l : List ℕ) i. sets l i (numberBytes k)) (ep ∙ ap₂ (λ (l : List ℕ) i. sets l i (numberBytes w)) eo ea) (eb ∙ ap (λ i. i + length (numberBytes w)) ea)
+      ∙ ap₂ (λ (l : List ℕ) i. sets l i (numberBytes k))
+      (ep ∙ ap₂ (λ (l : List ℕ) i. sets l i (numberBytes w)) eo ea)
+      (eb ∙ ap (λ i. i + length (numberBytes w)) ea)
       ∙ sym (sets-append (sets out 0 (numberBytes t)) (0 + length (numberBytes t)) (numberBytes w) (numberBytes k))
       ∙ sym (sets-append out 0 (numberBytes t) (numberBytes w ++ numberBytes k))
 

@@ -86,21 +86,17 @@ pub bytes-three : (n : ℕ) → 16384 ≤ n → numberBytes n ≡ (128 + n % 128
 unfolding numberBytes
 bytes-three n h = let k : 128 ≤ n = omega arith in simp le-ltb
 
+cond-cases : {A : Type 0} (P : A → Type 0) (b : Bool) (x y : A) → (b ≡ true → P x) → (b ≡ false → P y) → P (cond b x y)
+cond-cases P true x y f g = f refl
+cond-cases P false x y f g = g refl
+
 -- a number has one byte, two, or three
 pub bytes-cases : (P : List ℕ → Type 0) (n : ℕ) → (n < 128 → P (n ∷ [])) → (128 ≤ n → n < 16384 → P ((128 + n % 128) ∷ n / 128 ∷ []))
     → (16384 ≤ n → P ((128 + n % 128) ∷ (128 + n / 128 % 128) ∷ n / 16384 ∷ [])) → P (numberBytes n)
 unfolding numberBytes
-bytes-cases P n f g h = one (ltb n 128) refl
-  where
-    two : (b : Bool) → ltb n 16384 ≡ b → 128 ≤ n
-        → P (cond b ((128 + n % 128) ∷ n / 128 ∷ []) ((128 + n % 128) ∷ (128 + n / 128 % 128) ∷ n / 16384 ∷ []))
-    two true e k = g k (ltb-true n 16384 e)
-    two false e k = h (ltb-false n 16384 e)
-
-    one : (b : Bool) → ltb n 128 ≡ b
-        → P (cond b (n ∷ []) (cond (ltb n 16384) ((128 + n % 128) ∷ n / 128 ∷ []) ((128 + n % 128) ∷ (128 + n / 128 % 128) ∷ n / 16384 ∷ [])))
-    one true e = f (ltb-true n 128 e)
-    one false e = two (ltb n 16384) refl (ltb-false n 128 e)
+bytes-cases P n f g h =
+    cond-cases P (ltb n 128) _ _ (λ e. f (ltb-true n 128 e))
+    (λ e. cond-cases P (ltb n 16384) _ _ (λ k. g (ltb-false n 128 e) (ltb-true n 16384 k)) (λ k. h (ltb-false n 16384 k)))
 
 pub bytes-length : (n : ℕ) → (0 < length (numberBytes n)) × (length (numberBytes n) ≤ 3)
 bytes-length n = bytes-cases (λ l. (0 < length l) × (length l ≤ 3)) n (λ h. omega arith) (λ h k. omega arith) (λ h. omega arith)
@@ -126,10 +122,6 @@ number-back s at n m =
     sym (number-three s at (omega arith) (omega arith) (omega arith) (omega arith) (omega arith) (omega arith) (omega arith) (omega arith)))
 
 -- what was read has one form
-
-cond-cases : {A : Type 0} (P : A → Type 0) (b : Bool) (x y : A) → (b ≡ true → P x) → (b ≡ false → P y) → P (cond b x y)
-cond-cases P true x y f g = f refl
-cond-cases P false x y f g = g refl
 
 -- what holds of each way that a group can go holds of the group
 group-cases : (P : Reading ℕ → Type 0) (s : List ℕ) (start at low unit : ℕ) (further : Reading ℕ)

@@ -2,9 +2,10 @@
 --
 --   then-same        == what follows a reading goes by what it found
 --   past-then        == the place past a reading stays where only its value is put to use
---   many-none, many-more, many-stop == the ways that reading n + 1 in a row can go
+--   many-none, many-go, many-fault, many-cons == the ways that reading n + 1 in a row can go
+--   many-more, many-stop == the same by the place that reading got to
 --   one-less         == how many of n are left after i, by those left after one more
---   many-more-left, many-stop-left, many-done-left == the same by how many of n are left after i
+--   many-more-left, many-stop-left, many-done-left == the same once more, by how many of n are left after i
 --   past-fault, past-read == a reading, by the place that it got to
 --   many-first, many-length == what many in a row begin with, and how many they are
 --   many-nth         == one of many: those before it are read, and then it
@@ -55,22 +56,25 @@ module _ {A : Type 0} (f : ℕ → Reading A) (at : ℕ) where
   onward : (n : ℕ) → A → ℕ → Reading (List A)
   onward n a next = andThen (many f n next) (λ l last. read (a ∷ l) last)
 
-  pub many-more : (n : ℕ) {next : ℕ} → read tt next ≡ past (f at) → past (many f (suc n) at) ≡ past (many f n next)
+  pub many-go : (n : ℕ) {a : A} {next : ℕ} → f at ≡ read a next
+      → many f (suc n) at ≡ andThen (many f n next) (λ l last. read (a ∷ l) last)
   unfolding many onward
-  many-more n {next} e = go (f at) refl e
-    where
-      go : (u : Reading A) → f at ≡ u → read tt next ≡ past u → past (many f (suc n) at) ≡ past (many f n next)
-      go (read a m) p q =
-          let z : m ≡ next = cc in ap past (then-same (onward n) p) ∙ past-then (λ l. a ∷ l) (many f n m) ∙ ap (λ m. past (many f n m)) z
-      go (fault r k) p q = absurd (apart q)
+  many-go n e = then-same (onward n) e
+
+  pub many-fault : (n : ℕ) {r : Refusal} {p : ℕ} → f at ≡ fault r p → many f (suc n) at ≡ fault r p
+  unfolding many onward
+  many-fault n e = then-same (onward n) e
+
+  pub many-cons : (n : ℕ) {a : A} {next last : ℕ} {l : List A} → f at ≡ read a next → many f n next ≡ read l last
+      → many f (suc n) at ≡ read (a ∷ l) last
+  many-cons n {a} e rest = many-go n e ∙ then-same (λ l last. read (a ∷ l) last) rest
+
+  pub many-more : (n : ℕ) {next : ℕ} → read tt next ≡ past (f at) → past (many f (suc n) at) ≡ past (many f n next)
+  many-more n {next} e =
+      let u = past-read (f at) e in ap past (many-go n (u .1)) ∙ past-then (λ l. u .0 ∷ l) (many f n next)
 
   pub many-stop : (n : ℕ) {r : Refusal} {p : ℕ} → fault r p ≡ past (f at) → past (many f (suc n) at) ≡ fault r p
-  unfolding many onward
-  many-stop n {r} {p} e = go (f at) refl e
-    where
-      go : (u : Reading A) → f at ≡ u → fault r p ≡ past u → past (many f (suc n) at) ≡ fault r p
-      go (read a m) q w = absurd (apart (sym w))
-      go (fault t k) q w = ap past (then-same (onward n) q) ∙ sym w
+  many-stop n e = ap past (many-fault n (past-fault (f at) e))
 
   module _ (n i : ℕ) (h : i < n) where
     pub many-more-left : {next : ℕ} → read tt next ≡ past (f at) → past (many f (n - i) at) ≡ past (many f (n - (i + 1)) next)
@@ -110,12 +114,7 @@ module _ {A : Type 0} (f : ℕ → Reading A) where
   many-nth (suc n) at (suc k) d e h =
       let i = many-first n at e in
       let j = many-nth n (i .1) k d (i .4) (le-of-suc-le-suc h) in
-      (i .0 ∷ j .0, j .1, j .2, one-more k at (i .3) (j .3), j .4 ∙ ap (λ (l : List A). read (getD l (suc k) d) (j .2)) (sym (i .5)))
-    where
-      one-more : (k at : ℕ) {a : A} {next start : ℕ} {m : List A} → f at ≡ read a next → many f k next ≡ read m start
-          → many f (suc k) at ≡ read (a ∷ m) start
-      one-more k at {a} p q =
-          then-same (λ a next. andThen (many f k next) (λ m k. read (a ∷ m) k)) p ∙ then-same (λ m k. read (a ∷ m) k) q
+      (i .0 ∷ j .0, j .1, j .2, many-cons f at k (i .3) (j .3), j .4 ∙ ap (λ (l : List A). read (getD l (suc k) d) (j .2)) (sym (i .5)))
 
   -- many in a row lie in a range where each of them goes on within it
   pub many-onward : (most : ℕ) → ((at : ℕ) (a : A) (next : ℕ) → f at ≡ read a next → (at ≤ next) × (next ≤ most))

@@ -29,7 +29,12 @@ enum-known-r c = search needs
 
 returns : tie.Need-returns Inv-loop μ-loop
 unfolding coordinates
-returns c = sym (c .before .before .before .before .before .loop .inv .1 ∙ many-stop-left _ _ _ _ (omega arith) (ap past (told-as readTold (c .before .r .given .1) (c .before .before .before .value .ensures))))
+returns c =
+    let m = c .before in
+    let l = m .before .before .before .before in
+    sym
+    (l .loop .inv .1
+    ∙ many-stop-left _ _ _ _ (omega arith) (ap past (told-as readTold (m .r .given .1) (m .before .before .value .ensures))))
 
 enum-known-next : tie.Need-enum-known-next Inv-loop μ-loop
 enum-known-next c = search needs
@@ -42,7 +47,13 @@ loop-less c = search needs
 
 loop-again : tie.Need-loop-again Inv-loop μ-loop
 unfolding coordinates
-loop-again c = (omega arith, c .before .before .before .before .before .loop .inv .1 ∙ many-more-left _ _ _ _ (omega arith) (ap past (told-as readTold (c .before .next .given .1) (c .before .before .before .value .ensures))))
+loop-again c =
+    let m = c .before in
+    let l = m .before .before .before .before in (
+      omega arith,
+      l .loop .inv .1
+          ∙ many-more-left _ _ _ _ (omega arith) (ap past (told-as readTold (m .next .given .1) (m .before .before .value .ensures))),
+    )
 
 returns-2 : tie.Need-returns-2 Inv-loop μ-loop
 unfolding coordinates

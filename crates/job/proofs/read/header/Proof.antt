@@ -34,16 +34,35 @@ enum-known-outlines : tie.Need-enum-known-outlines
 enum-known-outlines c = search needs
 
 returns : tie.Need-returns
-returns c = header-threshold _ (told-as readTold (c .before .r .given .1) (c .before .before .before .value .ensures))
+returns c = let t = c .before in header-threshold _ (told-as readTold (t .r .given .1) (t .before .before .value .ensures))
 
 returns-2 : tie.Need-returns-2
-returns-2 c = header-weight _ (told-as readTold (c .before .before .before .before .before .threshold .given .1) (c .before .before .before .before .before .before .before .value .ensures)) (told-as readTold (c .before .r2 .given .1) (c .before .before .before .value2 .ensures))
+returns-2 c =
+    let w = c .before in
+    let t = w .before .before .before .before in
+    header-weight _
+    (told-as readTold (t .threshold .given .1) (t .before .before .value .ensures))
+    (told-as readTold (w .r2 .given .1) (w .before .before .value2 .ensures))
 
 returns-3 : tie.Need-returns-3
-returns-3 c = header-count _ (told-as readTold (c .before .before .before .before .before .before .before .before .before .threshold .given .1) (c .before .before .before .before .before .before .before .before .before .before .before .value .ensures)) (told-as readTold (c .before .before .before .before .before .weight .given .1) (c .before .before .before .before .before .before .before .value2 .ensures)) (told-as readTold (c .before .r3 .given .1) (c .before .before .before .value3 .ensures))
+returns-3 c =
+    let k = c .before in
+    let w = k .before .before .before .before in
+    let t = w .before .before .before .before in
+    header-count _
+    (told-as readTold (t .threshold .given .1) (t .before .before .value .ensures))
+    (told-as readTold (w .weight .given .1) (w .before .before .value2 .ensures))
+    (told-as readTold (k .r3 .given .1) (k .before .before .value3 .ensures))
 
 returns-4 : tie.Need-returns-4
-returns-4 c = header-read _ (told-as readTold (c .before .before .before .before .before .before .before .before .before .threshold .given .1) (c .before .before .before .before .before .before .before .before .before .before .before .value .ensures)) (told-as readTold (c .before .before .before .before .before .weight .given .1) (c .before .before .before .before .before .before .before .value2 .ensures)) (told-as readTold (c .before .outlines .given .1) (c .before .before .before .value3 .ensures))
+returns-4 c =
+    let k = c .before in
+    let w = k .before .before .before .before in
+    let t = w .before .before .before .before in
+    header-read _
+    (told-as readTold (t .threshold .given .1) (t .before .before .value .ensures))
+    (told-as readTold (w .weight .given .1) (w .before .before .value2 .ensures))
+    (told-as readTold (k .outlines .given .1) (k .before .before .value3 .ensures))
 
 pub header-spec : {M : Type 1} → statement M
 header-spec =

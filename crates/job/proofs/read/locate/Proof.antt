@@ -25,13 +25,23 @@ enum-known-end : tie.Need-enum-known-end
 enum-known-end c = search needs
 
 returns : tie.Need-returns
-returns c = located-before _ _ _ (told-as pastTold (c .before .r .given .1) (c .before .before .before .outlines .ensures))
+returns c = let s = c .before in located-before _ _ _ (told-as pastTold (s .r .given .1) (s .before .before .outlines .ensures))
 
 returns-2 : tie.Need-returns-2
-returns-2 c = located-fault _ _ _ (told-as pastTold (c .before .before .before .before .before .start .given .1) (c .before .before .before .before .before .before .before .outlines .ensures)) (told-as pastTold (c .before .r2 .given .1) (c .before .before .before .outline .ensures))
+returns-2 c =
+    let e = c .before in
+    let s = e .before .before .before .before in
+    located-fault _ _ _
+    (told-as pastTold (s .start .given .1) (s .before .before .outlines .ensures))
+    (told-as pastTold (e .r2 .given .1) (e .before .before .outline .ensures))
 
 returns-3 : tie.Need-returns-3
-returns-3 c = located-part _ _ _ (told-as pastTold (c .before .before .before .before .before .start .given .1) (c .before .before .before .before .before .before .before .outlines .ensures)) (told-as pastTold (c .before .end .given .1) (c .before .before .before .outline .ensures))
+returns-3 c =
+    let e = c .before in
+    let s = e .before .before .before .before in
+    located-part _ _ _
+    (told-as pastTold (s .start .given .1) (s .before .before .outlines .ensures))
+    (told-as pastTold (e .end .given .1) (e .before .before .outline .ensures))
 
 pub locate-spec : {M : Type 1} → statement M
 locate-spec =

@@ -30,7 +30,11 @@ enum-known-r c = search needs
 
 returns : tie.Need-returns Inv-loop μ-loop
 unfolding outlines
-returns c = sym (c .before .before .before .before .before .loop .inv .1 ∙ many-stop-left _ _ _ _ (omega arith) (told-as pastTold (c .before .r .given .1) (c .before .before .before .outline .ensures) ∙ sym (part-past _ _)))
+returns c =
+    let m = c .before in
+    let l = m .before .before .before .before in
+    let told = told-as pastTold (m .r .given .1) (m .before .before .outline .ensures) in
+    sym (l .loop .inv .1 ∙ many-stop-left _ _ _ _ (omega arith) (told ∙ sym (part-past _ _)))
 
 enum-known-next : tie.Need-enum-known-next Inv-loop μ-loop
 enum-known-next c = search needs
@@ -43,7 +47,11 @@ loop-less c = search needs
 
 loop-again : tie.Need-loop-again Inv-loop μ-loop
 unfolding outlines
-loop-again c = (omega arith, c .before .before .before .before .before .loop .inv .1 ∙ many-more-left _ _ _ _ (omega arith) (told-as pastTold (c .before .next .given .1) (c .before .before .before .outline .ensures) ∙ sym (part-past _ _)))
+loop-again c =
+    let m = c .before in
+    let l = m .before .before .before .before in
+    let told = told-as pastTold (m .next .given .1) (m .before .before .outline .ensures) in
+    (omega arith, l .loop .inv .1 ∙ many-more-left _ _ _ _ (omega arith) (told ∙ sym (part-past _ _)))
 
 returns-2 : tie.Need-returns-2 Inv-loop μ-loop
 unfolding outlines

@@ -44,7 +44,10 @@ part-result-end-2 : tie.Need-part-result-end-2
 part-result-end-2 c = search needs
 
 returns : tie.Need-returns
-returns c = taken-missing _ _ (told-as headTold (c .before .before .before .before .count .given .1) (c .before .before .before .before .before .before .whole .ensures)) (omega arith) (c .before .refusal-no2 .ensures)
+returns c =
+    let m = c .before .before .before .before in
+    taken-missing _ _ (told-as headTold (m .count .given .1) (m .before .before .whole .ensures)) (omega arith)
+    (c .before .refusal-no2 .ensures)
 
 locate-requires : tie.Need-locate-requires
 locate-requires c κs = search needs
@@ -68,22 +71,43 @@ enum-known-start : tie.Need-enum-known-start
 enum-known-start c = search needs
 
 sub-result-4 : tie.Need-sub-result-4
-sub-result-4 c = omega (arith, located-within _ _ _ (told-as locatedTold (c .before .start .given .1) (c .before .before .before .locate .ensures)))
+sub-result-4 c =
+    let l = c .before in
+    omega (arith, located-within _ _ _ (told-as locatedTold (l .start .given .1) (l .before .before .locate .ensures)))
 
 part-result-start-4 : tie.Need-part-result-start-4
-part-result-start-4 c = omega (arith, located-within _ _ _ (told-as locatedTold (c .before .start .given .1) (c .before .before .before .locate .ensures)))
+part-result-start-4 c =
+    let l = c .before in
+    omega (arith, located-within _ _ _ (told-as locatedTold (l .start .given .1) (l .before .before .locate .ensures)))
 
 part-result-end-4 : tie.Need-part-result-end-4
-part-result-end-4 c = omega (arith, located-within _ _ _ (told-as locatedTold (c .before .start .given .1) (c .before .before .before .locate .ensures)))
+part-result-end-4 c =
+    let l = c .before in
+    omega (arith, located-within _ _ _ (told-as locatedTold (l .start .given .1) (l .before .before .locate .ensures)))
 
 returns-2 : tie.Need-returns-2
-returns-2 c = taken-fault _ _ (told-as headTold (c .before .before .before .fault .given .1) (c .before .before .before .before .before .whole .ensures)) (c .before .refusal-no .ensures)
+returns-2 c =
+    let m = c .before .before .before in
+    taken-fault _ _ (told-as headTold (m .fault .given .1) (m .before .before .whole .ensures)) (c .before .refusal-no .ensures)
 
 returns-3 : tie.Need-returns-3
-returns-3 c = absurd (taken-never _ _ (told-as headTold (c .before .before .before .before .before .before .before .before .count .given .1) (c .before .before .before .before .before .before .before .before .before .before .whole .ensures)) (omega arith) (told-as locatedTold (c .before .before .before .r .given .1) (c .before .before .before .before .before .locate .ensures)))
+returns-3 c =
+    let l = c .before .before .before in
+    let m = l .before .before .before .before .before in
+    absurd
+    (taken-never _ _
+    (told-as headTold (m .count .given .1) (m .before .before .whole .ensures))
+    (omega arith)
+    (told-as locatedTold (l .r .given .1) (l .before .before .locate .ensures)))
 
 returns-4 : tie.Need-returns-4
-returns-4 c = taken-part _ _ (told-as headTold (c .before .before .before .before .before .before .before .count .given .1) (c .before .before .before .before .before .before .before .before .before .whole .ensures)) (omega arith) (told-as locatedTold (c .before .before .start .given .1) (c .before .before .before .before .locate .ensures))
+returns-4 c =
+    let l = c .before .before in
+    let m = l .before .before .before .before .before in
+    taken-part _ _
+    (told-as headTold (m .count .given .1) (m .before .before .whole .ensures))
+    (omega arith)
+    (told-as locatedTold (l .start .given .1) (l .before .before .locate .ensures))
 
 pub take-spec : {M : Type 1} → statement M
 take-spec =

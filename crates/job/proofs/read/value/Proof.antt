@@ -17,16 +17,22 @@ enum-known-v : tie.Need-enum-known-v
 enum-known-v c = search needs
 
 returns : tie.Need-returns
-returns c = value-under _ _ _ _ (told-as readTold (c .before .before .v .given .1) (c .before .before .before .before .number .ensures)) (omega arith)
+returns c =
+    let m = c .before .before in
+    value-under _ _ _ _ (told-as readTold (m .v .given .1) (m .before .before .number .ensures)) (omega arith)
 
 returns-2 : tie.Need-returns-2
-returns-2 c = value-over _ _ _ _ (told-as readTold (c .before .before .before .v .given .1) (c .before .before .before .before .before .number .ensures)) (omega arith) (omega arith)
+returns-2 c =
+    let m = c .before .before .before in
+    value-over _ _ _ _ (told-as readTold (m .v .given .1) (m .before .before .number .ensures)) (omega arith) (omega arith)
 
 returns-3 : tie.Need-returns-3
-returns-3 c = value-fault _ _ _ _ (told-as readTold (c .before .r .given .1) (c .before .before .before .number .ensures))
+returns-3 c = let m = c .before in value-fault _ _ _ _ (told-as readTold (m .r .given .1) (m .before .before .number .ensures))
 
 returns-4 : tie.Need-returns-4
-returns-4 c = value-in _ _ _ _ (told-as readTold (c .before .before .before .v .given .1) (c .before .before .before .before .before .number .ensures)) (omega arith) (omega arith)
+returns-4 c =
+    let m = c .before .before .before in
+    value-in _ _ _ _ (told-as readTold (m .v .given .1) (m .before .before .number .ensures)) (omega arith) (omega arith)
 
 pub value-spec : {M : Type 1} → statement M
 value-spec =

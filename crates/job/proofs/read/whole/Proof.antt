@@ -33,16 +33,36 @@ enum-known-end : tie.Need-enum-known-end
 enum-known-end c = search needs
 
 returns-2 : tie.Need-returns-2
-returns-2 c = whole-fault _ (job-extra _ (omega arith) (told-as headTold (c .before .before .before .before .before .before .threshold .given .1) (c .before .before .before .before .before .before .before .before .header .ensures)) (told-as pastTold (c .before .before .end .given .1) (c .before .before .before .before .outlines .ensures)) (omega arith))
+returns-2 c =
+    let o = c .before .before in
+    let h = o .before .before .before .before in
+    whole-fault _
+    (job-extra _ (omega arith)
+    (told-as headTold (h .threshold .given .1) (h .before .before .header .ensures))
+    (told-as pastTold (o .end .given .1) (o .before .before .outlines .ensures))
+    (omega arith))
 
 returns-3 : tie.Need-returns-3
-returns-3 c = whole-fault _ (job-header _ (omega arith) (told-as headTold (c .before .r .given .1) (c .before .before .before .header .ensures)))
+returns-3 c =
+    let h = c .before in
+    whole-fault _ (job-header _ (omega arith) (told-as headTold (h .r .given .1) (h .before .before .header .ensures)))
 
 returns-4 : tie.Need-returns-4
-returns-4 c = whole-fault _ (job-outlines _ (omega arith) (told-as headTold (c .before .before .before .before .before .threshold .given .1) (c .before .before .before .before .before .before .before .header .ensures)) (told-as pastTold (c .before .r2 .given .1) (c .before .before .before .outlines .ensures)))
+returns-4 c =
+    let o = c .before in
+    let h = o .before .before .before .before in
+    whole-fault _
+    (job-outlines _ (omega arith)
+    (told-as headTold (h .threshold .given .1) (h .before .before .header .ensures))
+    (told-as pastTold (o .r2 .given .1) (o .before .before .outlines .ensures)))
 
 returns-5 : tie.Need-returns-5
-returns-5 c = whole-read _ (job-read _ (omega arith) (told-as headTold (c .before .before .before .before .before .before .threshold .given .1) (c .before .before .before .before .before .before .before .before .header .ensures)) (told-as pastTold (c .before .before .end .given .1) (c .before .before .before .before .outlines .ensures)) (omega arith) .1) (told-as headTold (c .before .before .before .before .before .before .threshold .given .1) (c .before .before .before .before .before .before .before .before .header .ensures))
+returns-5 c =
+    let o = c .before .before in
+    let h = o .before .before .before .before in
+    let header = told-as headTold (h .threshold .given .1) (h .before .before .header .ensures) in
+    let outlines = told-as pastTold (o .end .given .1) (o .before .before .outlines .ensures) in
+    whole-read _ (job-read _ (omega arith) header outlines (omega arith) .1) header
 
 pub whole-spec : {M : Type 1} → statement M
 whole-spec =

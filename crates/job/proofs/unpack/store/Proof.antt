@@ -30,13 +30,19 @@ same-length : tie.Need-same-length Inv-loop μ-loop
 same-length c = search needs
 
 returns : tie.Need-returns Inv-loop μ-loop
-returns c = absurd (storing-never _ _ _ _ _ _ _ (c .before .before .before .before .loop .inv) (omega arith) (told-as readTold (c .enum-told .given .1) (c .before .before .value .ensures)))
+returns c =
+    let l = c .before .before .before .before in
+    absurd
+    (storing-never _ _ _ _ _ _ _ (l .loop .inv) (omega arith)
+    (told-as readTold (c .enum-told .given .1) (c .before .before .value .ensures)))
 
 enum-known-v : tie.Need-enum-known-v Inv-loop μ-loop
 enum-known-v c = search needs
 
 cast-list : tie.Need-cast-list Inv-loop μ-loop
-cast-list c = omega (arith, value-read _ 0 mostPlace _ (sym (told-as readTold (c .before .v .given .1) (c .before .before .before .value .ensures))) .2)
+cast-list c =
+    let m = c .before in
+    omega (arith, value-read _ 0 mostPlace _ (sym (told-as readTold (m .v .given .1) (m .before .before .value .ensures))) .2)
 
 mul-list : tie.Need-mul-list Inv-loop μ-loop
 mul-list c = search needs
@@ -51,7 +57,11 @@ loop-less : tie.Need-loop-less Inv-loop μ-loop
 loop-less c = search needs
 
 loop-again : tie.Need-loop-again Inv-loop μ-loop
-loop-again c = storing-more _ _ _ _ _ _ _ (c .before .before .before .before .before .loop .inv) (omega arith) (omega arith) (told-as readTold (c .before .v .given .1) (c .before .before .before .value .ensures))
+loop-again c =
+    let m = c .before in
+    let l = m .before .before .before .before in
+    storing-more _ _ _ _ _ _ _ (l .loop .inv) (omega arith) (omega arith)
+    (told-as readTold (m .v .given .1) (m .before .before .value .ensures))
 
 same-length-2 : tie.Need-same-length-2 Inv-loop μ-loop
 same-length-2 c = search needs

@@ -21,7 +21,9 @@ enum-known-v : tie.Need-enum-known-v
 enum-known-v c = search needs
 
 mul-coordinates : tie.Need-mul-coordinates
-mul-coordinates c = omega (arith, value-read _ 4 mostCorners _ (sym (told-as readTold (c .before .v .given .1) (c .before .before .before .value .ensures))) .2)
+mul-coordinates c =
+    let v = c .before in
+    omega (arith, value-read _ 4 mostCorners _ (sym (told-as readTold (v .v .given .1) (v .before .before .value .ensures))) .2)
 
 coordinates-requires : tie.Need-coordinates-requires
 coordinates-requires c κs = search needs
@@ -33,7 +35,13 @@ enum-known-end : tie.Need-enum-known-end
 enum-known-end c = search needs
 
 returns : tie.Need-returns
-returns c = unpacked-extra _ _ (told-as readTold (c .before .before .before .before .before .before .v .given .1) (c .before .before .before .before .before .before .before .before .value .ensures)) (told-as pastTold (c .before .before .end .given .1) (c .before .before .before .before .coordinates .ensures)) (omega arith)
+returns c =
+    let e = c .before .before in
+    let v = e .before .before .before .before in
+    unpacked-extra _ _
+    (told-as readTold (v .v .given .1) (v .before .before .value .ensures))
+    (told-as pastTold (e .end .given .1) (e .before .before .coordinates .ensures))
+    (omega arith)
 
 cast-n : tie.Need-cast-n
 cast-n c = search needs
@@ -42,22 +50,45 @@ mul-n : tie.Need-mul-n
 mul-n c = search needs
 
 returns-2 : tie.Need-returns-2
-returns-2 c = unpacked-room _ _ (told-as readTold (c .before .before .before .before .before .before .before .v .given .1) (c .before .before .before .before .before .before .before .before .before .value .ensures)) (told-as pastTold (c .before .before .before .end .given .1) (c .before .before .before .before .before .coordinates .ensures)) (omega arith) (omega arith)
+returns-2 c =
+    let e = c .before .before .before in
+    let v = e .before .before .before .before in
+    unpacked-room _ _
+    (told-as readTold (v .v .given .1) (v .before .before .value .ensures))
+    (told-as pastTold (e .end .given .1) (e .before .before .coordinates .ensures))
+    (omega arith)
+    (omega arith)
 
 store-requires : tie.Need-store-requires
-store-requires c κs = (coordinates-are _ _ _ (told-as pastTold (c .before .before .before .before .end .given .1) (c .before .before .before .before .before .before .coordinates .ensures)), omega arith)
+store-requires c κs =
+    let e = c .before .before .before .before in
+    (coordinates-are _ _ _ (told-as pastTold (e .end .given .1) (e .before .before .coordinates .ensures)), omega arith)
 
 returns-3 : tie.Need-returns-3
-returns-3 c = unpacked-V _ _ (told-as readTold (c .before .r .given .1) (c .before .before .before .value .ensures))
+returns-3 c = let v = c .before in unpacked-V _ _ (told-as readTold (v .r .given .1) (v .before .before .value .ensures))
 
 returns-4 : tie.Need-returns-4
-returns-4 c = unpacked-coordinates _ _ (told-as readTold (c .before .before .before .before .before .v .given .1) (c .before .before .before .before .before .before .before .value .ensures)) (told-as pastTold (c .before .r2 .given .1) (c .before .before .before .coordinates .ensures))
+returns-4 c =
+    let e = c .before in
+    let v = e .before .before .before .before in
+    unpacked-coordinates _ _
+    (told-as readTold (v .v .given .1) (v .before .before .value .ensures))
+    (told-as pastTold (e .r2 .given .1) (e .before .before .coordinates .ensures))
 
 same-length : tie.Need-same-length
 same-length c = search needs
 
 returns-5 : tie.Need-returns-5
-returns-5 c = unpacked-stored _ _ (told-as readTold (c .before .before .before .before .before .before .before .before .before .before .before .v .given .1) (c .before .before .before .before .before .before .before .before .before .before .before .before .before .value .ensures)) (told-as pastTold (c .before .before .before .before .before .before .before .end .given .1) (c .before .before .before .before .before .before .before .before .before .coordinates .ensures)) (omega arith) _ (c .before .before .store .ensures) (omega arith)
+returns-5 c =
+    let e = c .before .before .before .before .before .before .before in
+    let v = e .before .before .before .before in
+    unpacked-stored _ _
+    (told-as readTold (v .v .given .1) (v .before .before .value .ensures))
+    (told-as pastTold (e .end .given .1) (e .before .before .coordinates .ensures))
+    (omega arith)
+    _
+    (c .before .before .store .ensures)
+    (omega arith)
 
 pub unpack-spec : {M : Type 1} → statement M
 unpack-spec =

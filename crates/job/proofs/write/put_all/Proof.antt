@@ -1,6 +1,7 @@
 -- `put_all` meets its contract: what is put and what is still to be put give what the whole gives. Assumes nothing.
-use Prim.Native.Nat.{_+_, _-_, _≤_}
+use Prim.Native.Nat.{ℕ, _+_, _-_, _≤_}
 use mathlib.Core.Path.{_≡_, _∙_, refl, ap}
+use mathlib.Core.List.{List}
 use native.Mathlib.Omega.{arith}
 use borrow.Author.Needs.{needs}
 use lib.ListN.{length, drop}
@@ -11,7 +12,11 @@ use Rattle.job.proofs.write.put_all.Statement.{statement}
 use Rattle.job.proofs.write.put_all.Tie as tie
 
 abbrev Inv-loop : tie.InvT-loop
-Inv-loop corners out₀ from at₀ i₀ out at i = (i ≤ length corners) × (length out ≡ length out₀) × (at + length (coordinateBytes (drop i corners)) ≡ from + length (coordinateBytes corners)) × (sets out at (coordinateBytes (drop i corners)) ≡ sets out₀ from (coordinateBytes corners))
+Inv-loop corners out₀ from at₀ i₀ out at i =
+    (i ≤ length corners)
+    × (length out ≡ length out₀)
+    × (at + length (coordinateBytes (drop i corners)) ≡ from + length (coordinateBytes corners))
+    × (sets out at (coordinateBytes (drop i corners)) ≡ sets out₀ from (coordinateBytes corners))
 
 abbrev μ-loop : tie.MeasureT-loop
 μ-loop corners out₀ from at₀ i₀ out at i = length corners - i
@@ -29,7 +34,12 @@ wide-requires : tie.Need-wide-requires Inv-loop μ-loop
 wide-requires c κs = search needs
 
 put-requires : tie.Need-put-requires Inv-loop μ-loop
-put-requires c κs = (omega (arith, c .before .shared-slice-known2 .given (c .before .before .before .before .loop .i)), put-room (c .before .before .before .before .before .before .before .args .corners .now) (c .before .before .before .before .loop .i) _ _ _ _ (c .wide .ensures) (c .before .before .before .before .loop .inv .2) (omega arith) (omega arith))
+put-requires c κs =
+    let l = c .before .before .before .before in
+    let corners : List ℕ = l .before .before .before .args .corners .now in (
+      omega (arith, c .before .shared-slice-known2 .given (l .loop .i)),
+      put-room corners (l .loop .i) _ _ _ _ (c .wide .ensures) (l .loop .inv .2) (omega arith) (omega arith),
+    )
 
 add-i : tie.Need-add-i Inv-loop μ-loop
 add-i c = search needs
@@ -38,13 +48,22 @@ loop-less : tie.Need-loop-less Inv-loop μ-loop
 loop-less c = search needs
 
 loop-again : tie.Need-loop-again Inv-loop μ-loop
-loop-again c = let more = put-more (c .before .before .before .before .before .before .before .before .before .before .args .corners .now) _ _ (c .before .before .before .before .before .before .before .loop .i) _ _ _ _ _ (c .before .before .before .wide .ensures) (c .before .before .put .ensures .0) (c .before .before .put .ensures .1) (c .before .before .before .before .before .before .before .loop .inv .2) (c .before .before .before .before .before .before .before .loop .inv .3) (omega arith) in (omega arith, ap length (c .before .before .put .ensures .1) ∙ simp length-sets (c .before .before .before .before .before .before .before .loop .inv .1), more .0, more .1)
+loop-again c =
+    let p = c .before .before in
+    let l = p .before .before .before .before .before in
+    let corners : List ℕ = l .before .before .before .args .corners .now in
+    let more =
+    put-more corners _ _ (l .loop .i) _ _ _ _ _ (p .before .wide .ensures) (p .put .ensures .0) (p .put .ensures .1) (l .loop .inv .2)
+    (l .loop .inv .3)
+    (omega arith)
+    in (omega arith, ap length (p .put .ensures .1) ∙ simp length-sets (l .loop .inv .1), more .0, more .1)
 
 same-length : tie.Need-same-length Inv-loop μ-loop
 same-length c = search needs
 
 returns : tie.Need-returns Inv-loop μ-loop
-returns c = put-done (c .before .before .before .before .args .corners .now) _ (c .before .loop .i) _ _ (c .before .loop .inv .3) (omega arith)
+returns c =
+    let l = c .before in put-done (l .before .before .before .args .corners .now) _ (l .loop .i) _ _ (l .loop .inv .3) (omega arith)
 
 pub put-all-spec : {M : Type 1} → statement M
 put-all-spec =

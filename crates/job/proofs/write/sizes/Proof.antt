@@ -1,6 +1,7 @@
 -- `sizes` meets its contract: the bytes counted and those of the coordinates still to come are all. Assumes nothing.
-use Prim.Native.Nat.{_+_, _-_, _*_, _≤_}
+use Prim.Native.Nat.{ℕ, _+_, _-_, _*_, _≤_}
 use mathlib.Core.Path.{_≡_, ap}
+use mathlib.Core.List.{List}
 use native.Mathlib.Omega.{arith}
 use borrow.Author.Needs.{needs}
 use lib.ListN.{length, drop}
@@ -10,7 +11,10 @@ use Rattle.job.proofs.write.sizes.Statement.{statement}
 use Rattle.job.proofs.write.sizes.Tie as tie
 
 abbrev Inv-loop : tie.InvT-loop
-Inv-loop corners total₀ i₀ total i = (i ≤ length corners) × (total + length (coordinateBytes (drop i corners)) ≡ length (coordinateBytes corners)) × (total ≤ 3 * i)
+Inv-loop corners total₀ i₀ total i =
+    (i ≤ length corners)
+    × (total + length (coordinateBytes (drop i corners)) ≡ length (coordinateBytes corners))
+    × (total ≤ 3 * i)
 
 abbrev μ-loop : tie.MeasureT-loop
 μ-loop corners total₀ i₀ total i = length corners - i
@@ -40,7 +44,13 @@ loop-less : tie.Need-loop-less Inv-loop μ-loop
 loop-less c = search needs
 
 loop-again : tie.Need-loop-again Inv-loop μ-loop
-loop-again c = (omega arith, sizes-more (c .before .before .before .before .before .before .args .corners .now) (c .before .before .before .before .loop .i) _ _ _ _ (c .before .wide .ensures) (c .size .ensures .0) (c .before .before .before .before .loop .inv .1) (omega arith), omega arith)
+loop-again c =
+    let l = c .before .before .before .before in
+    let corners : List ℕ = l .before .before .args .corners .now in (
+      omega arith,
+      sizes-more corners (l .loop .i) _ _ _ _ (c .before .wide .ensures) (c .size .ensures .0) (l .loop .inv .1) (omega arith),
+      omega arith,
+    )
 
 returns : tie.Need-returns Inv-loop μ-loop
 returns c = omega (arith, ap length (coordinates-done (c .before .before .before .args .corners .now) (c .before .loop .i) (omega arith)))

@@ -30,7 +30,8 @@ returns-2 : tie.Need-returns-2
 returns-2 c =
     let s = c .before in
     let l = s .before .before in
-    outline-room _ _ _ (s .before .size .ensures .0) (s .sizes .ensures .0) (omega arith) (sym (l .before .bad-length .ensures) ∙ l .if1 .left) (omega arith)
+    let good = sym (l .before .bad-length .ensures) ∙ l .if1 .left in
+    outline-room _ _ _ (s .before .size .ensures .0) (s .sizes .ensures .0) (omega arith) good (omega arith)
 
 put-requires : tie.Need-put-requires
 put-requires c κs =
@@ -49,7 +50,8 @@ returns-3 c =
     let p = all .before .before .before .before in
     let s = p .before .before .before in
     let l = s .before .before in
-    outline-fits _ _ _ (s .before .size .ensures .0) (s .sizes .ensures .0) (omega arith) (sym (l .before .bad-length .ensures) ∙ l .if1 .left) _
+    let good = sym (l .before .bad-length .ensures) ∙ l .if1 .left in
+    outline-fits _ _ _ (s .before .size .ensures .0) (s .sizes .ensures .0) (omega arith) good _
     (outline-put _ _ _ _ _ _ (p .put .ensures .0) (p .put .ensures .1) (all .put-all .ensures) (omega arith))
     (omega arith)
 
