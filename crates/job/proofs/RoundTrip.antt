@@ -28,7 +28,8 @@ use Rattle.figure.specs.Figure.{figure, mostCorners, badFigure}
 use Rattle.figure.proofs.Corners.{length-many}
 use Rattle.figure.proofs.Fault.{length-good}
 use Rattle.job.specs.Bytes.{coordinateBytes, headerBytes, outlineBytes, outlinesBytes, jobBytes}
-use Rattle.job.specs.Job.{mostBytes, mostOutlines, mostPlace, value, coordinates, outline, Part, part, outlines, Header, header, filled, Job, job}
+use Rattle.figure.specs.Figure.{mostPlace}
+use Rattle.job.specs.Job.{mostBytes, mostOutlines, value, coordinates, outline, Part, part, outlines, Header, header, filled, Job, job}
 use Rattle.job.proofs.Job.{value-in, value-read, header-read, filled-read, job-made, part-read, job-whole}
 use Rattle.job.specs.Calls.{noPart, partBytes, partTaken, taken, told, jobSaid, checked, partUnpacked, unpacked}
 

@@ -19,7 +19,8 @@ use Rattle.refusal.specs.Refusals.{refusalNo}
 use Rattle.number.specs.Reading.{Reading, read, fault, andThen, many, past}
 use Rattle.figure.specs.Figure.{mostCorners}
 use Rattle.number.proofs.Reading.{then-same, one-less, many-length, past-read, past-fault}
-use Rattle.job.specs.Job.{mostPlace, value, coordinates, outline, filled}
+use Rattle.figure.specs.Figure.{mostPlace}
+use Rattle.job.specs.Job.{value, coordinates, outline, filled}
 use Rattle.job.specs.Steps.{IsRead, valuesOf}
 use Rattle.job.specs.Calls.{UnpackSaid, partUnpacked, unpacked}
 use Rattle.job.proofs.Job.{filled-extra, filled-read}

@@ -1,6 +1,6 @@
 // Unpacking: from the bytes of one outline to its list of coordinates.
 use crate::MOST_CORNERS;
-use crate::MOST_PLACE;
+use figure::MOST_PLACE;
 use crate::read;
 use crate::read::Past;
 use number::Cursor;
