@@ -21,7 +21,7 @@ use Rattle.recurrence.specs.Scheme.{outside, full, mixed}
 use Rattle.refusal.specs.declared.Refusal.the-variants as because
 use Rattle.refusal.specs.Refusals.{refusalNo}
 use Rattle.rule.specs.declared.Rule.{Rule}
-use Rattle.figure.specs.Figure.{Figure}
+use Rattle.figure.specs.Figure.{Figure, mostPlace}
 use Rattle.outline.specs.Grid.{Grid}
 use Rattle.shot.specs.Shot.{Shot, shotsIn}
 use Rattle.piece.specs.Piece.{Piece, kind, charge}
@@ -30,7 +30,7 @@ use Rattle.table.specs.Entry.{entryOf, Valid}
 use Rattle.demands.specs.Promise.{Outcome}
 
 abbrev pub Words : Figure → Type 0
-Words f = All (λ v. v ≤ 65535) (f .numbers)
+Words f = All (λ v. v ≤ mostPlace) (f .numbers)
 
 abbrev pub PieceOf : Grid → Piece → Type 0
 PieceOf g p = Valid (g .columns) (g .rows) p

@@ -3,6 +3,7 @@
 --   Figure           == what a call is handed: the numbers x, y, x, y, .. of its corners
 --   figure l         == the figure of these numbers
 --   mostCorners      == no figure has more corners
+--   mostPlace        == the highest place, in nm
 --   cornersOf f      == its corners
 --   edgesOf f        == its edges
 --   turnsOf f        == its turns: each edge with the next
@@ -28,6 +29,9 @@ figure l = record { numbers = l }
 
 abbrev pub mostCorners : ℕ
 mostCorners = 32
+
+abbrev pub mostPlace : ℕ
+mostPlace = 65535
 
 abbrev pub cornersOf : Figure → List Corner
 cornersOf f = corners (f .numbers)

@@ -17,6 +17,9 @@ pub enum Axis {
 // No figure has more corners.
 pub const MOST_CORNERS: usize = 32;
 
+// The highest place, in nm.
+pub const MOST_PLACE: u32 = 65535;
+
 // What the corners alone say of a figure: it is right-angled, or the first of 2, 3, 4 whose condition holds.
 pub enum Shape {
     Right,

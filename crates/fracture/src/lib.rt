@@ -1,6 +1,8 @@
 // From a figure to its shots: the fill, the delivery, and the two calls.
 use delivery::deliver;
 use outline::Answer;
+use outline::MOST_CELLS;
+use outline::MOST_LINES;
 use outline::draw;
 use refusal::Refusal;
 use rule::Made;
@@ -61,9 +63,9 @@ fn fracture_by(corners: &[u16], rule: Rule, table: &mut [u32], list: &mut [u16])
     requires { ⌜ inRange (rule .threshold) (rule .weight) ≡ true ⌝ }
     ensures { λ a. ⌜ told a (now (table .exit)) (now (list .exit)) ≡ ruled (figure (now (corners .entry))) rule (now (table .entry)) (now (list .entry)) ⌝ }
 {
-    let mut xs = [0u16; 16];
-    let mut ys = [0u16; 16];
-    let mut cells = [0u8; 256];
+    let mut xs = [0u16; MOST_LINES];
+    let mut ys = [0u16; MOST_LINES];
+    let mut cells = [0u8; MOST_CELLS];
     let drawing = draw(corners, &mut xs, &mut ys, &mut cells);
     let answer = drawing.answer;
     match answer {

@@ -26,8 +26,8 @@ use Rattle.number.proofs.Number.{apart}
 use Rattle.number.proofs.Bytes.{number-onward}
 use Rattle.number.proofs.Reading.{then-same, then-inv, past-fault, past-read, many-onward}
 use Rattle.rule.specs.Rules.{limit}
-use Rattle.figure.specs.Figure.{mostCorners}
-use Rattle.job.specs.Job.{mostBytes, mostOutlines, mostPlace, value, coordinates, outline, Part, part, outlines, header, Header, filled, body, job, Job}
+use Rattle.figure.specs.Figure.{mostCorners, mostPlace}
+use Rattle.job.specs.Job.{mostBytes, mostOutlines, value, coordinates, outline, Part, part, outlines, header, Header, filled, body, job, Job}
 
 -- value
 

@@ -24,11 +24,11 @@ use Rattle.number.specs.Number.{most, number, numberBytes}
 use Rattle.number.proofs.Bytes.{Stands, AllBytes, stands-join, stands-front, stands-back, stands-whole, number-back, number-only}
 use Rattle.number.proofs.Reading.{then-same, then-inv, many-cons, many-first, many-length}
 use Rattle.rule.specs.Rules.{limit}
-use Rattle.figure.specs.Figure.{figure, mostCorners, badFigure}
+use Rattle.figure.specs.Figure.{figure, mostCorners, badFigure, mostPlace}
 use Rattle.figure.proofs.Corners.{length-many}
 use Rattle.figure.proofs.Fault.{length-good}
 use Rattle.job.specs.Bytes.{coordinateBytes, headerBytes, outlineBytes, outlinesBytes, jobBytes}
-use Rattle.job.specs.Job.{mostBytes, mostOutlines, mostPlace, value, coordinates, outline, Part, part, outlines, Header, header, filled, Job, job}
+use Rattle.job.specs.Job.{mostBytes, mostOutlines, value, coordinates, outline, Part, part, outlines, Header, header, filled, Job, job}
 use Rattle.job.proofs.Job.{value-in, value-read, outline-go, outline-inv, counted, weighed, heard, header-read, filled-read, job-made, part-read, job-whole}
 use Rattle.job.specs.Calls.{noPart, partBytes, partTaken, taken, told, jobSaid, checked, partUnpacked, unpacked}
 

@@ -17,9 +17,9 @@ use Rattle.refusal.specs.declared.Refusal.{Refusal}
 use Rattle.refusal.specs.declared.Refusal.the-variants.{Extra, Room}
 use Rattle.refusal.specs.Refusals.{refusalNo}
 use Rattle.number.specs.Reading.{Reading, read, fault, andThen, many, past}
-use Rattle.figure.specs.Figure.{mostCorners}
+use Rattle.figure.specs.Figure.{mostCorners, mostPlace}
 use Rattle.number.proofs.Reading.{one-less, many-go, many-fault, many-length, past-read, past-fault}
-use Rattle.job.specs.Job.{mostPlace, value, coordinates, outline, filled}
+use Rattle.job.specs.Job.{value, coordinates, outline, filled}
 use Rattle.job.specs.Steps.{IsRead, valuesOf}
 use Rattle.job.specs.Calls.{UnpackSaid, partUnpacked, unpacked}
 use Rattle.job.proofs.Job.{outline-fault, outline-go, filled-extra, filled-read}

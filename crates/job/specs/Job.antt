@@ -1,7 +1,6 @@
 -- To believe: a job as it is read, numbers from the front, the first fault deciding.
 --
 --   mostBytes, mostOutlines == a job has no more bytes, and no more outlines
---   mostPlace               == no coordinate is higher, in nm
 --   value s low high at     == a number from low to high; one outside is a fault where it starts
 --   coordinates s n at      == n coordinates, one after another
 --   outline s at            == V, 4 to 32, and 2V coordinates: the list that they are
@@ -20,7 +19,7 @@ use lib.ListN.{length}
 use lib.Dec.{ltb, leb}
 use Rattle.refusal.specs.declared.Refusal.the-variants as because
 use Rattle.rule.specs.Rules.{limit}
-use Rattle.figure.specs.Figure.{mostCorners}
+use Rattle.figure.specs.Figure.{mostCorners, mostPlace}
 use Rattle.number.specs.Reading.{Reading, read, fault, andThen, many}
 use Rattle.number.specs.Number.{number}
 
@@ -29,9 +28,6 @@ mostBytes = 4096
 
 abbrev pub mostOutlines : ℕ
 mostOutlines = 255
-
-abbrev pub mostPlace : ℕ
-mostPlace = 65535
 
 unfoldable pub value : List ℕ → ℕ → ℕ → ℕ → Reading ℕ
 value s low high at =

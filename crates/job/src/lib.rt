@@ -9,8 +9,5 @@ pub const MOST_BYTES: usize = 4096;
 // No job has more outlines.
 pub const MOST_OUTLINES: u32 = 255;
 
-// No coordinate is higher, in nm.
-pub const MOST_PLACE: u32 = 65535;
-
 // No outline has more corners: the figure's limit, as a number of the job.
 const MOST_CORNERS: u32 = figure::MOST_CORNERS as u32;

@@ -2,7 +2,7 @@
 use crate::MOST_BYTES;
 use crate::MOST_CORNERS;
 use crate::MOST_OUTLINES;
-use crate::MOST_PLACE;
+use figure::MOST_PLACE;
 use number::Cursor;
 use number::Read;
 use refusal::Refusal;

@@ -1,8 +1,8 @@
 // Unpacking: from the bytes of one outline to its list of coordinates.
 use crate::MOST_CORNERS;
-use crate::MOST_PLACE;
 use crate::read;
 use crate::read::Past;
+use figure::MOST_PLACE;
 use number::Cursor;
 use number::Read;
 use refusal::Refusal;

@@ -1,5 +1,7 @@
 -- To believe: the grid of a figure, which is all that the floors above see of it, and how it lies in memory.
 --
+--   mostLines            == no figure has more lines each way
+--   mostCells            == the cells between so many lines, with a column and a row beyond them
 --   Grid                 == the count of columns and rows of cells, the place in nm of each x line and y line, and the cells that
 --                           are inside. The cell (i, j) lies between the x lines i and i + 1 and the y lines j and j + 1
 --   Sound g              == 1 to 15 columns and rows; places rise from line to line within the frame, and never fall beyond it;
@@ -18,6 +20,13 @@ use mathlib.Core.List.{List}
 use lib.Dec.{ltb, eqb}
 use lib.ListN.{length, getD}
 use Rattle.sum.specs.Sum.{only}
+use Rattle.figure.specs.Figure.{mostPlace}
+
+abbrev pub mostLines : ℕ
+mostLines = 16
+
+abbrev pub mostCells : ℕ
+mostCells = 256
 
 pub record Grid : Type 0 where
   pub columns : ℕ
@@ -35,18 +44,18 @@ pub record Sound (g : Grid) : Type 0 where
   pub y-up : (j : ℕ) → g .y j ≤ g .y (suc j)
   pub x-rises : (i : ℕ) → i < g .columns → g .x i < g .x (suc i)
   pub y-rises : (j : ℕ) → j < g .rows → g .y j < g .y (suc j)
-  pub x-most : (i : ℕ) → g .x i ≤ 65535
-  pub y-most : (j : ℕ) → g .y j ≤ 65535
+  pub x-most : (i : ℕ) → g .x i ≤ mostPlace
+  pub y-most : (j : ℕ) → g .y j ≤ mostPlace
   pub right-none : (i j : ℕ) → g .columns ≤ i → g .inside i j ≡ false
   pub above-none : (i j : ℕ) → g .rows ≤ j → g .inside i j ≡ false
 
 pub record Drawn (g : Grid) (xs ys cells : List ℕ) : Type 0 where
-  pub xs-length : length xs ≡ 16
-  pub ys-length : length ys ≡ 16
-  pub cells-length : length cells ≡ 256
+  pub xs-length : length xs ≡ mostLines
+  pub ys-length : length ys ≡ mostLines
+  pub cells-length : length cells ≡ mostCells
   pub x-at : (i : ℕ) → i ≤ g .columns → getD xs i 0 ≡ g .x i
   pub y-at : (j : ℕ) → j ≤ g .rows → getD ys j 0 ≡ g .y j
-  pub cell-at : (i j : ℕ) → i < 16 → j < 16 → getD cells (16 * i + j) 0 ≡ only (g .inside i j) 1
+  pub cell-at : (i j : ℕ) → i < mostLines → j < mostLines → getD cells (mostLines * i + j) 0 ≡ only (g .inside i j) 1
 
 pub record Memory : Type 0 where
   pub columns : ℕ
@@ -65,5 +74,5 @@ stored columns rows xs ys cells =
       rows = rows;
       x = λ i. getD xs (min i columns) 0;
       y = λ j. getD ys (min j rows) 0;
-      inside = λ i j. ltb i columns && (ltb j rows && eqb (getD cells (16 * i + j) 0) 1);
+      inside = λ i j. ltb i columns && (ltb j rows && eqb (getD cells (mostLines * i + j) 0) 1);
     }

@@ -23,7 +23,7 @@ use Rattle.figure.specs.Figure.{Figure, fault}
 use Rattle.outline.specs.declared.Answer.{Answer}
 use Rattle.outline.specs.declared.Answer.the-variants.{Accepted, Refused}
 use Rattle.outline.specs.declared.Drawing.{Drawing}
-use Rattle.outline.specs.Grid.{Grid, Sound, Memory, memory}
+use Rattle.outline.specs.Grid.{mostLines, mostCells, Grid, Sound, Memory, memory}
 use Rattle.outline.specs.Inside.{grid, empty}
 
 abbrev pub answerNo : Answer → ℕ
@@ -42,13 +42,13 @@ laid g =
     record {
       columns = g .columns;
       rows = g .rows;
-      xs = listOf 16 (λ i. only (leb i (g .columns)) (g .x i));
-      ys = listOf 16 (λ j. only (leb j (g .rows)) (g .y j));
-      cells = listOf 256 (λ k. only (g .inside (k / 16) (k % 16)) 1);
+      xs = listOf mostLines (λ i. only (leb i (g .columns)) (g .x i));
+      ys = listOf mostLines (λ j. only (leb j (g .rows)) (g .y j));
+      cells = listOf mostCells (λ k. only (g .inside (k / mostLines) (k % mostLines)) 1);
     }
 
 unfoldable pub blank : Memory
-blank = memory 0 0 (replicate 16 0) (replicate 16 0) (replicate 256 0)
+blank = memory 0 0 (replicate mostLines 0) (replicate mostLines 0) (replicate mostCells 0)
 
 pub record Sheet : Type 0 where
   pub answer : Answer

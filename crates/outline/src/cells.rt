@@ -8,6 +8,8 @@ ghost use Rattle.outline.specs.Inside.{grid};
 ghost use Rattle.outline.specs.Steps as step;
 ghost use Rattle.outline.specs.Promise as promise;
 use crate::Line;
+use crate::MOST_CELLS;
+use crate::MOST_LINES;
 use crate::rising;
 use figure::Axis;
 use figure::Place;
@@ -46,7 +48,7 @@ fn turn_over(cells: &mut [u8], line: Line, ys: &[u16], low: Place, high: Place)
     requires { ⌜ step.Bits (now cells) (now ys) (line .0) ⌝ }
     ensures { λ _. ⌜ step.Turned (now (cells .entry)) (now (ys .entry)) (line .0) (low .0) (high .0) (now (cells .exit)) ⌝ }
 {
-    let first = 16 * line.0;
+    let first = MOST_LINES * line.0;
     let rows = ys.len() - 1;
     for j in 0..rows {
         let bottom = crate::place_of(ys, Line(j));
@@ -90,8 +92,8 @@ fn sweep(cells: &mut [u8])
     requires { ⌜ step.Marks (now cells) ⌝ }
     ensures { λ _. ⌜ step.Swept (now (cells .entry)) (now (cells .exit)) ⌝ }
 {
-    for k in 16..256 {
-        cells[k] = (cells[k - 16] + cells[k]) % 2;
+    for k in MOST_LINES..MOST_CELLS {
+        cells[k] = (cells[k - MOST_LINES] + cells[k]) % 2;
     }
 }
 

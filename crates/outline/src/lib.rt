@@ -19,6 +19,12 @@ mod rising;
 // The number of a line, from 0 for the lowest; x lines and y lines are numbered apart.
 pub struct Line(pub usize);
 
+// No figure has more lines each way.
+pub const MOST_LINES: usize = 16;
+
+// Room for the cells between so many lines, and a column and a row beyond them: the cell (i, j) is at MOST_LINES * i + j.
+pub const MOST_CELLS: usize = 256;
+
 // What a figure is answered with: its grid is good, or the first of 2, 3, 4, 5 whose condition holds.
 pub enum Answer {
     Accepted,
@@ -42,16 +48,21 @@ pub fn place_of(lines: &[u16], line: Line) -> Place
 }
 
 // Clears the lent arrays, whatever was in them.
-fn clear(xs: &mut [u16; 16], ys: &mut [u16; 16], cells: &mut [u8; 256])
+fn clear(xs: &mut [u16; MOST_LINES], ys: &mut [u16; MOST_LINES], cells: &mut [u8; MOST_CELLS])
     ensures { λ _. ⌜ step.Clear (now (xs .exit)) (now (ys .exit)) (now (cells .exit)) ⌝ }
 {
-    *xs = [0u16; 16];
-    *ys = [0u16; 16];
-    *cells = [0u8; 256];
+    *xs = [0u16; MOST_LINES];
+    *ys = [0u16; MOST_LINES];
+    *cells = [0u8; MOST_CELLS];
 }
 
 // A refusal: the lent arrays are all zeros beside it.
-fn refused(why: Refusal, xs: &mut [u16; 16], ys: &mut [u16; 16], cells: &mut [u8; 256]) -> Drawing
+fn refused(
+    why: Refusal,
+    xs: &mut [u16; MOST_LINES],
+    ys: &mut [u16; MOST_LINES],
+    cells: &mut [u8; MOST_CELLS],
+) -> Drawing
     ensures { λ r. ⌜ promise.sheet r (now (xs .exit)) (now (ys .exit)) (now (cells .exit)) ≡ step.without why ⌝ }
 {
     clear(xs, ys, cells);
@@ -79,7 +90,12 @@ fn trace(corners: &[u16], xs: &mut [u16], ys: &mut [u16], cells: &mut [u8]) -> D
 }
 
 // The drawing of a figure that passes 2, 3 and 4.
-fn plot(corners: &[u16], xs: &mut [u16; 16], ys: &mut [u16; 16], cells: &mut [u8; 256]) -> Drawing
+fn plot(
+    corners: &[u16],
+    xs: &mut [u16; MOST_LINES],
+    ys: &mut [u16; MOST_LINES],
+    cells: &mut [u8; MOST_CELLS],
+) -> Drawing
     requires { ⌜ Right (figure (now corners)) ⌝ }
     ensures { λ r. ⌜ promise.Promise (figure (now (corners .entry))) (promise.sheet r (now (xs .exit)) (now (ys .exit)) (now (cells .exit))) ⌝ }
 {
@@ -96,9 +112,9 @@ fn plot(corners: &[u16], xs: &mut [u16; 16], ys: &mut [u16; 16], cells: &mut [u8
 // where the cell (i, j) is inside. All else is 0, and beside a refusal all of it.
 pub fn draw(
     corners: &[u16],
-    xs: &mut [u16; 16],
-    ys: &mut [u16; 16],
-    cells: &mut [u8; 256],
+    xs: &mut [u16; MOST_LINES],
+    ys: &mut [u16; MOST_LINES],
+    cells: &mut [u8; MOST_CELLS],
 ) -> Drawing
     ensures { λ r. ⌜ promise.Promise (figure (now (corners .entry))) (promise.sheet r (now (xs .exit)) (now (ys .exit)) (now (cells .exit))) ⌝ }
 {

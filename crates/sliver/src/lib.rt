@@ -1,6 +1,7 @@
 // The sliver length of one shot, from the places of its lines and the cells along its four sides.
 use figure::Place;
 use outline::Line;
+use outline::MOST_LINES;
 use outline::place_of;
 use piece::Piece;
 use rule::Rule;
@@ -84,7 +85,7 @@ fn both_sides(cells: &[u8], lines: &[u16], band: Band) -> u32
         lines,
         Side {
             near: across * a,
-            far: across * ((a + 15) % 16),
+            far: across * ((a + MOST_LINES - 1) % MOST_LINES),
             step,
             from,
             to,
@@ -130,7 +131,7 @@ pub fn sliver_of(cells: &[u8], xs: &[u16], ys: &[u16], rule: Rule, p: Piece) -> 
             high: c,
             from: b,
             to: d,
-            across: 16,
+            across: MOST_LINES,
             along: 1,
         },
     );
@@ -143,7 +144,7 @@ pub fn sliver_of(cells: &[u8], xs: &[u16], ys: &[u16], rule: Rule, p: Piece) -> 
             from: a,
             to: c,
             across: 1,
-            along: 16,
+            along: MOST_LINES,
         },
     );
     rule.sliver(width, height, upright, level)

@@ -1,5 +1,6 @@
 // The verdict of a piece, from the table of costs and the cells.
 use outline::Line;
+use outline::MOST_LINES;
 use piece::Piece;
 use rule::Rule;
 use table::numbering::pair_number;
@@ -41,7 +42,7 @@ fn first_hole(cells: &[u8], i: usize, b: Line, d: Line) -> usize
     let end = d.0;
     let mut j = b.0;
     while j < end {
-        if cells[16 * i + j] != 1 {
+        if cells[MOST_LINES * i + j] != 1 {
             return j;
         }
         j += 1;
