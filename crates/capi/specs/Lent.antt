@@ -63,7 +63,6 @@ jobPart k (read j last) =
     cond (ltb k (length (j .parts))) (partSaid (getD (j .parts) k noPart)) (outlineLent (refusalNo Missing) 0 0 0)
 jobPart k (fault r at) = outlineLent (refusalNo r) 0 0 at
 
--- where outline k of the bytes s stands
 unfoldable pub outlineSaid : List ℕ → ℕ → OutlineSaid
 outlineSaid s k = jobPart k (job s)
 

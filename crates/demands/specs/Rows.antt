@@ -5,6 +5,7 @@
 --   Rival              == a cut of the frame, and what its two parts cost together
 --   Row                == a drawing, its rule, and the outcome: number, cost, sliver length, the list of shots, and cuts of the frame that
 --                         document 01 names
+--   Says row r o       == what a row says of an outcome o by the rule r
 --   Holds row          == for every rule that the row is for, and any buffers with room for 14,400 entries and 225 shots, that is the
 --                         outcome
 --   rows               == the table
@@ -22,22 +23,18 @@ use Rattle.figure.specs.Figure.{Figure, figure}
 use Rattle.outline.specs.Inside.{grid}
 use Rattle.demands.specs.Promise.{Asked, ruleOf, Outcome, outcome}
 
--- the rule that a row is for
 pub data By : Type 0 where
   only-by : ℕ → ℕ → By
   any : By
 
--- the row is for this rule
 abbrev pub Meant : By → ℕ → ℕ → Type 0
 Meant (only-by t₀ w₀) t w = (t ≡ t₀) × (w ≡ w₀)
 Meant any t w = Unit {0}
 
--- a cut of the frame, and what it would give
 pub record Rival : Type 0 where
   pub cut : Cut
   pub cost : ℕ
 
--- a row of the table
 pub record Row : Type 0 where
   pub figure : Figure
   pub by : By
@@ -47,7 +44,6 @@ pub record Row : Type 0 where
   pub list : List ℕ
   pub rivals : List Rival
 
--- what a row says of an outcome
 pub record Says (row : Row) (r : Rule) (o : Outcome) : Type 0 where
   pub number : o .number ≡ row .number
   pub cost : o .cost ≡ row .cost

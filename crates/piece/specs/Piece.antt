@@ -18,8 +18,8 @@
 --   left, right, bottom, top  == the exposed length of each side of a piece
 -- The charge, in thousandths of a shot
 --   width, height             == from line to line, in nm
---   sliver g r p              == p's sliver length under the rule r
---   charge g r p              == 1,000 + weight x sliver length
+--   sliver g r p              == p's sliver length under the rule r (rule/specs/Charge.antt)
+--   charge g r p              == its charge as a shot: equation (1) of the paper, times 1,000
 --   mostCost                  == document 01's bound: no total exceeds it
 use Prim.Native.Nat.{ℕ, zero, suc, _+_, _*_, _-_}
 use mathlib.Core.Bool.{Bool, true, false, not, _&&_}
@@ -89,11 +89,9 @@ module _ (g : Grid) where
   unfoldable pub kind : Piece → Kind
   kind p = kindOf (insideCells p) (cells p)
 
-  -- from the x line a to the x line c, in nm
   unfoldable pub width : ℕ → ℕ → ℕ
   width a c = g .x c - g .x a
 
-  -- from the y line b to the y line d, in nm
   unfoldable pub height : ℕ → ℕ → ℕ
   height b d = g .y d - g .y b
 
@@ -110,11 +108,9 @@ module _ (g : Grid) where
   top p = over (p .a) (p .c) (λ i. only (highSide (g .inside i) (p .d)) (width i (suc i)))
 
   module _ (r : Rule) where
-    -- left and right where it is narrower than the threshold, bottom and top where it is lower
     unfoldable pub sliver : Piece → ℕ
     sliver p = sliverOf r (width (p .a) (p .c)) (height (p .b) (p .d)) (left p + right p) (bottom p + top p)
 
-    -- equation (1) of the paper, times 1,000
     unfoldable pub charge : Piece → ℕ
     charge p = chargeOf r (sliver p)
 

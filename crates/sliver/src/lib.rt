@@ -12,6 +12,9 @@ ghost use Rattle.piece.specs.Meant.{meant};
 ghost use Rattle.piece.specs.Piece.{sliver};
 ghost use Rattle.sliver.specs.Sides.{Shown, Seen, exposedAt, exposedIn, Lies, bothIn, Banded};
 
+// The last column and row of cells lie beyond every frame: they stand in for the cells across the lowest line, of which there are none.
+const BEYOND: usize = 15;
+
 // One side of a piece, as its cells lie in memory: those within start at near, those across at far,
 // and the next stretch is a step on; it runs from line to line.
 struct Side {
@@ -85,7 +88,7 @@ fn both_sides(cells: &[u8], lines: &[u16], band: Band) -> u32
         lines,
         Side {
             near: across * a,
-            far: across * ((a + MOST_LINES - 1) % MOST_LINES),
+            far: across * ((a + BEYOND) % MOST_LINES),
             step,
             from,
             to,

@@ -5,7 +5,7 @@ use native.Mathlib.Omega.{arith}
 use borrow.Author.Needs.{needs}
 use Rattle.number.specs.Number.{readTold}
 use Rattle.refusal.proofs.Refusals.{told-as}
-use Rattle.job.specs.Job.{mostPlace}
+use Rattle.figure.specs.Figure.{mostPlace}
 use Rattle.job.proofs.Job.{value-read}
 use Rattle.job.proofs.Unpacking.{Storing, storing-start, storing-more, storing-never, storing-done}
 use Rattle.job.proofs.unpack.store.Statement.{statement}
