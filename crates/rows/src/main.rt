@@ -1,123 +1,185 @@
 // Runs every row of document 01's table of drawings, and some hundred made-up outlines, by the library and by a second
 // fracturer that is written another way, and compares answer by answer, shot by shot and cost by cost.
 mod document;
-mod drawings;
 mod guarded;
+mod made;
 mod second;
 
 use fracture::Fractured;
-use guarded::pick;
-use guarded::sum;
 use refusal::refusal_no;
 use second::Answer;
-use second::Asked;
-use second::Memory;
+use second::Rule;
 
 // What has been compared so far.
 struct Tally {
-    outlines: usize,
-    fractured: usize,
-    shots: usize,
-    different: usize,
+    outlines: u32,
+    fractured: u32,
+    shots: u32,
+    different: u32,
 }
 
-// What the library answered, and whether all of it was the same as the second's and the document's.
+// What both answered, and whether all of it was the same.
 struct Compared {
     told: Answer,
     same: bool,
 }
 
-// ---- the library
+fn none() -> Tally {
+    Tally {
+        outlines: 0,
+        fractured: 0,
+        shots: 0,
+        different: 0,
+    }
+}
 
-fn answered(by: Fractured) -> Answer {
-    match by {
+fn one_if(v: bool) -> u32 {
+    if v { 1 } else { 0 }
+}
+
+// ---- comparison
+
+fn same_answer(a: Answer, b: Answer) -> bool {
+    if a.number != b.number {
+        return false;
+    }
+    if a.shots != b.shots {
+        return false;
+    }
+    if a.cost != b.cost {
+        return false;
+    }
+    a.sliver == b.sliver
+}
+
+// How many of the first 4 x shots numbers of two lists differ.
+fn different_shots(a: &[u16], b: &[u16], shots: u32) -> u32 {
+    let numbers = (shots % 1024 * 4) as usize;
+    let mut n: u32 = 0;
+    for i in 0..numbers {
+        n = guarded::sum(n, one_if(guarded::place(a, i) != guarded::place(b, i)));
+    }
+    n
+}
+
+// How many of them differ from what document 01 gives, from a place of its lists on.
+fn different_from_document(a: &[u16], start: u32, shots: u32) -> u32 {
+    let numbers = (shots % 1024 * 4) as usize;
+    let from = (start % 64) as usize;
+    let mut n: u32 = 0;
+    for i in 0..numbers {
+        n = guarded::sum(
+            n,
+            one_if(guarded::place(a, i) != document::shot(from + i % 4096)),
+        );
+    }
+    n
+}
+
+// Whether the piece of a place among the second's costs lies in a frame of so many lines.
+fn in_frame(n: usize, x_lines: usize, y_lines: usize) -> bool {
+    let p = second::piece_no(n);
+    if p.c <= p.a {
+        return false;
+    }
+    if p.d <= p.b {
+        return false;
+    }
+    if x_lines <= p.c {
+        return false;
+    }
+    p.d < y_lines
+}
+
+// How many entries of the table differ from the second's costs, which stand in the same order with gaps.
+fn different_costs(table: &[u32], costs: &[u32], x_lines: usize, y_lines: usize) -> u32 {
+    let places: usize = 65536;
+    let mut entry: usize = 0;
+    let mut n: u32 = 0;
+    for i in 0..places {
+        if in_frame(i, x_lines, y_lines) {
+            n = guarded::sum(
+                n,
+                one_if(guarded::number(table, entry) != guarded::number(costs, i)),
+            );
+            entry = entry % 65536 + 1;
+        }
+    }
+    n
+}
+
+// Whether table and list are the same too, as far as an answer says that they are filled.
+fn same_memory(
+    corners: &[u16],
+    told: Answer,
+    table: &[u32],
+    list: &[u16],
+    costs: &[u32],
+    own: &[u16],
+) -> bool {
+    if told.number != 0 {
+        return true;
+    }
+    if different_shots(list, own, told.shots) != 0 {
+        return false;
+    }
+    let x_lines = second::count_lines(corners, 0);
+    let y_lines = second::count_lines(corners, 1);
+    different_costs(table, costs, x_lines, y_lines) == 0
+}
+
+// ---- the two fracturers, each with so many entries and numbers lent
+
+fn by_library(corners: &[u16], rule: Rule, table: &mut [u32], list: &mut [u16]) -> Answer {
+    match fracture::fracture(corners, rule.threshold, rule.weight, table, list) {
         Fractured::Done {
             shots,
             cost,
             sliver,
         } => Answer {
             number: 0,
-            shots: shots as usize,
-            cost: cost as usize,
-            sliver: sliver as usize,
+            shots,
+            cost,
+            sliver,
         },
-        Fractured::Refused(why, shots) => {
-            second::answered(refusal_no(why) as usize, shots as usize, 0, 0)
-        }
+        Fractured::Refused(why, shots) => Answer {
+            number: refusal_no(why),
+            shots,
+            cost: 0,
+            sliver: 0,
+        },
     }
 }
 
-fn by_library(corners: &[u16], asked: Asked, table: &mut [u32], list: &mut [u16]) -> Answer {
-    let threshold = (asked.threshold % 65536) as u32;
-    let weight = (asked.weight % 65536) as u32;
-    answered(fracture::fracture(corners, threshold, weight, table, list))
-}
-
-// The library's answer, with as much lent as is asked.
-fn first(corners: &[u16], asked: Asked, table: &mut [u32], list: &mut [u16]) -> Answer {
-    let entries = asked.entries;
-    let room = asked.room;
+fn first(
+    corners: &[u16],
+    rule: Rule,
+    entries: usize,
+    room: usize,
+    table: &mut [u32],
+    list: &mut [u16],
+) -> Answer {
     if table.len() < entries {
-        return second::answered(8, 0, 0, 0);
+        return second::refused(0);
     }
     if list.len() < room {
-        return second::answered(8, 0, 0, 0);
+        return second::refused(0);
     }
-    by_library(corners, asked, &mut table[..entries], &mut list[..room])
+    by_library(corners, rule, &mut table[..entries], &mut list[..room])
 }
 
-// ---- comparison
-
-fn same_answer(a: Answer, b: Answer) -> bool {
-    (a.number == b.number) & (a.shots == b.shots) & (a.cost == b.cost) & (a.sliver == b.sliver)
-}
-
-// Whether an answer is what document 01 says of a row; of an outline that is no row it says nothing.
-fn as_document(row: usize, told: Answer) -> bool {
-    let said = Answer {
-        number: document::row(row, 6),
-        shots: document::row(row, 7),
-        cost: document::row(row, 8),
-        sliver: document::row(row, 9),
-    };
-    (document::COUNT <= row) | same_answer(told, said)
-}
-
-// Whether the library's list is the second's and, of a row, the document's.
-fn same_list(list: &[u16], own: &Memory, row: usize, shots: usize) -> bool {
-    let numbers = shots % 1024 * 4;
-    let mut same = true;
-    for i in 0..numbers {
-        let v = guarded::place(list, i);
-        let said = (document::COUNT <= row) | (v == document::shot(row, i));
-        same = same & said & (v == second::get(own, second::LIST, i));
+fn again(
+    corners: &[u16],
+    rule: Rule,
+    entries: usize,
+    room: usize,
+    costs: &mut [u32],
+    list: &mut [u16],
+) -> Answer {
+    if list.len() < room {
+        return second::refused(0);
     }
-    same
-}
-
-// Whether the library's table has the second's costs, which stand in the same order with gaps.
-fn same_costs(table: &[u32; 14400], own: &Memory) -> bool {
-    let mut entry: usize = 0;
-    let mut same = true;
-    for p in 0..65536 {
-        let counts = second::is_piece(own, p);
-        let cost = table[entry % 14400] as usize;
-        same = same & (!counts | (cost == second::get(own, second::COST, p)));
-        entry = pick(counts, sum(entry, 1), entry);
-    }
-    same
-}
-
-// Fractures an outline by both, and compares; a row is held to document 01 too.
-fn compare(corners: &[u16], asked: Asked, row: usize) -> Compared {
-    let mut table = [0u32; 14400];
-    let mut list = [0u16; 900];
-    let mut own = [0usize; 458752];
-    let told = first(corners, asked, &mut table, &mut list);
-    let other = second::fracture(corners, asked, &mut own);
-    let filled = same_list(&list, &own, row, told.shots) & same_costs(&table, &own);
-    let same = same_answer(told, other) & as_document(row, told) & (filled | (told.number != 0));
-    Compared { told, same }
+    second::fracture(corners, rule, entries, costs, &mut list[..room])
 }
 
 // ---- printing
@@ -126,9 +188,16 @@ fn word(text: &[u8]) {
     io::write_all(1, text);
 }
 
-fn item(label: &[u8], n: usize) {
+fn item(label: &[u8], n: u32) {
     io::write_all(1, label);
     io::print_decimal(1, n as u64);
+}
+
+fn print_answer(told: Answer) {
+    item(b": number ", told.number);
+    item(b" shots ", told.shots);
+    item(b" cost ", told.cost);
+    item(b" sliver ", told.sliver);
 }
 
 fn print_tally(tally: Tally) {
@@ -139,15 +208,48 @@ fn print_tally(tally: Tally) {
     word(b" different\n");
 }
 
-fn print_row(k: usize, asked: Asked, compared: Compared) {
+// ---- the rows
+
+fn said(k: usize) -> Answer {
+    Answer {
+        number: document::row(k, 6),
+        shots: document::row(k, 7),
+        cost: document::row(k, 8),
+        sliver: document::row(k, 9),
+    }
+}
+
+// Whether an answer and its list are what document 01 says of a row; of an outline that is no row it says nothing.
+fn as_document(k: usize, told: Answer, list: &[u16]) -> bool {
+    if document::COUNT <= k {
+        return true;
+    }
+    if !same_answer(told, said(k)) {
+        return false;
+    }
+    if told.number != 0 {
+        return true;
+    }
+    different_from_document(list, document::row(k, 10), told.shots) == 0
+}
+
+fn counted(tally: Tally, compared: Compared) -> Tally {
     let told = compared.told;
-    item(b"row ", k);
-    item(b" rule ", asked.threshold);
-    item(b" ", asked.weight);
-    item(b": number ", told.number);
-    item(b" shots ", told.shots);
-    item(b" cost ", told.cost);
-    item(b" sliver ", told.sliver);
+    let same = compared.same;
+    Tally {
+        outlines: guarded::sum(tally.outlines, 1),
+        fractured: guarded::sum(tally.fractured, one_if(told.number == 0)),
+        shots: guarded::sum(tally.shots, told.shots),
+        different: guarded::sum(tally.different, one_if(!same)),
+    }
+}
+
+fn print_row(k: usize, rule: Rule, compared: Compared) {
+    let told = compared.told;
+    item(b"row ", (k % 1024) as u32);
+    item(b" rule ", rule.threshold);
+    item(b" ", rule.weight);
+    print_answer(told);
     if compared.same {
         word(b", the same\n");
     } else {
@@ -155,57 +257,83 @@ fn print_row(k: usize, asked: Asked, compared: Compared) {
     }
 }
 
-// ---- outlines of all sorts
-
-fn counted(tally: Tally, compared: Compared) -> Tally {
-    let told = compared.told;
-    Tally {
-        outlines: sum(tally.outlines, 1),
-        fractured: sum(tally.fractured, (told.number == 0) as usize),
-        shots: sum(tally.shots, told.shots),
-        different: sum(tally.different, !compared.same as usize),
-    }
+// Fractures an outline by both, and compares; a row is held to document 01 too.
+fn compare(corners: &[u16], rule: Rule, entries: usize, room: usize, row: usize) -> Compared {
+    let mut table = [0u32; 14400];
+    let mut list = [0u16; 900];
+    let mut costs = [0u32; 65536];
+    let mut own = [0u16; 900];
+    let told = first(corners, rule, entries, room, &mut table, &mut list);
+    let other = again(corners, rule, entries, room, &mut costs, &mut own);
+    let same = if !same_answer(told, other) {
+        false
+    } else if !as_document(row, told, &list) {
+        false
+    } else {
+        same_memory(corners, told, &table, &list, &costs, &own)
+    };
+    Compared { told, same }
 }
 
-fn run(sort: usize, k: usize, tally: Tally) -> Tally {
-    let mut corners = [0u16; 128];
-    drawings::draw(&mut corners, sort, k);
-    let outline = guarded::front(&corners, drawings::numbers(sort, k));
-    let asked = drawings::asked(sort, k);
-    let row = pick(sort == 0, k, document::COUNT);
-    let compared = compare(outline, asked, row);
-    if sort == 0 {
-        print_row(k, asked, compared);
-    }
+fn run_row(k: usize, tally: Tally) -> Tally {
+    let mut corners = [0u16; 64];
+    let n = document::draw(&mut corners, k);
+    let outline = guarded::front(&corners, n);
+    let threshold = document::row(k, 2);
+    let weight = document::row(k, 3);
+    let rule = Rule { threshold, weight };
+    let entries = document::row(k, 4) as usize;
+    let room = document::row(k, 5) as usize;
+    let compared = compare(outline, rule, entries, room, k);
+    print_row(k, rule, compared);
     counted(tally, compared)
 }
 
-fn run_all(sort: usize, count: usize) -> Tally {
-    let mut tally = Tally {
-        outlines: 0,
-        fractured: 0,
-        shots: 0,
-        different: 0,
-    };
+fn run_rows() -> Tally {
+    let count: usize = document::COUNT;
+    let mut tally = none();
     for k in 0..count {
-        tally = run(sort, k, tally);
+        tally = run_row(k, tally);
+    }
+    tally
+}
+
+// ---- made-up outlines
+
+fn run_made(sort: u32, seed: u64, tally: Tally) -> Tally {
+    let mut corners = [0u16; 128];
+    let n = made::draw(&mut corners, sort, seed);
+    let outline = guarded::front(&corners, n);
+    let threshold = made::threshold_of(seed);
+    let weight = made::weight_of(seed);
+    let rule = Rule { threshold, weight };
+    counted(tally, compare(outline, rule, 14400, 900, document::COUNT))
+}
+
+// Sixty outlines of a sort.
+fn run_sort(sort: u32) -> Tally {
+    let count: u64 = 60;
+    let mut tally = none();
+    for seed in 0..count {
+        tally = run_made(sort, seed, tally);
     }
     tally
 }
 
 // A sort with its name, and its tally.
-fn report(sort: usize, count: usize, name: &[u8]) {
-    let tally = run_all(sort, count);
+fn report_sort(sort: u32, name: &[u8]) {
     word(name);
-    print_tally(tally);
+    print_tally(run_sort(sort));
 }
 
 fn main() {
-    report(0, document::COUNT, b"document 01");
-    report(1, 60, b"crossing walks");
-    report(2, 60, b"touching walks");
-    report(3, 60, b"16 by 16 lines");
-    report(4, 60, b"combs");
-    report(5, 60, b"staircases");
-    report(6, 60, b"spoilt walks");
+    let tally = run_rows();
+    word(b"document 01");
+    print_tally(tally);
+    report_sort(0, b"crossing walks");
+    report_sort(1, b"touching walks");
+    report_sort(2, b"16 by 16 lines");
+    report_sort(3, b"combs");
+    report_sort(4, b"staircases");
+    report_sort(5, b"spoilt walks");
 }
