@@ -1,7 +1,7 @@
 -- A drawing keeps the lengths of the lists that it was lent. Assumes nothing.
 use mathlib.Core.Path.{sym}
 use borrow.Author.Needs.{needs}
-use Rattle.outline.specs.Promise.{lent}
+use Rattle.outline.specs.Promise.{sheet}
 use Rattle.outline.proofs.Memory.{drawing-lengths}
 use Rattle.walk.proofs.grid.Statement.{statement}
 use Rattle.walk.proofs.grid.Tie as tie
@@ -31,8 +31,8 @@ text-requires-2 : tie.Need-text-requires-2
 text-requires-2 c κs = search needs
 
 slice-aggregate-numbers-2 : tie.Need-slice-aggregate-numbers-2
-unfolding lent
-slice-aggregate-numbers-2 c = sym (drawing-lengths _ (lent _ _ _ _) (c .before .before .before .before .before .draw .ensures) .xs-length)
+unfolding sheet
+slice-aggregate-numbers-2 c = sym (drawing-lengths _ (sheet _ _ _ _) (c .before .before .before .before .before .draw .ensures) .xs-length)
 
 add-numbers : tie.Need-add-numbers
 add-numbers c = search needs
@@ -47,8 +47,8 @@ text-requires-3 : tie.Need-text-requires-3
 text-requires-3 c κs = search needs
 
 slice-aggregate-numbers-3 : tie.Need-slice-aggregate-numbers-3
-unfolding lent
-slice-aggregate-numbers-3 c = sym (drawing-lengths _ (lent _ _ _ _) (c .before .before .before .before .before .before .before .draw .ensures) .ys-length)
+unfolding sheet
+slice-aggregate-numbers-3 c = sym (drawing-lengths _ (sheet _ _ _ _) (c .before .before .before .before .before .before .before .draw .ensures) .ys-length)
 
 add-numbers-2 : tie.Need-add-numbers-2
 add-numbers-2 c = search needs
@@ -57,8 +57,8 @@ numbers-requires-3 : tie.Need-numbers-requires-3
 numbers-requires-3 c κs = search needs
 
 slice-aggregate-rows : tie.Need-slice-aggregate-rows
-unfolding lent
-slice-aggregate-rows c = sym (drawing-lengths _ (lent _ _ _ _) (c .before .before .before .before .before .draw .ensures) .cells-length)
+unfolding sheet
+slice-aggregate-rows c = sym (drawing-lengths _ (sheet _ _ _ _) (c .before .before .before .before .before .draw .ensures) .cells-length)
 
 rows-requires : tie.Need-rows-requires
 rows-requires c κs = search needs
