@@ -2,8 +2,7 @@
 --
 --   sliver-turn      == x for y
 --   sliver-most      == no more than what is exposed
---   sliver-spared    == a shot no side of which counts has no sliver length
---   spared-wide, spared-narrow == a shot that is wide enough is spared by its height, any other by its width: it is not
+--   spared-x, spared-y == sides that are spared have no influence on it
 --   narrow           == where a wider extent is below the threshold, so is a narrower one
 --   sliver-cut       == a cut across the width never lowers it, whatever the new sides have
 --   charge-least     == a shot costs something
@@ -37,24 +36,13 @@ module _ (r : Rule) where
   unfolding sliverOf
   sliver-most w h u l = omega (arith, only-most (ltb w (r .threshold)) u, only-most (ltb h (r .threshold)) l)
 
-  pub spared-wide : (w h : ℕ) → r .threshold ≤ w → leb (r .threshold) h ≡ spared r w h
-  unfolding spared
-  spared-wide w h k = simp le-leb
-
-  pub spared-narrow : (w h : ℕ) → w < r .threshold → leb (r .threshold) w ≡ spared r w h
-  unfolding spared
-  spared-narrow w h k = simp lt-leb
-
-  pub sliver-spared : (w h u l : ℕ) → spared r w h ≡ true → sliverOf r w h u l ≡ 0
+  pub spared-x : (w h u l : ℕ) → spared r w ≡ true → sliverOf r w h 0 l ≡ sliverOf r w h u l
   unfolding spared sliverOf
-  sliver-spared w h u l e = go (leb (r .threshold) w) refl (leb (r .threshold) h) refl e
-    where
-      go : (a : Bool) → leb (r .threshold) w ≡ a → (b : Bool) → leb (r .threshold) h ≡ b → (a && b) ≡ true
-          → only (ltb w (r .threshold)) u + only (ltb h (r .threshold)) l ≡ 0
-      go true p true q z =
-          rw (le-ltb w (r .threshold) (leb-true (r .threshold) w p), le-ltb h (r .threshold) (leb-true (r .threshold) h q))
-      go true p false q z = absurd (false≢true z)
-      go false p b q z = absurd (false≢true z)
+  spared-x w h u l e = rw (le-ltb w (r .threshold) (leb-true (r .threshold) w e))
+
+  pub spared-y : (w h u l : ℕ) → spared r h ≡ true → sliverOf r w h u 0 ≡ sliverOf r w h u l
+  unfolding spared sliverOf
+  spared-y w h u l e = rw (le-ltb h (r .threshold) (leb-true (r .threshold) h e))
 
   pub charge-least : (n : ℕ) → 1000 ≤ chargeOf r n
   unfolding chargeOf

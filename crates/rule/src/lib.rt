@@ -96,12 +96,12 @@ impl Rule {
         counted(width < threshold, upright) + counted(height < threshold, level)
     }
 
-    // Whether no side of a shot of this width and height counts, whatever is exposed: then its sides need not be measured.
-    pub fn spares(self, width: u32, height: u32) -> bool
-        ensures { λ r. ⌜ r ≡ spared self width height ⌝ }
+    // Whether two opposite sides that lie so far apart never count, whatever is exposed: then they need not be measured.
+    pub fn spares(self, extent: u32) -> bool
+        ensures { λ r. ⌜ r ≡ spared self extent ⌝ }
     {
         let threshold = self.threshold;
-        threshold <= width && threshold <= height
+        threshold <= extent
     }
 
     // What a shot of this sliver length costs, in thousandths of a shot.

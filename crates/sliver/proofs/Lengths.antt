@@ -5,11 +5,10 @@
 --   banded-x, banded-y        : the two bands of a piece
 --   x-ordered, y-ordered      : the places of its low lines are no higher than those of its high lines
 --   width-is, height-is       : they are its width and its height apart
---   sliver-none               : a piece that the rule spares has no sliver length
---   sliver-measured           : any other has what the rule makes of its two extents and of its sides
+--   sliver-measured           : its sliver length is what the rule makes of its two extents and of the sides that it does not spare
 use Prim.Native.Nat.{ℕ, zero, suc, _+_, _*_, _-_, _%_, _≤_, _<_}
 use mathlib.Core.Path.{_≡_, refl, ap, ap₂, sym, _∙_}
-use mathlib.Core.Bool.{Bool, true, false, _&&_, not}
+use mathlib.Core.Bool.{Bool, true, false, cond, _&&_, not}
 use mathlib.Core.List.{List}
 use native.Mathlib.Omega.{arith}
 use native.Mathlib.Nat.{one-mul}
@@ -20,10 +19,10 @@ use Rattle.sum.proofs.Sum.{over-same, rise}
 use Rattle.outline.specs.Grid.{Grid}
 use Rattle.rule.specs.declared.Rule.{Rule}
 use Rattle.rule.specs.Charge.{sliverOf, spared}
-use Rattle.rule.proofs.Charge.{sliver-spared}
+use Rattle.rule.proofs.Charge.{spared-x, spared-y}
 use Rattle.piece.specs.Piece.{Piece, lowSide, highSide, width, height, left, right, bottom, top, sliver}
 use Rattle.sliver.specs.declared.Band.{Band}
-use Rattle.sliver.specs.Sides.{Shown, exposedAt, exposedIn, Lies, lowOf, highOf, bothIn, Banded}
+use Rattle.sliver.specs.Sides.{Shown, exposedAt, exposedIn, Lies, lowOf, highOf, bothIn, countedIn, Banded}
 
 module _ (cells lines : List ℕ) (b : Band) (w : Banded cells lines b) where
   pub lies-low : Lies cells lines (lowOf b)
@@ -238,12 +237,24 @@ module _ (g : Grid) (xs ys cells : List ℕ) (p : Piece) (w : Shown g xs ys cell
       ap₂ (λ m n. m - n) (f ∙ w .drawn .y-at (p .d) (v .dy)) (e ∙ w .drawn .y-at (p .b) (omega (arith, v .bd, v .dy)))
 
   module _ (r : Rule) {m n : ℕ} (x : m ≡ width g (p .a) (p .c)) (y : n ≡ height g (p .b) (p .d)) where
-    pub sliver-none : spared r m n ≡ true → 0 ≡ sliver g r p
-    unfolding sliver
-    sliver-none e =
-        sym (sliver-spared r (width g (p .a) (p .c)) (height g (p .b) (p .d)) _ _ (sym (ap₂ (spared r) x y) ∙ e))
-
-    pub sliver-measured : {s u v : ℕ} → u ≡ bothIn cells ys band-x → v ≡ bothIn cells xs band-y → s ≡ sliverOf r m n u v → s ≡ sliver g r p
+    -- the sides of one pair, or 0 where the rule spares them
+    sliver-both : {s u v : ℕ} → u ≡ bothIn cells ys band-x → v ≡ bothIn cells xs band-y → s ≡ sliverOf r m n u v → s ≡ sliver g r p
     unfolding bothIn sliver
-    sliver-measured e f k =
+    sliver-both e f k =
         k ∙ rw (x, y, e, f, sides-x .0, sides-x .1, sides-y .0, sides-y .1)
+
+    pub sliver-measured : {s u v : ℕ} {t o : Bool} → t ≡ spared r m → o ≡ spared r n
+        → u ≡ countedIn cells ys band-x t → v ≡ countedIn cells xs band-y o → s ≡ sliverOf r m n u v → s ≡ sliver g r p
+    unfolding countedIn
+    sliver-measured {s} {u} {v} {t} {o} h k e f q = go t o h k e f
+      where
+        go : (t o : Bool) → t ≡ spared r m → o ≡ spared r n → u ≡ cond t 0 (bothIn cells ys band-x) → v ≡ cond o 0 (bothIn cells xs band-y)
+            → s ≡ sliver g r p
+        go true true h k e f =
+            sliver-both refl refl
+            (q ∙ ap₂ (sliverOf r m n) e f ∙ spared-x r m n (bothIn cells ys band-x) 0 (sym h) ∙ spared-y r m n (bothIn cells ys band-x) (bothIn cells xs band-y) (sym k))
+        go true false h k e f =
+            sliver-both refl refl (q ∙ ap₂ (sliverOf r m n) e f ∙ spared-x r m n (bothIn cells ys band-x) (bothIn cells xs band-y) (sym h))
+        go false true h k e f =
+            sliver-both refl refl (q ∙ ap₂ (sliverOf r m n) e f ∙ spared-y r m n (bothIn cells ys band-x) (bothIn cells xs band-y) (sym k))
+        go false false h k e f = sliver-both e f q

@@ -6,17 +6,20 @@
 --   exposed-none    : no stretch, no length
 --   exposed-more    : one stretch more
 --   exposed-all     : all stretches make the side
+--   counted-none, counted-both : sides that are spared, and sides that are not
 -- Assumes nothing.
 use Prim.Native.Nat.{ℕ, _+_, _*_, _-_, _≤_}
 use mathlib.Core.Path.{_≡_, ap, ap₂, sym, _∙_}
+use mathlib.Core.Bool.{Bool, true, false, cond}
 use mathlib.Core.List.{List}
 use native.Mathlib.Omega.{arith}
 use native.Mathlib.Numerals.{add-one}
 use lib.ListN.{getD}
 use borrow.Author.Tests.{eq-eqb, ne-eqb}
 use Rattle.sum.proofs.Sum.{over-none, over-last}
-use Rattle.sliver.specs.Sides.{exposedAt, exposedIn}
+use Rattle.sliver.specs.Sides.{exposedAt, exposedIn, bothIn, countedIn}
 use Rattle.sliver.specs.declared.Side.{Side}
+use Rattle.sliver.specs.declared.Band.{Band}
 
 module _ (near far low high : ℕ) where
   pub exposed-at : near ≡ 1 → far ≡ 0 → high - low ≡ exposedAt near far low high
@@ -53,3 +56,13 @@ pub exposed-all : (cells lines : List ℕ) (s : Side) (k : ℕ) {sum : ℕ} → 
 exposed-all cells lines s k h q e =
     let i : k ≡ s .to .0 = omega arith in
     e ∙ ap (λ (n : ℕ). exposedIn cells lines (record { near = s .near; far = s .far; step = s .step; from = s .from; to = record { 0 = n } })) i
+
+-- sides that are spared, and sides that are not
+module _ (cells lines : List ℕ) (b : Band) (t : Bool) where
+  pub counted-none : t ≡ true → 0 ≡ countedIn cells lines b t
+  unfolding countedIn
+  counted-none e = sym (ap (λ t. cond t 0 (bothIn cells lines b)) e)
+
+  pub counted-both : {r : ℕ} → t ≡ false → r ≡ bothIn cells lines b → r ≡ countedIn cells lines b t
+  unfolding countedIn
+  counted-both e f = f ∙ sym (ap (λ t. cond t 0 (bothIn cells lines b)) e)

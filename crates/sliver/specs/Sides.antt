@@ -7,10 +7,11 @@
 --   Lies c l s            == the side s lies within the cells c and the places l, and these rise
 --   lowOf b, highOf b     == the two sides of a band; across the lowest line lies the last column or row, where no cell is inside
 --   bothIn c l b          == the exposed length of both sides of the band b, over the cells c and the places l
+--   countedIn c l b t     == the same, or 0 where t says that these sides are spared
 --   Banded c l b          == the band b lies within the cells c and the places l, and these rise
 use Prim.Native.Nat.{ℕ, _+_, _*_, _-_, _%_, _≤_, _<_}
 use mathlib.Core.Path.{_≡_}
-use mathlib.Core.Bool.{_&&_}
+use mathlib.Core.Bool.{Bool, cond, _&&_}
 use mathlib.Core.List.{List}
 use lib.Dec.{eqb}
 use lib.ListN.{length, getD}
@@ -69,6 +70,9 @@ highOf b = record {
 
 unfoldable pub bothIn : List ℕ → List ℕ → Band → ℕ
 bothIn cells lines b = exposedIn cells lines (lowOf b) + exposedIn cells lines (highOf b)
+
+unfoldable pub countedIn : List ℕ → List ℕ → Band → Bool → ℕ
+countedIn cells lines b spared = cond spared 0 (bothIn cells lines b)
 
 pub record Banded (cells lines : List ℕ) (b : Band) : Type 0 where
   pub ordered : b .low .0 < b .high .0

@@ -10,7 +10,7 @@ ghost use Prim.Native.Nat.{_≤_};
 ghost use Rattle.outline.specs.Grid.{Grid};
 ghost use Rattle.piece.specs.Meant.{meant};
 ghost use Rattle.piece.specs.Piece.{sliver};
-ghost use Rattle.sliver.specs.Sides.{Shown, Seen, exposedAt, exposedIn, Lies, bothIn, Banded};
+ghost use Rattle.sliver.specs.Sides.{Shown, Seen, exposedAt, exposedIn, Lies, bothIn, countedIn, Banded};
 
 // The last column and row of cells lie beyond every frame: they stand in for the cells across the lowest line, of which there are none.
 const BEYOND: usize = 15;
@@ -108,7 +108,18 @@ fn both_sides(cells: &[u8], lines: &[u16], band: Band) -> u32
     low_side + high_side
 }
 
-// The sliver length of a shot, in nm, as the rule reckons it. The sides of a shot that the rule spares are not measured.
+// The same, but 0 for sides that the rule spares: they are not measured.
+fn counted_sides(cells: &[u8], lines: &[u16], band: Band, spared: bool) -> u32
+    requires { ⌜ Banded (now cells) (now lines) band ⌝ }
+    ensures { λ r. ⌜ (r ≡ countedIn (now (cells .entry)) (now (lines .entry)) band spared) × (r ≤ 1966050) ⌝ }
+{
+    if spared {
+        return 0;
+    }
+    both_sides(cells, lines, band)
+}
+
+// The sliver length of a shot, in nm, as the rule reckons it.
 pub fn sliver_of(cells: &[u8], xs: &[u16], ys: &[u16], rule: Rule, p: Piece) -> u32
     requires { ⌜ Seen (now xs) (now ys) (now cells) (meant p) ⌝ }
     ensures { λ n. ⌜ ((g : Grid) → Shown g (now (xs .entry)) (now (ys .entry)) (now (cells .entry)) (meant p) → n ≡ sliver g rule (meant p)) ⌝ }
@@ -123,10 +134,9 @@ pub fn sliver_of(cells: &[u8], xs: &[u16], ys: &[u16], rule: Rule, p: Piece) -> 
     let top = place_of(ys, d);
     let width = (right.0 - left.0) as u32;
     let height = (top.0 - bottom.0) as u32;
-    if rule.spares(width, height) {
-        return 0;
-    }
-    let upright = both_sides(
+    let wide = rule.spares(width);
+    let high = rule.spares(height);
+    let upright = counted_sides(
         cells,
         ys,
         Band {
@@ -137,8 +147,9 @@ pub fn sliver_of(cells: &[u8], xs: &[u16], ys: &[u16], rule: Rule, p: Piece) -> 
             across: MOST_LINES,
             along: 1,
         },
+        wide,
     );
-    let level = both_sides(
+    let level = counted_sides(
         cells,
         xs,
         Band {
@@ -149,6 +160,7 @@ pub fn sliver_of(cells: &[u8], xs: &[u16], ys: &[u16], rule: Rule, p: Piece) -> 
             across: 1,
             along: MOST_LINES,
         },
+        high,
     );
     rule.sliver(width, height, upright, level)
 }

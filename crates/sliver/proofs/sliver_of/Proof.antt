@@ -1,12 +1,12 @@
 -- `sliver::sliver_of` meets its contract. Assumes nothing.
-use mathlib.Core.Path.{_≡_, sym, _∙_}
+use mathlib.Core.Path.{_≡_}
 use Prim.Native.Nat.{_-_}
 use borrow.Author.Needs.{needs}
 use Rattle.outline.specs.Grid.{Grid}
 use Rattle.piece.specs.Meant.{meant}
 use Rattle.piece.specs.Piece.{width, height}
 use Rattle.sliver.specs.Sides.{Shown}
-use Rattle.sliver.proofs.Lengths.{banded-x, banded-y, x-ordered, y-ordered, width-is, height-is, sliver-none, sliver-measured}
+use Rattle.sliver.proofs.Lengths.{banded-x, banded-y, x-ordered, y-ordered, width-is, height-is, sliver-measured}
 use Rattle.sliver.proofs.sliver_of.Statement.{statement}
 use Rattle.sliver.proofs.sliver_of.Tie as tie
 
@@ -59,24 +59,25 @@ cast-height c = search needs
 spares-requires : tie.Need-spares-requires
 spares-requires c κs = search needs
 
-returns : tie.Need-returns
-returns c g w =
-    let k = c .before .before .before .before .before .before in
-    sliver-none g _ _ _ _ w _ (wide k g w) (high k g w) (sym (c .before .spares .ensures) ∙ c .if1 .taken)
+spares-requires-2 : tie.Need-spares-requires-2
+spares-requires-2 c κs = search needs
 
-both-sides-requires : tie.Need-both-sides-requires
-both-sides-requires c κs = banded-x _ _ _ _ _ (entry (c .before .before .before .before .before .before) .pre .shown)
+counted-sides-requires : tie.Need-counted-sides-requires
+counted-sides-requires c κs = banded-x _ _ _ _ _ (entry (c .before .before .before .before .before .before) .pre .shown)
 
-both-sides-requires-2 : tie.Need-both-sides-requires-2
-both-sides-requires-2 c κs = banded-y _ _ _ _ _ (entry (c .before .before .before .before .before .before .before) .pre .shown)
+counted-sides-requires-2 : tie.Need-counted-sides-requires-2
+counted-sides-requires-2 c κs = banded-y _ _ _ _ _ (entry (c .before .before .before .before .before .before .before) .pre .shown)
 
 sliver-requires : tie.Need-sliver-requires
 sliver-requires c κs = search needs
 
-returns-2 : tie.Need-returns-2
-returns-2 c g w =
+returns : tie.Need-returns
+returns c g w =
+    let l = c .before .before in
+    let u = l .before in
     let k = c .before .before .before .before .before .before .before .before .before in
-    sliver-measured g _ _ _ _ w _ (wide k g w) (high k g w) (c .before .before .both-sides .ensures .0) (c .before .both-sides2 .ensures .0)
+    sliver-measured g _ _ _ _ w _ (wide k g w) (high k g w) (u .before .spares .ensures) (u .spares2 .ensures)
+    (l .counted-sides .ensures .0) (c .before .counted-sides2 .ensures .0)
     (c .sliver .ensures)
 
 pub sliver-of-spec : {M : Type 1} → statement M
@@ -92,8 +93,8 @@ sliver-of-spec =
     sub-height
     cast-height
     spares-requires
-    returns
-    both-sides-requires
-    both-sides-requires-2
+    spares-requires-2
+    counted-sides-requires
+    counted-sides-requires-2
     sliver-requires
-    returns-2)
+    returns)
