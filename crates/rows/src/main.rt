@@ -1,339 +1,211 @@
 // Runs every row of document 01's table of drawings, and some hundred made-up outlines, by the library and by a second
 // fracturer that is written another way, and compares answer by answer, shot by shot and cost by cost.
 mod document;
+mod drawings;
 mod guarded;
-mod made;
 mod second;
 
 use fracture::Fractured;
+use guarded::pick;
+use guarded::sum;
 use refusal::refusal_no;
 use second::Answer;
-use second::Rule;
+use second::Asked;
+use second::Memory;
 
-// What has been compared so far.
-struct Tally {
-    outlines: u32,
-    fractured: u32,
-    shots: u32,
-    different: u32,
-}
-
-// What both answered, and whether all of it was the same.
+// What the library answered, and whether all of it was the same as the second's and the document's.
 struct Compared {
     told: Answer,
     same: bool,
 }
 
-fn none() -> Tally {
-    Tally {
-        outlines: 0,
-        fractured: 0,
-        shots: 0,
-        different: 0,
-    }
-}
+// ---- the library's answer
 
-fn one_if(v: bool) -> u32 {
-    if v { 1 } else { 0 }
-}
-
-// ---- comparison
-
-fn same_answer(a: Answer, b: Answer) -> bool {
-    if a.number != b.number {
-        return false;
-    }
-    if a.shots != b.shots {
-        return false;
-    }
-    if a.cost != b.cost {
-        return false;
-    }
-    a.sliver == b.sliver
-}
-
-// How many of the first 4 x shots numbers of two lists differ.
-fn different_shots(a: &[u16], b: &[u16], shots: u32) -> u32 {
-    let numbers = (shots % 1024 * 4) as usize;
-    let mut n: u32 = 0;
-    for i in 0..numbers {
-        n = guarded::sum(n, one_if(guarded::place(a, i) != guarded::place(b, i)));
-    }
-    n
-}
-
-// How many of them differ from what document 01 gives, from a place of its lists on.
-fn different_from_document(a: &[u16], start: u32, shots: u32) -> u32 {
-    let numbers = (shots % 1024 * 4) as usize;
-    let from = (start % 64) as usize;
-    let mut n: u32 = 0;
-    for i in 0..numbers {
-        n = guarded::sum(
-            n,
-            one_if(guarded::place(a, i) != document::shot(from + i % 4096)),
-        );
-    }
-    n
-}
-
-// Whether the piece of a place among the second's costs lies in a frame of so many lines.
-fn in_frame(n: usize, x_lines: usize, y_lines: usize) -> bool {
-    let p = second::piece_no(n);
-    if p.c <= p.a {
-        return false;
-    }
-    if p.d <= p.b {
-        return false;
-    }
-    if x_lines <= p.c {
-        return false;
-    }
-    p.d < y_lines
-}
-
-// How many entries of the table differ from the second's costs, which stand in the same order with gaps.
-fn different_costs(table: &[u32], costs: &[u32], x_lines: usize, y_lines: usize) -> u32 {
-    let places: usize = 65536;
-    let mut entry: usize = 0;
-    let mut n: u32 = 0;
-    for i in 0..places {
-        if in_frame(i, x_lines, y_lines) {
-            n = guarded::sum(
-                n,
-                one_if(guarded::number(table, entry) != guarded::number(costs, i)),
-            );
-            entry = entry % 65536 + 1;
-        }
-    }
-    n
-}
-
-// Whether table and list are the same too, as far as an answer says that they are filled.
-fn same_memory(
-    corners: &[u16],
-    told: Answer,
-    table: &[u32],
-    list: &[u16],
-    costs: &[u32],
-    own: &[u16],
-) -> bool {
-    if told.number != 0 {
-        return true;
-    }
-    if different_shots(list, own, told.shots) != 0 {
-        return false;
-    }
-    let x_lines = second::count_lines(corners, 0);
-    let y_lines = second::count_lines(corners, 1);
-    different_costs(table, costs, x_lines, y_lines) == 0
-}
-
-// ---- the two fracturers, each with so many entries and numbers lent
-
-fn by_library(corners: &[u16], rule: Rule, table: &mut [u32], list: &mut [u16]) -> Answer {
-    match fracture::fracture(corners, rule.threshold, rule.weight, table, list) {
+fn answered(by: Fractured) -> Answer {
+    match by {
         Fractured::Done {
             shots,
             cost,
             sliver,
         } => Answer {
             number: 0,
-            shots,
-            cost,
-            sliver,
+            shots: shots as usize,
+            cost: cost as usize,
+            sliver: sliver as usize,
         },
         Fractured::Refused(why, shots) => Answer {
-            number: refusal_no(why),
-            shots,
+            number: refusal_no(why) as usize,
+            shots: shots as usize,
             cost: 0,
             sliver: 0,
         },
     }
 }
 
-fn first(
-    corners: &[u16],
-    rule: Rule,
-    entries: usize,
-    room: usize,
-    table: &mut [u32],
-    list: &mut [u16],
-) -> Answer {
-    if table.len() < entries {
-        return second::refused(0);
-    }
-    if list.len() < room {
-        return second::refused(0);
-    }
-    by_library(corners, rule, &mut table[..entries], &mut list[..room])
+// ---- comparison
+
+fn same_answer(a: Answer, b: Answer) -> bool {
+    (a.number == b.number) & (a.shots == b.shots) & (a.cost == b.cost) & (a.sliver == b.sliver)
 }
 
-fn again(
-    corners: &[u16],
-    rule: Rule,
-    entries: usize,
-    room: usize,
-    costs: &mut [u32],
-    list: &mut [u16],
-) -> Answer {
-    if list.len() < room {
-        return second::refused(0);
+// Whether an answer is what document 01 says of a row; of an outline that is no row it says nothing.
+fn as_document(row: usize, told: Answer) -> bool {
+    let said = Answer {
+        number: document::row(row, 6),
+        shots: document::row(row, 7),
+        cost: document::row(row, 8),
+        sliver: document::row(row, 9),
+    };
+    (document::COUNT <= row) | same_answer(told, said)
+}
+
+// Whether the library's list is the second's and, of a row, the document's.
+fn same_list(list: &[u16; 900], own: &Memory, row: usize, shots: usize) -> bool {
+    let numbers = shots % 256 * 4;
+    let mut same = true;
+    for i in 0..numbers {
+        let v = guarded::place(list, i);
+        let said = (document::COUNT <= row) | (v == document::list(document::row(row, 10), i));
+        same = same & said & (v == second::listed(own, i));
     }
-    second::fracture(corners, rule, entries, costs, &mut list[..room])
+    same
+}
+
+// Whether the library's table has the second's costs, which stand in the same order with gaps.
+fn same_costs(table: &[u32; 14400], own: &Memory) -> bool {
+    let mut entry: usize = 0;
+    let mut same = true;
+    for p in 0..65536 {
+        let cost = second::get(own, second::BILL, p) / second::COST;
+        let gap = 4294967295 < cost;
+        same = same & (gap | ((cost % 4294967296) as u32 == table[entry % 14400]));
+        entry = pick(gap, entry, sum(entry, 1));
+    }
+    same
+}
+
+// Whether the second answers the same, with the same list and costs if there are any; and so does document 01 of a row.
+fn agrees(
+    corners: &[u16],
+    asked: Asked,
+    row: usize,
+    told: Answer,
+    table: &[u32; 14400],
+    list: &[u16; 900],
+) -> bool {
+    let mut own = [second::UNSETTLED; 132096];
+    let other = second::fracture(corners, asked, &mut own);
+    let filled = same_list(list, &own, row, told.shots) & same_costs(table, &own);
+    same_answer(told, other) & as_document(row, told) & (filled | (told.number != 0))
+}
+
+// Fractures an outline by the library, and compares.
+fn compare(corners: &[u16], asked: Asked, row: usize) -> Compared {
+    let mut table = [0u32; 14400];
+    let mut list = [0u16; 900];
+    let entries = asked.entries % 14401;
+    let room = asked.room % 901;
+    let threshold = (asked.threshold % 65536) as u32;
+    let weight = (asked.weight % 65536) as u32;
+    let told = answered(fracture::fracture(
+        corners,
+        threshold,
+        weight,
+        &mut table[..entries],
+        &mut list[..room],
+    ));
+    let same = agrees(corners, asked, row, told, &table, &list);
+    Compared { told, same }
 }
 
 // ---- printing
 
-fn word(text: &[u8]) {
-    io::write_all(1, text);
+// The forms of what is printed, a line each; a number goes where # stands.
+fn form(i: usize) -> u8 {
+    let forms = b"row # rule # #: number # shots # cost # sliver #, DIFFERENT\n\
+        row # rule # #: number # shots # cost # sliver #, the same\n\
+        document 01: # outlines, # fractured, # shots, # different\n\
+        crossing walks: # outlines, # fractured, # shots, # different\n\
+        touching walks: # outlines, # fractured, # shots, # different\n\
+        16 by 16 lines: # outlines, # fractured, # shots, # different\n\
+        combs: # outlines, # fractured, # shots, # different\n\
+        staircases: # outlines, # fractured, # shots, # different\n\
+        spoilt walks: # outlines, # fractured, # shots, # different\n";
+    if i < forms.len() { forms[i] } else { 0 }
 }
 
-fn item(label: &[u8], n: u32) {
-    io::write_all(1, label);
-    io::print_decimal(1, n as u64);
+// Prints a byte of a form, or a number instead of a #; gives how many numbers that was.
+fn print_byte(byte: u8, number: usize) -> usize {
+    if byte == b'#' {
+        io::print_decimal(1, number as u64);
+        return 1;
+    }
+    io::write_all(1, &[byte; 1]);
+    0
 }
 
-fn print_answer(told: Answer) {
-    item(b": number ", told.number);
-    item(b" shots ", told.shots);
-    item(b" cost ", told.cost);
-    item(b" sliver ", told.sliver);
-}
-
-fn print_tally(tally: Tally) {
-    item(b": ", tally.outlines);
-    item(b" outlines, ", tally.fractured);
-    item(b" fractured, ", tally.shots);
-    item(b" shots, ", tally.different);
-    word(b" different\n");
-}
-
-// ---- the rows
-
-fn said(k: usize) -> Answer {
-    Answer {
-        number: document::row(k, 6),
-        shots: document::row(k, 7),
-        cost: document::row(k, 8),
-        sliver: document::row(k, 9),
+// Prints a line by its form.
+fn print(line: usize, numbers: [usize; 7]) {
+    let mut here: usize = 0;
+    let mut next: usize = 0;
+    for i in 0..600 {
+        let byte = form(i);
+        if here == line {
+            next = sum(next, print_byte(byte, numbers[next % 7]));
+        }
+        here = sum(here, (byte == b'\n') as usize);
     }
 }
 
-// Whether an answer and its list are what document 01 says of a row; of an outline that is no row it says nothing.
-fn as_document(k: usize, told: Answer, list: &[u16]) -> bool {
-    if document::COUNT <= k {
-        return true;
-    }
-    if !same_answer(told, said(k)) {
-        return false;
-    }
-    if told.number != 0 {
-        return true;
-    }
-    different_from_document(list, document::row(k, 10), told.shots) == 0
-}
+// ---- outlines of all sorts
 
-fn counted(tally: Tally, compared: Compared) -> Tally {
-    let told = compared.told;
-    let same = compared.same;
-    Tally {
-        outlines: guarded::sum(tally.outlines, 1),
-        fractured: guarded::sum(tally.fractured, one_if(told.number == 0)),
-        shots: guarded::sum(tally.shots, told.shots),
-        different: guarded::sum(tally.different, one_if(!same)),
-    }
-}
-
-fn print_row(k: usize, rule: Rule, compared: Compared) {
-    let told = compared.told;
-    item(b"row ", (k % 1024) as u32);
-    item(b" rule ", rule.threshold);
-    item(b" ", rule.weight);
-    print_answer(told);
-    if compared.same {
-        word(b", the same\n");
-    } else {
-        word(b", DIFFERENT\n");
-    }
-}
-
-// Fractures an outline by both, and compares; a row is held to document 01 too.
-fn compare(corners: &[u16], rule: Rule, entries: usize, room: usize, row: usize) -> Compared {
-    let mut table = [0u32; 14400];
-    let mut list = [0u16; 900];
-    let mut costs = [0u32; 65536];
-    let mut own = [0u16; 900];
-    let told = first(corners, rule, entries, room, &mut table, &mut list);
-    let other = again(corners, rule, entries, room, &mut costs, &mut own);
-    let same = if !same_answer(told, other) {
-        false
-    } else if !as_document(row, told, &list) {
-        false
-    } else {
-        same_memory(corners, told, &table, &list, &costs, &own)
-    };
-    Compared { told, same }
-}
-
-fn run_row(k: usize, tally: Tally) -> Tally {
-    let mut corners = [0u16; 64];
-    let n = document::draw(&mut corners, k);
-    let outline = guarded::front(&corners, n);
-    let threshold = document::row(k, 2);
-    let weight = document::row(k, 3);
-    let rule = Rule { threshold, weight };
-    let entries = document::row(k, 4) as usize;
-    let room = document::row(k, 5) as usize;
-    let compared = compare(outline, rule, entries, room, k);
-    print_row(k, rule, compared);
-    counted(tally, compared)
-}
-
-fn run_rows() -> Tally {
-    let count: usize = document::COUNT;
-    let mut tally = none();
-    for k in 0..count {
-        tally = run_row(k, tally);
-    }
-    tally
-}
-
-// ---- made-up outlines
-
-fn run_made(sort: u32, seed: u64, tally: Tally) -> Tally {
+// Runs an outline, and prints what came of it if it is a row.
+fn run(sort: usize, k: usize) -> Compared {
     let mut corners = [0u16; 128];
-    let n = made::draw(&mut corners, sort, seed);
-    let outline = guarded::front(&corners, n);
-    let threshold = made::threshold_of(seed);
-    let weight = made::weight_of(seed);
-    let rule = Rule { threshold, weight };
-    counted(tally, compare(outline, rule, 14400, 900, document::COUNT))
-}
-
-// Sixty outlines of a sort.
-fn run_sort(sort: u32) -> Tally {
-    let count: u64 = 60;
-    let mut tally = none();
-    for seed in 0..count {
-        tally = run_made(sort, seed, tally);
+    let count = drawings::draw(&mut corners, sort, k) % 129;
+    let asked = drawings::asked(sort, k);
+    let compared = compare(
+        &corners[..count],
+        asked,
+        pick(sort == 0, k, document::COUNT),
+    );
+    if sort == 0 {
+        let told = compared.told;
+        let numbers = [
+            k,
+            asked.threshold,
+            asked.weight,
+            told.number,
+            told.shots,
+            told.cost,
+            told.sliver,
+        ];
+        print(compared.same as usize, numbers);
     }
-    tally
+    compared
 }
 
-// A sort with its name, and its tally.
-fn report_sort(sort: u32, name: &[u8]) {
-    word(name);
-    print_tally(run_sort(sort));
+// Runs the outlines of a sort, and prints what came of them.
+fn report(sort: usize, count: usize) {
+    let mut fractured: usize = 0;
+    let mut shots: usize = 0;
+    let mut different: usize = 0;
+    for k in 0..count {
+        let compared = run(sort, k);
+        let told = compared.told;
+        fractured = sum(fractured, (told.number == 0) as usize);
+        shots = sum(shots, told.shots);
+        different = sum(different, !compared.same as usize);
+    }
+    print(sum(sort, 2), [count, fractured, shots, different, 0, 0, 0]);
 }
 
 fn main() {
-    let tally = run_rows();
-    word(b"document 01");
-    print_tally(tally);
-    report_sort(0, b"crossing walks");
-    report_sort(1, b"touching walks");
-    report_sort(2, b"16 by 16 lines");
-    report_sort(3, b"combs");
-    report_sort(4, b"staircases");
-    report_sort(5, b"spoilt walks");
+    report(0, document::COUNT);
+    report(1, 60);
+    report(2, 60);
+    report(3, 60);
+    report(4, 60);
+    report(5, 60);
+    report(6, 60);
 }

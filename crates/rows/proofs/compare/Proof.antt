@@ -1,77 +1,52 @@
 -- `compare` is safe. Assumes nothing.
+use mathlib.Core.Path.{sym}
+use native.Mathlib.Omega.{arith}
+use lib.Seq.{length-take-le}
 use borrow.Author.Needs.{needs}
 use Rattle.rows.proofs.compare.Statement.{statement}
 use Rattle.rows.proofs.compare.Tie as tie
 
-slice-aggregate-first : tie.Need-slice-aggregate-first
-slice-aggregate-first c = search needs
+cast-threshold : tie.Need-cast-threshold
+cast-threshold c = search needs
 
-slice-aggregate-first-2 : tie.Need-slice-aggregate-first-2
-slice-aggregate-first-2 c = search needs
+cast-weight : tie.Need-cast-weight
+cast-weight c = search needs
 
-first-requires : tie.Need-first-requires
-first-requires c κs = search needs
+array-borrow-prefix-table : tie.Need-array-borrow-prefix-table
+array-borrow-prefix-table c = search needs
 
-slice-aggregate-again : tie.Need-slice-aggregate-again
-slice-aggregate-again c = search needs
+slice-aggregate-fracture : tie.Need-slice-aggregate-fracture
+slice-aggregate-fracture c = sym (length-take-le _ _ (omega arith))
 
-slice-aggregate-again-2 : tie.Need-slice-aggregate-again-2
-slice-aggregate-again-2 c = search needs
+array-borrow-prefix-list : tie.Need-array-borrow-prefix-list
+array-borrow-prefix-list c = search needs
 
-again-requires : tie.Need-again-requires
-again-requires c κs = search needs
+slice-aggregate-fracture-2 : tie.Need-slice-aggregate-fracture-2
+slice-aggregate-fracture-2 c = sym (length-take-le _ _ (omega arith))
 
-same-answer-requires : tie.Need-same-answer-requires
-same-answer-requires c κs = search needs
+fracture-requires : tie.Need-fracture-requires
+fracture-requires c κs = search needs
 
-slice-aggregate-as-document : tie.Need-slice-aggregate-as-document
-slice-aggregate-as-document c = search needs
+answered-requires : tie.Need-answered-requires
+answered-requires c κs = search needs
 
-as-document-requires : tie.Need-as-document-requires
-as-document-requires c κs = search needs
-
-slice-aggregate-same-memory : tie.Need-slice-aggregate-same-memory
-slice-aggregate-same-memory c = search needs
-
-slice-aggregate-same-memory-2 : tie.Need-slice-aggregate-same-memory-2
-slice-aggregate-same-memory-2 c = search needs
-
-slice-aggregate-same-memory-3 : tie.Need-slice-aggregate-same-memory-3
-slice-aggregate-same-memory-3 c = search needs
-
-slice-aggregate-same-memory-4 : tie.Need-slice-aggregate-same-memory-4
-slice-aggregate-same-memory-4 c = search needs
-
-same-memory-requires : tie.Need-same-memory-requires
-same-memory-requires c κs = search needs
+agrees-requires : tie.Need-agrees-requires
+agrees-requires c κs = search needs
 
 returns : tie.Need-returns
 returns c = search needs
-
-returns-2 : tie.Need-returns-2
-returns-2 c = search needs
-
-returns-3 : tie.Need-returns-3
-returns-3 c = search needs
 
 pub compare-spec : {M : Type 1} → statement M
 compare-spec =
     tie.close
     (tie.spec
-    slice-aggregate-first
-    slice-aggregate-first-2
-    first-requires
-    slice-aggregate-again
-    slice-aggregate-again-2
-    again-requires
-    same-answer-requires
-    slice-aggregate-as-document
-    as-document-requires
-    slice-aggregate-same-memory
-    slice-aggregate-same-memory-2
-    slice-aggregate-same-memory-3
-    slice-aggregate-same-memory-4
-    same-memory-requires
-    returns
-    returns-2
-    returns-3)
+    cast-threshold
+    cast-weight
+    array-borrow-prefix-table
+    slice-aggregate-fracture
+    array-borrow-prefix-list
+    slice-aggregate-fracture-2
+    fracture-requires
+    answered-requires
+    agrees-requires
+    returns)
