@@ -1,5 +1,12 @@
-/* Pinarewhemi: right-angled outlines into rectangular shots for a variable shaped beam writer,
+/* Pinarewhemi: right-angled figures into rectangular shots for a variable shaped beam writer,
  * and the job bytes that carry them.
+ *
+ * A figure is handed over in two slices: the corners of its 1 to 8 rings, one ring after the other,
+ * as x, y, x, y, .., and the ring lengths beside them, counted in corners (not in numbers): 4 to 32
+ * each and 32 in all. The last corner of a ring joins its first. A cell is inside when the number of
+ * vertical edges, of all rings, at or left of its low x whose span covers its y range is odd: a ring
+ * within a ring is a window. A figure of one ring is an outline, and so is called, in a job and in the
+ * names below, a figure of several.
  *
  * Every call returns 0 on success and otherwise the number of its refusal (enum pw_refusal below).
  * No call keeps anything between calls, allocates, or blocks; calls on separate memory may run at
@@ -38,7 +45,8 @@ extern "C" {
 enum pw_refusal {
   PW_OK = 0,
   PW_RULE = 1,          /* threshold or weight above 1000 */
-  PW_LENGTH = 2,        /* list of corners odd in length, under 8 numbers or over 64 */
+  PW_LENGTH = 2,        /* no ring or over 8, a ring under 4 corners or over 32, over 32 in all, or a list of
+                           corners that is not 2 numbers for each */
   PW_SLANTED = 3,       /* an edge changes both coordinates */
   PW_STRAIGHT = 4,      /* an edge changes neither, or two neighbours change the same one */
   PW_EMPTY = 5,         /* no cell is inside */
@@ -54,30 +62,33 @@ enum pw_refusal {
   PW_NO_PRESET = 15     /* preset number above 3 */
 };
 
-/* Room that is enough for every outline and every job. */
+/* Room that is enough for every figure and every job. */
 enum pw_room {
   PW_TABLE_ENTRIES = 14400,  /* 16 lines each way: 120 x 120 pieces */
   PW_LIST_NUMBERS = 900,     /* 225 shots of 4 numbers */
   PW_CORNER_NUMBERS = 64,    /* 32 corners of 2 numbers */
+  PW_RING_LENGTHS = 8,       /* 8 rings */
   PW_HEADER_BYTES = 6,       /* threshold, weight and count of outlines */
-  PW_OUTLINE_BYTES = 193,    /* V and 64 coordinates of 3 bytes */
+  PW_OUTLINE_BYTES = 202,    /* 0, R, 8 times V, and 64 coordinates of 3 bytes */
   PW_JOB_BYTES = 4096
 };
 
 /* The rule of a preset, 0 to 3. Refuses: PW_NO_PRESET. */
 uint32_t pw_preset(uint32_t number, uint32_t *threshold, uint32_t *weight);
 
-/* Fractures the outline corners[0..corners_len) = x, y, x, y, .. by the rule (threshold in nm,
- * weight in thousandths of a shot per nm of sliver length). Afterwards the front of table holds the
- * cost of every piece, the front of list 4 numbers for each shot (x low, y low, x high, y high);
- * shots, cost (thousandths of a shot) and sliver (nm) are their count and sums.
- * Refuses: PW_RULE to PW_LIST_SHORT, the first that holds. */
-uint32_t pw_fracture(const uint16_t *corners, size_t corners_len, uint32_t threshold, uint32_t weight,
+/* Fractures the figure of corners[0..corners_len) = x, y, x, y, .. and of the ring lengths
+ * rings[0..rings_len) by the rule (threshold in nm, weight in thousandths of a shot per nm of sliver
+ * length). Afterwards the front of table holds the cost of every piece, the front of list 4 numbers
+ * for each shot (x low, y low, x high, y high); shots, cost (thousandths of a shot) and sliver (nm)
+ * are their count and sums.
+ * Refuses: PW_RULE to PW_LIST_SHORT, the first that holds, each tried over all rings. */
+uint32_t pw_fracture(const uint16_t *corners, size_t corners_len, const uint16_t *rings, size_t rings_len,
+                     uint32_t threshold, uint32_t weight,
                      uint32_t *table, size_t table_len, uint16_t *list, size_t list_len,
                      uint32_t *shots, uint32_t *cost, uint32_t *sliver);
 
 /* The same by the default rule, preset 0. Refuses: PW_LENGTH to PW_LIST_SHORT. */
-uint32_t pw_fracture_default(const uint16_t *corners, size_t corners_len,
+uint32_t pw_fracture_default(const uint16_t *corners, size_t corners_len, const uint16_t *rings, size_t rings_len,
                      uint32_t *table, size_t table_len, uint16_t *list, size_t list_len,
                      uint32_t *shots, uint32_t *cost, uint32_t *sliver);
 
@@ -90,21 +101,27 @@ uint32_t pw_number(const uint8_t *bytes, size_t len, size_t at, uint32_t *value,
  * Refuses: PW_JOB_LONG, then PW_BYTES_END to PW_BYTES_LEFT with the offset. */
 uint32_t pw_job_check(const uint8_t *job, size_t len, uint32_t *threshold, uint32_t *weight, uint32_t *outlines, size_t *offset);
 
-/* Where outline k of a job lies: job[start .. start + length), from its V to its last coordinate.
- * The whole job is checked first. Refuses as pw_job_check, then PW_NO_OUTLINE. */
+/* Where outline k of a job lies: job[start .. start + length), from its V (the 0 that announces its
+ * rings, where it has several) to its last coordinate. The whole job is checked first.
+ * Refuses as pw_job_check, then PW_NO_OUTLINE. */
 uint32_t pw_job_outline(const uint8_t *job, size_t len, size_t k, size_t *start, size_t *length, size_t *offset);
 
-/* Unpacks such a part: its coordinates to the front of list, and V, the number of corners.
- * Refuses: PW_BYTES_END to PW_BYTES_LEFT with the offset in the part, then PW_BUFFER_SHORT. */
-uint32_t pw_unpack(const uint8_t *part, size_t len, uint16_t *list, size_t list_len, uint32_t *corners, size_t *offset);
+/* Unpacks such a part: its coordinates to the front of list, its ring lengths to the front of rings,
+ * and the number of corners in all and of rings.
+ * Refuses: PW_BYTES_END to PW_BYTES_LEFT with the offset in the part, then PW_BUFFER_SHORT where
+ * either slice is too short; neither is written then. */
+uint32_t pw_unpack(const uint8_t *part, size_t len, uint16_t *list, size_t list_len, uint16_t *rings, size_t rings_len,
+                   uint32_t *corners, uint32_t *ring_count, size_t *offset);
 
 /* Writes the header of a job. Refuses: PW_RULE, PW_OUT_OF_RANGE (outlines above 255),
  * PW_BUFFER_SHORT. */
 uint32_t pw_write_header(uint32_t threshold, uint32_t weight, uint32_t outlines, uint8_t *out, size_t out_len, size_t *written);
 
-/* Writes one outline of a job: V and its coordinates. Only the length of the list of corners is
+/* Writes one outline of a job: V and its coordinates for one ring; for several a 0, their number,
+ * and V and coordinates of each. Only the ring lengths and the length of the list of corners are
  * looked at. Refuses: PW_LENGTH, PW_BUFFER_SHORT. */
-uint32_t pw_write_outline(const uint16_t *corners, size_t corners_len, uint8_t *out, size_t out_len, size_t *written);
+uint32_t pw_write_outline(const uint16_t *corners, size_t corners_len, const uint16_t *rings, size_t rings_len,
+                          uint8_t *out, size_t out_len, size_t *written);
 
 #ifdef __cplusplus
 }

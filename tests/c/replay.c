@@ -1,5 +1,5 @@
 /* Replays recorded calls against the archive that is linked: standard input holds calls of the C
- * interface with the outcomes that document 01 gives them (compare --record writes it, and says
+ * interface with the outcomes that the documents give them (compare --record writes it, and says
  * the layout). Each lent buffer is filled with a pattern, 16 elements before and beyond it too, and
  * a hash over all of it is compared. The last line counts what was replayed; the status is 0 if all
  * was the same. */
@@ -8,11 +8,9 @@
 
 enum { MARGIN = 16, MOST = 80000 };
 
-static uint8_t room8[MOST];
-static uint16_t room16[MOST];
-static uint32_t room32[MOST];
 static uint8_t bytes[MOST];
 static uint16_t corners[MOST];
+static uint16_t rings[MOST];
 
 /* ---- standard input, a word of 32 bits at a time */
 
@@ -46,26 +44,30 @@ static void read_bytes(size_t n) {
   }
 }
 
-static void read_corners(size_t n) {
-  for (size_t i = 0; i < n; i++) corners[i] = (uint16_t)word();
+/* A drawing: its coordinates, and its ring lengths. */
+static void read_drawing(size_t corners_len, size_t rings_len) {
+  for (size_t i = 0; i < corners_len; i++) corners[i] = (uint16_t)word();
+  for (size_t i = 0; i < rings_len; i++) rings[i] = (uint16_t)word();
 }
 
-/* ---- lent buffers */
+/* ---- lent buffers: bytes written, the cost table, the list of shots or corners, ring lengths */
 
-#define ROOM(bits)                                                             \
-  static uint##bits##_t *lend##bits(size_t length, uint32_t mark) {            \
+#define ROOM(name, bits)                                                       \
+  static uint##bits##_t room_of_##name[MOST];                                  \
+  static uint##bits##_t *lend_##name(size_t length, uint32_t mark) {           \
     for (size_t i = 0; i < length + 2 * MARGIN; i++)                           \
-      room##bits[i] = (uint##bits##_t)((mark + (uint32_t)i * 2654435761u) >> (32 - bits)); \
-    return room##bits + MARGIN;                                                \
+      room_of_##name[i] = (uint##bits##_t)((mark + (uint32_t)i * 2654435761u) >> (32 - bits)); \
+    return room_of_##name + MARGIN;                                            \
   }                                                                            \
-  static uint32_t hash##bits(size_t length) {                                  \
+  static uint32_t hash_##name(size_t length) {                                 \
     uint32_t h = 2166136261u;                                                  \
-    for (size_t i = 0; i < length + 2 * MARGIN; i++) h = (h ^ room##bits[i]) * 16777619u; \
+    for (size_t i = 0; i < length + 2 * MARGIN; i++) h = (h ^ room_of_##name[i]) * 16777619u; \
     return h;                                                                  \
   }
-ROOM(8)
-ROOM(16)
-ROOM(32)
+ROOM(out, 8)
+ROOM(table, 32)
+ROOM(list, 16)
+ROOM(lengths, 16)
 
 /* ---- comparison */
 
@@ -90,21 +92,21 @@ static void expect(const char *what, uint64_t told) {
 
 static void fracture(int named) {
   uint32_t threshold = named ? word() : 0, weight = named ? word() : 0;
-  size_t corners_len = size(), table_len = size(), list_len = size();
+  size_t corners_len = size(), rings_len = size(), table_len = size(), list_len = size();
   uint32_t mark = word();
-  read_corners(corners_len);
+  read_drawing(corners_len, rings_len);
   uint32_t shots = 77, cost = 77, sliver = 77;
-  uint32_t *table = lend32(table_len, mark);
-  uint16_t *list = lend16(list_len, mark);
-  expect("fracture", named ? pw_fracture(corners, corners_len, threshold, weight, table, table_len, list, list_len,
-                                         &shots, &cost, &sliver)
-                           : pw_fracture_default(corners, corners_len, table, table_len, list, list_len,
-                                                 &shots, &cost, &sliver));
+  uint32_t *table = lend_table(table_len, mark);
+  uint16_t *list = lend_list(list_len, mark);
+  expect("fracture", named ? pw_fracture(corners, corners_len, rings, rings_len, threshold, weight,
+                                         table, table_len, list, list_len, &shots, &cost, &sliver)
+                           : pw_fracture_default(corners, corners_len, rings, rings_len,
+                                                 table, table_len, list, list_len, &shots, &cost, &sliver));
   expect("shots", shots);
   expect("cost", cost);
   expect("sliver", sliver);
-  expect("table", hash32(table_len));
-  expect("list", hash16(list_len));
+  expect("table", hash_table(table_len));
+  expect("list", hash_list(list_len));
 }
 
 static void preset(void) {
@@ -145,31 +147,35 @@ static void job_outline(void) {
 }
 
 static void unpack(void) {
-  size_t len = size(), list_len = size(), offset = 77;
-  uint32_t count = 77, mark = word();
+  size_t len = size(), list_len = size(), lengths_len = size(), offset = 77;
+  uint32_t count = 77, ring_count = 77, mark = word();
   read_bytes(len);
-  expect("unpack", pw_unpack(bytes, len, lend16(list_len, mark), list_len, &count, &offset));
+  expect("unpack", pw_unpack(bytes, len, lend_list(list_len, mark), list_len, lend_lengths(lengths_len, mark),
+                             lengths_len, &count, &ring_count, &offset));
   expect("corners", count);
+  expect("ring count", ring_count);
   expect("offset", offset);
-  expect("list", hash16(list_len));
+  expect("list", hash_list(list_len));
+  expect("ring lengths", hash_lengths(lengths_len));
 }
 
 static void write_header(void) {
   uint32_t threshold = word(), weight = word(), outlines = word();
   size_t out_len = size(), written = 77;
   uint32_t mark = word();
-  expect("write header", pw_write_header(threshold, weight, outlines, lend8(out_len, mark), out_len, &written));
+  expect("write header", pw_write_header(threshold, weight, outlines, lend_out(out_len, mark), out_len, &written));
   expect("written", written);
-  expect("out", hash8(out_len));
+  expect("out", hash_out(out_len));
 }
 
 static void write_outline(void) {
-  size_t corners_len = size(), out_len = size(), written = 77;
+  size_t corners_len = size(), rings_len = size(), out_len = size(), written = 77;
   uint32_t mark = word();
-  read_corners(corners_len);
-  expect("write outline", pw_write_outline(corners, corners_len, lend8(out_len, mark), out_len, &written));
+  read_drawing(corners_len, rings_len);
+  expect("write outline", pw_write_outline(corners, corners_len, rings, rings_len, lend_out(out_len, mark), out_len,
+                                           &written));
   expect("written", written);
-  expect("out", hash8(out_len));
+  expect("out", hash_out(out_len));
 }
 
 int main(void) {

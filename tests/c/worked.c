@@ -1,51 +1,71 @@
-/* The worked example of document 01 through the C interface: reads the job, fractures its outline
- * by its rule, and prints what the job program prints. The status is 0 if every call answered 0. */
+/* The worked examples through the C interface: drawing L of document 01, and a frame with a window.
+ * Each job is read, its outlines are fractured by its rule, and what the job program prints is
+ * printed. The status is 0 if every call answered 0 and every outline was written back to its bytes. */
 #include "../../include/pinarewhemi.h"
 #include "plain.h"
 
 static uint32_t table[PW_TABLE_ENTRIES];
 static uint16_t list[PW_LIST_NUMBERS];
 
-static const uint8_t job[] = {0x19, 0x28, 0x01, 0x06, 0x00, 0x00, 0x64, 0x00,
-                              0x64, 0x14, 0x3C, 0x14, 0x3C, 0x50, 0x00, 0x50};
+static const uint8_t drawing_l[] = {0x19, 0x28, 0x01, 0x06, 0x00, 0x00, 0x64, 0x00,
+                                    0x64, 0x14, 0x3C, 0x14, 0x3C, 0x50, 0x00, 0x50};
+static const uint8_t framed[] = {0x19, 0x28, 0x01, 0x00, 0x02, 0x04, 0x00, 0x00, 0x64, 0x00, 0x64, 0x64,
+                                 0x00, 0x64, 0x04, 0x1E, 0x1E, 0x46, 0x1E, 0x46, 0x46, 0x1E, 0x46};
 
-int main(void) {
+static void print_shots(size_t k, uint32_t shots, uint32_t cost, uint32_t sliver) {
+  say("outline ");
+  say_number(k);
+  say(" shots ");
+  say_number(shots);
+  say(" cost ");
+  say_number(cost);
+  say(" sliver ");
+  say_number(sliver);
+  say("\n");
+  for (uint32_t i = 0; i < 4 * shots; i++) {
+    say_number(list[i]);
+    say(i % 4 == 3 ? "\n" : " ");
+  }
+}
+
+static int run(const uint8_t *job, size_t len) {
   uint32_t threshold, weight, outlines;
   size_t offset;
-  if (pw_job_check(job, sizeof job, &threshold, &weight, &outlines, &offset)) return 1;
+  if (pw_job_check(job, len, &threshold, &weight, &outlines, &offset)) return 1;
   say("job ");
   say_number(outlines);
   say("\n");
   for (size_t k = 0; k < outlines; k++) {
     size_t start, length;
-    uint16_t corners[PW_CORNER_NUMBERS];
-    uint32_t count, shots, cost, sliver;
-    if (pw_job_outline(job, sizeof job, k, &start, &length, &offset)) return 2;
-    if (pw_unpack(job + start, length, corners, PW_CORNER_NUMBERS, &count, &offset)) return 3;
-    if (pw_fracture(corners, 2 * (size_t)count, threshold, weight, table, PW_TABLE_ENTRIES, list, PW_LIST_NUMBERS,
-                    &shots, &cost, &sliver))
+    uint16_t corners[PW_CORNER_NUMBERS], rings[PW_RING_LENGTHS];
+    uint32_t count, ring_count, shots, cost, sliver;
+    if (pw_job_outline(job, len, k, &start, &length, &offset)) return 2;
+    if (pw_unpack(job + start, length, corners, PW_CORNER_NUMBERS, rings, PW_RING_LENGTHS, &count, &ring_count, &offset))
+      return 3;
+    if (pw_fracture(corners, 2 * (size_t)count, rings, ring_count, threshold, weight, table, PW_TABLE_ENTRIES,
+                    list, PW_LIST_NUMBERS, &shots, &cost, &sliver))
       return 4;
-    say("outline ");
-    say_number(k);
-    say(" shots ");
-    say_number(shots);
-    say(" cost ");
-    say_number(cost);
-    say(" sliver ");
-    say_number(sliver);
-    say("\n");
-    for (uint32_t i = 0; i < 4 * shots; i++) {
-      say_number(list[i]);
-      say(i % 4 == 3 ? "\n" : " ");
-    }
+    print_shots(k, shots, cost, sliver);
     /* the same by preset 0, and with no rule named */
     uint32_t preset_threshold, preset_weight, shots_again, cost_again, sliver_again;
     if (pw_preset(0, &preset_threshold, &preset_weight)) return 5;
     if (preset_threshold != threshold || preset_weight != weight) return 6;
-    if (pw_fracture_default(corners, 2 * (size_t)count, table, PW_TABLE_ENTRIES, list, PW_LIST_NUMBERS,
-                            &shots_again, &cost_again, &sliver_again))
+    if (pw_fracture_default(corners, 2 * (size_t)count, rings, ring_count, table, PW_TABLE_ENTRIES,
+                            list, PW_LIST_NUMBERS, &shots_again, &cost_again, &sliver_again))
       return 7;
     if (shots_again != shots || cost_again != cost || sliver_again != sliver) return 8;
+    /* written anew, the outline is the part that it was read from */
+    uint8_t part[PW_OUTLINE_BYTES];
+    size_t written;
+    if (pw_write_outline(corners, 2 * (size_t)count, rings, ring_count, part, PW_OUTLINE_BYTES, &written)) return 9;
+    if (written != length) return 10;
+    for (size_t i = 0; i < length; i++)
+      if (part[i] != job[start + i]) return 11;
   }
   return 0;
+}
+
+int main(void) {
+  int status = run(drawing_l, sizeof drawing_l);
+  return status ? status : run(framed, sizeof framed);
 }

@@ -66,8 +66,9 @@ jobPart k (fault r at) = outlineLent (refusalNo r) 0 0 at
 unfoldable pub outlineSaid : List ℕ → ℕ → OutlineSaid
 outlineSaid s k = jobPart k (job s)
 
-abbrev pub unpackLent : ℕ → ℕ → ℕ → List ℕ → UnpackSaid
-unpackLent n corners at list = record { number = n; corners = corners; offset = at; list = list }
+abbrev pub unpackLent : ℕ → ℕ → ℕ → ℕ → List ℕ → List ℕ → UnpackSaid
+unpackLent n corners rings at list lengths =
+    record { number = n; corners = corners; rings = rings; offset = at; list = list; lengths = lengths }
 
 abbrev pub writeLent : ℕ → ℕ → List ℕ → WriteSaid
 writeLent n bytes out = record { number = n; bytes = bytes; out = out }

@@ -19,6 +19,7 @@ ghost use mathlib.Core.Path.{_≡_};
 ghost use mathlib.Core.List.{List};
 ghost use Prim.Native.Nat.{ℕ};
 ghost use Rattle.rule.specs.Rules.{presetTold};
+ghost use Rattle.figure.specs.Figure.{figure};
 ghost use Rattle.demands.specs.Promise.{asked, outcome};
 ghost use Rattle.fracture.specs.Told.{told};
 ghost use Rattle.number.specs.Number.{number as readNumber};
@@ -72,6 +73,7 @@ fn lend(answer: Fractured, shots: &mut u32, cost: &mut u32, sliver: &mut u32) ->
 #[no_mangle]
 pub extern "C" fn pw_fracture(
     corners: &[u16],
+    rings: &[u16],
     threshold: u32,
     weight: u32,
     table: &mut [u32],
@@ -80,9 +82,9 @@ pub extern "C" fn pw_fracture(
     cost: &mut u32,
     sliver: &mut u32,
 ) -> u32
-    ensures settled { λ r. ⌜ fractureLent r (now (shots .exit)) (now (cost .exit)) (now (sliver .exit)) (now (table .exit)) (now (list .exit)) ≡ outcome (asked (now (corners .entry)) threshold weight (now (table .entry)) (now (list .entry))) ⌝ }
+    ensures settled { λ r. ⌜ fractureLent r (now (shots .exit)) (now (cost .exit)) (now (sliver .exit)) (now (table .exit)) (now (list .exit)) ≡ outcome (asked (now (corners .entry)) (now (rings .entry)) threshold weight (now (table .entry)) (now (list .entry))) ⌝ }
 {
-    let answer = fracture::fracture(corners, threshold, weight, table, list);
+    let answer = fracture::fracture(corners, rings, threshold, weight, table, list);
     lend(answer, shots, cost, sliver)
 }
 
@@ -90,15 +92,16 @@ pub extern "C" fn pw_fracture(
 #[no_mangle]
 pub extern "C" fn pw_fracture_default(
     corners: &[u16],
+    rings: &[u16],
     table: &mut [u32],
     list: &mut [u16],
     shots: &mut u32,
     cost: &mut u32,
     sliver: &mut u32,
 ) -> u32
-    ensures settled { λ r. ⌜ fractureLent r (now (shots .exit)) (now (cost .exit)) (now (sliver .exit)) (now (table .exit)) (now (list .exit)) ≡ outcome (asked (now (corners .entry)) (presetTold 0 .threshold) (presetTold 0 .weight) (now (table .entry)) (now (list .entry))) ⌝ }
+    ensures settled { λ r. ⌜ fractureLent r (now (shots .exit)) (now (cost .exit)) (now (sliver .exit)) (now (table .exit)) (now (list .exit)) ≡ outcome (asked (now (corners .entry)) (now (rings .entry)) (presetTold 0 .threshold) (presetTold 0 .weight) (now (table .entry)) (now (list .entry))) ⌝ }
 {
-    let answer = fracture::fracture_default(corners, table, list);
+    let answer = fracture::fracture_default(corners, rings, table, list);
     lend(answer, shots, cost, sliver)
 }
 
@@ -206,21 +209,29 @@ pub extern "C" fn pw_job_outline(
     }
 }
 
-// V, with the list filled from its front; or 8 to 11 and the offset in the part, or 14.
+// How many corners and rings there are, with the corners and the ring lengths at the fronts of the two lists; or 8 to 11 and the
+// offset in the part, or 14.
 #[no_mangle]
 pub extern "C" fn pw_unpack(
     part: &[u8],
     list: &mut [u16],
+    rings: &mut [u16],
     corners: &mut u32,
+    ring_count: &mut u32,
     offset: &mut usize,
 ) -> u32
-    ensures settled { λ r. ⌜ unpackLent r (now (corners .exit)) (now (offset .exit)) (now (list .exit)) ≡ unpacked (now (part .entry)) (now (list .entry)) ⌝ }
+    ensures settled { λ r. ⌜ unpackLent r (now (corners .exit)) (now («ring_count» .exit)) (now (offset .exit)) (now (list .exit)) (now (rings .exit)) ≡ unpacked (now (part .entry)) (now (list .entry)) (now (rings .entry)) ⌝ }
 {
     *corners = 0;
+    *ring_count = 0;
     *offset = 0;
-    match unpack::unpack(part, list) {
-        Unpacked::Corners(v) => {
+    match unpack::unpack(part, list, rings) {
+        Unpacked::Figure {
+            corners: v,
+            rings: n,
+        } => {
             *corners = v;
+            *ring_count = n;
             0
         }
         Unpacked::Refused(r, p) => {
@@ -253,11 +264,16 @@ pub extern "C" fn pw_write_header(
 
 // How many bytes of an outline were written; or 2, 14.
 #[no_mangle]
-pub extern "C" fn pw_write_outline(corners: &[u16], out: &mut [u8], written: &mut usize) -> u32
-    ensures settled { λ r. ⌜ writeLent r (now (written .exit)) (now (out .exit)) ≡ outlineWritten (now (corners .entry)) (now (out .entry)) ⌝ }
+pub extern "C" fn pw_write_outline(
+    corners: &[u16],
+    rings: &[u16],
+    out: &mut [u8],
+    written: &mut usize,
+) -> u32
+    ensures settled { λ r. ⌜ writeLent r (now (written .exit)) (now (out .exit)) ≡ outlineWritten (figure (now (corners .entry)) (now (rings .entry))) (now (out .entry)) ⌝ }
 {
     *written = 0;
-    match write::write_outline(corners, out) {
+    match write::write_outline(corners, rings, out) {
         Written::Bytes(size) => {
             *written = size;
             0

@@ -33,7 +33,7 @@
 --   never-cheaper-grid, attained-grid   == the same of cuttings of the grid by its lines
 -- Bound and rows
 --   bound, bound-cost    == no table entry, and no reported cost, exceeds 2,097,345,000
---   ten-rows             == the ten proved rows of document 01 (proofs/Rows.antt)
+--   rows-hold            == the proved rows of document 01, and those with rings (proofs/Rows.antt)
 use Prim.Native.Nat.{ℕ, _≤_, _<_}
 use mathlib.Core.Path.{_≡_, refl, sym, _∙_, ap, subst}
 use mathlib.Core.Bool.{Bool, true, false}

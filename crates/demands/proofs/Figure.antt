@@ -15,19 +15,19 @@ use Rattle.sum.specs.Sum.{All}
 use Rattle.sum.proofs.Lists.{All-imp, All-at}
 use Rattle.figure.specs.declared.Axis.{Axis}
 use Rattle.figure.specs.declared.Axis.the-variants.{X, Y}
-use Rattle.figure.specs.Corners.{Corner, corners, coordinate, slanted}
-use Rattle.figure.specs.Figure.{Figure, cornersOf}
+use Rattle.figure.specs.Corners.{Corner, corners, coordinate, any, slanted}
+use Rattle.figure.specs.Figure.{Figure, rings, cornersOf}
 use Rattle.figure.specs.Inside.{insideAt}
 use Rattle.figure.specs.Steps.{Right}
-use Rattle.figure.proofs.Corners.{length-corners}
 use Rattle.figure.proofs.Turns.{All-both}
 use Rattle.figure.proofs.Inside.{min-max}
-use Rattle.figure.proofs.Fault.{length-good}
+use Rattle.figure.proofs.Sharing.{corners-whole}
 use Rattle.outline.specs.Lines.{rising, lines, place}
 use Rattle.outline.specs.Grid.{Sound}
 use Rattle.outline.specs.Inside.{gridOf, grid}
 use Rattle.outline.proofs.Lines.{lowest, highest, rising-back, rising-lines, rising-values}
 use Rattle.outline.proofs.Inside.{lines-up, inside-cell, inside-left, inside-right, inside-below, inside-above, grid-sound}
+use Rattle.outline.proofs.Marking.{right-length}
 use Rattle.piece.specs.Piece.{frame, rectangle}
 use Rattle.demands.specs.Ways.{On, leastOf, mostOf, frameOf}
 use Rattle.demands.specs.Demands.{Words}
@@ -135,7 +135,7 @@ module _ (f : Figure) (columns : 1 ≤ grid f .columns) (rows : 1 ≤ grid f .ro
 
 -- The laws of lines and cells, in one place
 
-pub figure-shows : (f : Figure) → slanted (cornersOf f) ≡ false → Shows (grid f) (insideAt f)
+pub figure-shows : (f : Figure) → any slanted (rings f) ≡ false → Shows (grid f) (insideAt f)
 figure-shows f h = record {
   cell = λ i j x y. inside-cell f x y i j;
   left-none = inside-left f;
@@ -154,6 +154,6 @@ words-corners Q (u ∷ v ∷ l) h Y = (h .1 .0, words-corners Q l (h .1 .1) Y)
 
 pub figure-sound : (f : Figure) → Words f → Right f → Sound (grid f)
 figure-sound f words right =
-    let n = length-good f (right .figure-good) in
-    let m = length-corners (f .numbers) in
-    grid-sound f right (omega arith) (omega arith) (words-corners (λ v. v ≤ 65535) (f .numbers) words)
+    let n = right-length f right in
+    grid-sound f right (omega arith) (omega arith)
+    (λ a. subst (All (λ c. coordinate a c ≤ 65535)) (sym (corners-whole f (right .figure-good))) (words-corners (λ v. v ≤ 65535) (f .numbers) words a))

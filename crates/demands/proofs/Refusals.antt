@@ -27,8 +27,9 @@ use Rattle.rule.specs.declared.Rule.{Rule}
 use Rattle.rule.specs.Rules.{inRange}
 use Rattle.figure.specs.declared.Axis.{Axis}
 use Rattle.figure.specs.declared.Axis.the-variants.{X, Y}
-use Rattle.figure.specs.Corners.{Corner, Link, any, changes, odd, both, neither, same, alike, slanted, unturned}
-use Rattle.figure.specs.Figure.{cornersOf, edgesOf, turnsOf, badFigure, fault}
+use Rattle.figure.specs.Corners.{Corner, Link, any, changes, both, neither, same, alike, slanted, unturned}
+use Rattle.figure.specs.Figure.{Figure, rings, edgesOf, turnsOf, total, badLength, badFigure, fault}
+use Rattle.figure.proofs.Together.{slanted-all, unturned-all}
 use Rattle.outline.specs.Grid.{Grid}
 use Rattle.outline.specs.Inside.{grid, insideCells, empty}
 use Rattle.outline.specs.Promise.{refusal}
@@ -50,8 +51,8 @@ module _ (ask : Asked) where
   unfoldable pub test : Refusal → Bool
   test because.Rule = not (inRange (ask .threshold) (ask .weight))
   test because.Length = badFigure (ask .figure)
-  test because.Slanted = slanted (cornersOf (ask .figure))
-  test because.Unturned = unturned (cornersOf (ask .figure))
+  test because.Slanted = any slanted (rings (ask .figure))
+  test because.Unturned = any unturned (rings (ask .figure))
   test because.Empty = empty (drawn ask)
   test because.Table = ltb (length (ask .table)) (entryCount (drawn ask .columns) (drawn ask .rows))
   test because.List = ltb (length (ask .list)) (4 * length (frameShots (drawn ask) (ruleOf ask)))
@@ -71,8 +72,8 @@ module _ (ask : Asked) where
   pub outcome-number : outcome ask .number ≡ numberOf
   unfolding outcome ruled gridded delivered refused refusal fault numberOf firstOf order test drawn
   outcome-number =
-      go (inRange (ask .threshold) (ask .weight)) (badFigure (ask .figure)) (slanted (cornersOf (ask .figure)))
-      (unturned (cornersOf (ask .figure))) (empty (grid (ask .figure)))
+      go (inRange (ask .threshold) (ask .weight)) (badFigure (ask .figure)) (any slanted (rings (ask .figure)))
+      (any unturned (rings (ask .figure))) (empty (grid (ask .figure)))
       (ltb (length (ask .table)) (entryCount (grid (ask .figure) .columns) (grid (ask .figure) .rows)))
       (ltb (length (ask .list)) (4 * length (frameShots (grid (ask .figure)) (ruleOf ask))))
     where
@@ -175,12 +176,34 @@ true-keeps a e h = ap (λ b. not (not b)) (eq-eqb _ _ h)
 and-both : (a b : Bool) → a ≡ true → b ≡ true → (a && b) ≡ true
 and-both a b e f = ap (λ a. a && b) e ∙ f
 
+-- each way in which a figure is bad
+length-bad : (f : Figure)
+    → (length (f .lengths) ≡ 0)
+    ⊎ ((8 < length (f .lengths))
+    ⊎ (((n : ℕ) × Member n (f .lengths) × ((n < 4) ⊎ (32 < n)))
+    ⊎ ((32 < total f) ⊎ (length (f .numbers) ≡ 2 * total f → ⊥))))
+    → badFigure f ≡ true
+unfolding badFigure badLength
+length-bad f (inl h) = or-left _ _ (or-left _ _ (eq-eqb _ _ h))
+length-bad f (inr (inl h)) = or-left _ _ (or-right (eqb (length (f .lengths)) 0) _ (lt-ltb _ _ h))
+length-bad f (inr (inr h)) = or-right (eqb (length (f .lengths)) 0 || ltb 8 (length (f .lengths))) _ (go h)
+  where
+    bad : (n : ℕ) → (n < 4) ⊎ (32 < n) → badLength n ≡ true
+    bad n (inl h) = or-left _ _ (lt-ltb _ _ h)
+    bad n (inr h) = or-right (ltb n 4) _ (lt-ltb _ _ h)
+
+    go : ((n : ℕ) × Member n (f .lengths) × ((n < 4) ⊎ (32 < n))) ⊎ ((32 < total f) ⊎ (length (f .numbers) ≡ 2 * total f → ⊥))
+        → (any badLength (f .lengths) || (ltb 32 (total f) || not (eqb (length (f .numbers)) (2 * total f)))) ≡ true
+    go (inl m) = or-left _ _ (any-of badLength (m .0) (f .lengths) (m .1) (bad (m .0) (m .2)))
+    go (inr (inl h)) = or-right (any badLength (f .lengths)) _ (or-left _ _ (lt-ltb _ _ h))
+    go (inr (inr h)) = or-right (any badLength (f .lengths)) _ (or-right (ltb 32 (total f)) _ (ap not (ne-eqb _ _ h)))
+
 module _ (ask : Asked) where
   abbrev Holds : Refusal → Type 0
   Holds c = Condition ask c
 
   pub test-true : (c : Refusal) → test ask c ≡ true → Holds c
-  unfolding test Condition inRange badFigure odd slanted both unturned neither alike same empty insideCells
+  unfolding test Condition inRange badFigure badLength both neither alike same empty insideCells
   test-true because.Rule e = high (leb (ask .threshold) 1000) refl (leb (ask .weight) 1000) refl e
     where
       high : (a : Bool) → leb (ask .threshold) 1000 ≡ a → (b : Bool) → leb (ask .weight) 1000 ≡ b → not (a && b) ≡ true
@@ -189,13 +212,21 @@ module _ (ask : Asked) where
       high true p false q h = inr (leb-false _ _ q)
       high true p true q h = absurd (true≢false (sym h))
   test-true because.Length e =
-      or-elim _ _ e (λ h. inl (eqb-true _ _ h)) (λ h. inr (or-elim _ _ h (λ k. inl (ltb-true _ _ k)) (λ k. inr (ltb-true _ _ k))))
+      or-elim _ _ e
+      (λ h. or-elim _ _ h (λ k. inl (eqb-true _ _ k)) (λ k. inr (inl (ltb-true _ _ k))))
+      (λ h.
+      or-elim _ _ h
+      (λ k. let m = any-some badLength (ask .figure .lengths) k in inr (inr (inl (m .0, m .1, bad (m .0) (m .2)))))
+      (λ k. inr (inr (inr (or-elim _ _ k (λ i. inl (ltb-true _ _ i)) (λ i. inr (λ z. true≢false (sym i ∙ ap not (eq-eqb _ _ z)))))))))
+    where
+      bad : (n : ℕ) → badLength n ≡ true → (n < 4) ⊎ (32 < n)
+      bad n e = unfold badLength in or-elim _ _ e (λ h. inl (ltb-true _ _ h)) (λ h. inr (ltb-true _ _ h))
   test-true because.Slanted e =
-      let m = any-some both (edgesOf (ask .figure)) e in
+      let m = any-some both (edgesOf (ask .figure)) (sym (slanted-all (ask .figure)) ∙ e) in
       let k = and-true _ _ (m .2) in
       (m .0, m .1, changes-true X (m .0) (k .0), changes-true Y (m .0) (k .1))
   test-true because.Unturned e =
-      or-elim _ _ e
+      or-elim _ _ (sym (unturned-all (ask .figure)) ∙ e)
       (λ h.
       let m = any-some neither (edgesOf (ask .figure)) h in
       let k = and-true _ _ (m .2) in
@@ -229,20 +260,23 @@ module _ (ask : Asked) where
   test-true because.Preset e = absurd (true≢false (sym e))
 
   pub true-test : (c : Refusal) → Holds c → test ask c ≡ true
-  unfolding test Condition inRange badFigure odd slanted both unturned neither alike same empty insideCells
+  unfolding test Condition inRange badFigure badLength both neither alike same empty insideCells
   true-test because.Rule (inl h) = ap (λ b. not (b && leb (ask .weight) 1000)) (lt-leb (ask .threshold) 1000 h)
   true-test because.Rule (inr h) = ap (λ b. not (leb (ask .threshold) 1000 && b)) (lt-leb (ask .weight) 1000 h) ∙ none (leb (ask .threshold) 1000)
     where
       none : (b : Bool) → not (b && false) ≡ true
       none true = refl
       none false = refl
-  true-test because.Length (inl h) = or-left _ _ (eq-eqb _ _ h)
-  true-test because.Length (inr (inl h)) = or-right (odd (length (ask .figure .numbers))) _ (or-left _ (ltb 64 (length (ask .figure .numbers))) (lt-ltb _ _ h))
-  true-test because.Length (inr (inr h)) = or-right (odd (length (ask .figure .numbers))) _ (or-right (ltb (length (ask .figure .numbers)) 8) _ (lt-ltb _ _ h))
-  true-test because.Slanted m = any-of both (m .0) (edgesOf (ask .figure)) (m .1) (and-both _ _ (true-changes X (m .0) (m .2)) (true-changes Y (m .0) (m .3)))
+  true-test because.Length h = length-bad (ask .figure) h
+  true-test because.Slanted m =
+      slanted-all (ask .figure)
+      ∙ any-of both (m .0) (edgesOf (ask .figure)) (m .1) (and-both _ _ (true-changes X (m .0) (m .2)) (true-changes Y (m .0) (m .3)))
   true-test because.Unturned (inl m) =
-      or-left _ _ (any-of neither (m .0) (edgesOf (ask .figure)) (m .1) (and-both _ _ (true-keeps X (m .0) (m .2)) (true-keeps Y (m .0) (m .3))))
-  true-test because.Unturned (inr m) = or-right (any neither (edgesOf (ask .figure))) _ (any-of alike (m .0) (turnsOf (ask .figure)) (m .1) (two (m .0) (m .2)))
+      unturned-all (ask .figure)
+      ∙ or-left _ _ (any-of neither (m .0) (edgesOf (ask .figure)) (m .1) (and-both _ _ (true-keeps X (m .0) (m .2)) (true-keeps Y (m .0) (m .3))))
+  true-test because.Unturned (inr m) =
+      unturned-all (ask .figure)
+      ∙ or-right (any neither (edgesOf (ask .figure))) _ (any-of alike (m .0) (turnsOf (ask .figure)) (m .1) (two (m .0) (m .2)))
     where
       two : (n : Link (Link Corner)) → (Changes X (n .from) × Changes X (n .to)) ⊎ (Changes Y (n .from) × Changes Y (n .to)) → alike n ≡ true
       two n (inl h) = unfold alike same in or-left (same X n) (same Y n) (and-both _ _ (true-changes X (n .from) (h .0)) (true-changes X (n .to) (h .1)))

@@ -1,8 +1,8 @@
--- The ten proved rows: one test that is computed over the whole table, and what it says of each row. Assumes nothing.
+-- The proved rows: one test that is computed over the whole table, and what it says of each row. Assumes nothing.
 --
 --   right row      == the test of a row, which computes
 --   right-says     == a row that passes it holds
---   ten-rows     == all ten hold
+--   rows-hold    == all of them hold
 use Prim.Native.Nat.{ℕ, _*_, _≤_, _<_}
 use mathlib.Core.Path.{_≡_, refl, sym, _∙_, ap, ap₂, subst}
 use mathlib.Core.Bool.{Bool, true, false, _&&_, true≢false}
@@ -20,7 +20,7 @@ use Rattle.rule.specs.declared.Rule.{Rule}
 use Rattle.rule.specs.Charge.{sliverOf, chargeOf}
 use Rattle.shot.specs.Shot.{numbers}
 use Rattle.figure.specs.Corners.{corners, coordinate, last, steps, around, any, edges, turns, changes, odd, slanted, unturned, both, neither, alike, same as same-coordinate}
-use Rattle.figure.specs.Figure.{Figure, badFigure, fault}
+use Rattle.figure.specs.Figure.{Figure, share, badLength, badFigure, fault}
 use Rattle.figure.specs.Inside.{wall, walls, covers, count, within}
 use Rattle.outline.specs.Grid.{Grid}
 use Rattle.outline.specs.Lines.{insert, rising, lines, place}
@@ -86,7 +86,7 @@ weighed-all f r (k ∷ ks) e =
     (eqb-true _ _ (s .0), weighed-all f r ks (s .1))
 
 rows-pass : right-all rows ≡ true
-unfolding right-all rightBy same weighed refusal fault frameShots frameCost frameSliver frameNumbers entryCount pairCount pairsBelow sumOf over join shotsBy cheapest least cells kind frame cellSum kindOf width height left right bottom top lowSide highSide cost shots cuts parts between run numbersOf numbers grid gridOf corners coordinate last steps around any edges turns changes odd badFigure slanted unturned both neither alike same-coordinate insert rising lines place wall walls covers count within empty inside.insideCells piece.insideCells piece.sliver piece.charge sliverOf chargeOf
+unfolding right-all rightBy same weighed refusal fault frameShots frameCost frameSliver frameNumbers entryCount pairCount pairsBelow sumOf over join shotsBy cheapest least cells kind frame cellSum kindOf width height left right bottom top lowSide highSide cost shots cuts parts between run numbersOf numbers grid gridOf corners coordinate last steps around any edges turns changes odd share badLength badFigure slanted unturned both neither alike same-coordinate insert rising lines place wall walls covers count within empty inside.insideCells piece.insideCells piece.sliver piece.charge sliverOf chargeOf
 rows-pass = refl
 
 list-length : (g : Grid) (r : Rule) → length (frameNumbers g r) ≡ 4 * length (frameShots g r)
@@ -175,5 +175,5 @@ unfolding right-all
 all-say [] e = tt
 all-say (row ∷ l) e = let s = and-true _ _ e in (right-says (row .by) row refl (s .0), all-say l (s .1))
 
-pub ten-rows : All Holds rows
-ten-rows = all-say rows rows-pass
+pub rows-hold : All Holds rows
+rows-hold = all-say rows rows-pass

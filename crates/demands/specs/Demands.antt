@@ -1,6 +1,6 @@
 -- To believe: what the demands speak of, beside the outcome.
 --
---   Words f            == a figure is given by 16-bit numbers
+--   Words f            == the corners of a figure are given by 16-bit numbers
 --   PieceOf g p        == p is a piece of the grid g
 --   reported o         == the shots in the list of an outcome: its first 4 x shots numbers, four by four
 --   entry o g p        == what the table of an outcome has for the piece p

@@ -2,7 +2,7 @@
 --
 -- What is asked
 --   Asked                      == all that a fracture is asked: a figure, threshold and weight, and the two buffers that it is lent
---   asked corners t w table list
+--   asked corners lengths t w table list
 --                              == the same, as the calls are handed it
 --   drawn ask, ruleOf ask      == the grid of its figure, and its rule
 -- The shots of a grid g under a rule r
@@ -42,8 +42,8 @@ pub record Asked : Type 0 where
   pub table : List ℕ
   pub list : List ℕ
 
-abbrev pub asked : List ℕ → ℕ → ℕ → List ℕ → List ℕ → Asked
-asked corners t w table list = record { figure = figure corners; threshold = t; weight = w; table = table; list = list }
+abbrev pub asked : List ℕ → List ℕ → ℕ → ℕ → List ℕ → List ℕ → Asked
+asked corners lengths t w table list = record { figure = figure corners lengths; threshold = t; weight = w; table = table; list = list }
 
 unfoldable pub drawn : Asked → Grid
 drawn ask = grid (ask .figure)

@@ -1,10 +1,10 @@
--- To believe: when a fracture is refused: document 01's conditions 1 to 7, said of the input alone.
+-- To believe: when a fracture is refused: document 01's conditions 1 to 7, for figures as document 02 has them, said of the input alone.
 --
 --   Changes a e        == the edge e changes the coordinate along the axis a
 --   Keeps a e          == it does not
 --   Condition c        == what document 01 says of the refusal c; no fracture is refused for any but the first seven
 --   First c            == the condition of c holds, and none of a lower number does
-use Prim.Native.Nat.{ℕ, _*_, _<_, _%_}
+use Prim.Native.Nat.{ℕ, _*_, _<_}
 use mathlib.Core.Path.{_≡_}
 use mathlib.Core.Logic.{_⊎_}
 use mathlib.Core.Bool.{false}
@@ -17,7 +17,7 @@ use Rattle.rule.specs.Rules.{limit}
 use Rattle.figure.specs.declared.Axis.{Axis}
 use Rattle.figure.specs.declared.Axis.the-variants.{X, Y}
 use Rattle.figure.specs.Corners.{Corner, Link, coordinate}
-use Rattle.figure.specs.Figure.{edgesOf, turnsOf}
+use Rattle.figure.specs.Figure.{leastCorners, mostCorners, mostRings, edgesOf, turnsOf, total}
 use Rattle.table.specs.Entry.{entryCount}
 use Rattle.demands.specs.Promise.{Asked, drawn, ruleOf, frameShots}
 
@@ -31,12 +31,15 @@ module _ (ask : Asked) where
   unfoldable pub Condition : Refusal → Type 0
   -- threshold or weight above 1,000
   Condition because.Rule = (limit < ask .threshold) ⊎ (limit < ask .weight)
-  -- list length odd, under 8 or over 64
+  -- no ring or more than 8, a ring of fewer than 4 corners or of more than 32, more than 32 in all, or not two numbers for each corner
   Condition because.Length =
-      (length (ask .figure .numbers) % 2 ≡ 1) ⊎ ((length (ask .figure .numbers) < 8) ⊎ (64 < length (ask .figure .numbers)))
+      (length (ask .figure .lengths) ≡ 0)
+      ⊎ ((mostRings < length (ask .figure .lengths))
+      ⊎ (((n : ℕ) × Member n (ask .figure .lengths) × ((n < leastCorners) ⊎ (mostCorners < n)))
+      ⊎ ((mostCorners < total (ask .figure)) ⊎ (length (ask .figure .numbers) ≡ 2 * total (ask .figure) → ⊥))))
   -- an edge changes both coordinates
   Condition because.Slanted = (e : Link Corner) × Member e (edgesOf (ask .figure)) × Changes X e × Changes Y e
-  -- an edge changes neither, or two neighbours change the same one
+  -- an edge changes neither, or two neighbours of a ring change the same one
   Condition because.Unturned =
       ((e : Link Corner) × Member e (edgesOf (ask .figure)) × Keeps X e × Keeps Y e)
       ⊎ ((n : Link (Link Corner)) × Member n (turnsOf (ask .figure))

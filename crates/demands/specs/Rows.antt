@@ -1,4 +1,4 @@
--- To believe: the ten proved rows of document 01, "Drawings to test on".
+-- To believe: the ten proved rows of document 01, "Drawings to test on", and four with rings.
 --
 --   By                 == the rule that a row is for: one of threshold and weight, or any in range
 --   Meant b t w        == the row is for the rule of threshold t and weight w
@@ -8,8 +8,10 @@
 --   Says row r o       == what a row says of an outcome o by the rule r
 --   Holds row          == for every rule that the row is for, and any buffers with room for 14,400 entries and 225 shots, that is the
 --                         outcome
+--   outline l          == the figure of one ring with the corners of the list l
+--   L, B, framed, windowed   == the drawing of "The job program", the block with a nose, a frame with a window, the same with its window first
 --   rows               == the table
-use Prim.Native.Nat.{ℕ, _*_, _≤_}
+use Prim.Native.Nat.{ℕ, _*_, _/_, _≤_}
 use mathlib.Core.Path.{_≡_}
 use mathlib.Core.Bool.{true}
 use mathlib.Core.List.{List, [], _∷_}
@@ -60,17 +62,28 @@ Holds row =
     → 14400 ≤ length (ask .table) → 900 ≤ length (ask .list)
     → Says row (ruleOf ask) (outcome ask)
 
+-- a figure of one ring: document 01's outline
+abbrev pub outline : List ℕ → Figure
+outline l = figure l (length l / 2 ∷ [])
+
 -- an accepted figure
 abbrev good : Figure → ℕ → ℕ → ℕ → ℕ → List ℕ → List Rival → Row
 good f t w c s l k = record { figure = f; by = only-by t w; number = 0; cost = c; sliver = s; list = l; rivals = k }
 
 -- the drawing of "The job program"
 abbrev pub L : Figure
-L = figure (0 ∷ 0 ∷ 100 ∷ 0 ∷ 100 ∷ 20 ∷ 60 ∷ 20 ∷ 60 ∷ 80 ∷ 0 ∷ 80 ∷ [])
+L = outline (0 ∷ 0 ∷ 100 ∷ 0 ∷ 100 ∷ 20 ∷ 60 ∷ 20 ∷ 60 ∷ 80 ∷ 0 ∷ 80 ∷ [])
 
 -- the block with a nose of 10 nm
 abbrev pub B : Figure
-B = figure (0 ∷ 0 ∷ 200 ∷ 0 ∷ 200 ∷ 50 ∷ 210 ∷ 50 ∷ 210 ∷ 150 ∷ 200 ∷ 150 ∷ 200 ∷ 200 ∷ 0 ∷ 200 ∷ [])
+B = outline (0 ∷ 0 ∷ 200 ∷ 0 ∷ 200 ∷ 50 ∷ 210 ∷ 50 ∷ 210 ∷ 150 ∷ 200 ∷ 150 ∷ 200 ∷ 200 ∷ 0 ∷ 200 ∷ [])
+
+-- a frame of 100 nm with a window of 40 nm, and the same with its rings exchanged
+abbrev pub framed : Figure
+framed = figure (0 ∷ 0 ∷ 100 ∷ 0 ∷ 100 ∷ 100 ∷ 0 ∷ 100 ∷ 30 ∷ 30 ∷ 70 ∷ 30 ∷ 70 ∷ 70 ∷ 30 ∷ 70 ∷ []) (4 ∷ 4 ∷ [])
+
+abbrev pub windowed : Figure
+windowed = figure (30 ∷ 30 ∷ 70 ∷ 30 ∷ 70 ∷ 70 ∷ 30 ∷ 70 ∷ 0 ∷ 0 ∷ 100 ∷ 0 ∷ 100 ∷ 100 ∷ 0 ∷ 100 ∷ []) (4 ∷ 4 ∷ [])
 
 -- the line of y = 20 is the second y line of L
 abbrev pub rows : List Row
@@ -80,12 +93,16 @@ rows =
     ∷ good B 25 40 3000 0 (0 ∷ 0 ∷ 200 ∷ 50 ∷ 0 ∷ 50 ∷ 210 ∷ 150 ∷ 0 ∷ 150 ∷ 200 ∷ 200 ∷ []) []
     ∷ good B 25 10 3000 100 (0 ∷ 0 ∷ 200 ∷ 200 ∷ 200 ∷ 50 ∷ 210 ∷ 150 ∷ []) []
     ∷ good B 25 9 2900 100 (0 ∷ 0 ∷ 200 ∷ 200 ∷ 200 ∷ 50 ∷ 210 ∷ 150 ∷ []) []
-    ∷ good (figure (0 ∷ 0 ∷ 100 ∷ 0 ∷ 100 ∷ 24 ∷ 0 ∷ 24 ∷ [])) 25 40 9000 200 (0 ∷ 0 ∷ 100 ∷ 24 ∷ []) []
-    ∷ good (figure (0 ∷ 0 ∷ 100 ∷ 0 ∷ 100 ∷ 24 ∷ 0 ∷ 24 ∷ [])) 24 40 1000 0 (0 ∷ 0 ∷ 100 ∷ 24 ∷ []) []
-    ∷ good (figure (0 ∷ 0 ∷ 10 ∷ 0 ∷ 10 ∷ 10 ∷ 0 ∷ 10 ∷ [])) 25 40 2600 40 (0 ∷ 0 ∷ 10 ∷ 10 ∷ []) []
-    ∷ good (figure (0 ∷ 0 ∷ 10 ∷ 0 ∷ 10 ∷ 20 ∷ 20 ∷ 20 ∷ 20 ∷ 10 ∷ 0 ∷ 10 ∷ [])) 0 40 2000 0 (0 ∷ 0 ∷ 10 ∷ 10 ∷ 10 ∷ 10 ∷ 20 ∷ 20 ∷ []) []
+    ∷ good (outline (0 ∷ 0 ∷ 100 ∷ 0 ∷ 100 ∷ 24 ∷ 0 ∷ 24 ∷ [])) 25 40 9000 200 (0 ∷ 0 ∷ 100 ∷ 24 ∷ []) []
+    ∷ good (outline (0 ∷ 0 ∷ 100 ∷ 0 ∷ 100 ∷ 24 ∷ 0 ∷ 24 ∷ [])) 24 40 1000 0 (0 ∷ 0 ∷ 100 ∷ 24 ∷ []) []
+    ∷ good (outline (0 ∷ 0 ∷ 10 ∷ 0 ∷ 10 ∷ 10 ∷ 0 ∷ 10 ∷ [])) 25 40 2600 40 (0 ∷ 0 ∷ 10 ∷ 10 ∷ []) []
+    ∷ good (outline (0 ∷ 0 ∷ 10 ∷ 0 ∷ 10 ∷ 20 ∷ 20 ∷ 20 ∷ 20 ∷ 10 ∷ 0 ∷ 10 ∷ [])) 0 40 2000 0 (0 ∷ 0 ∷ 10 ∷ 10 ∷ 10 ∷ 10 ∷ 20 ∷ 20 ∷ []) []
+    ∷ good framed 25 40 4000 0 (0 ∷ 0 ∷ 30 ∷ 100 ∷ 30 ∷ 0 ∷ 70 ∷ 30 ∷ 30 ∷ 70 ∷ 70 ∷ 100 ∷ 70 ∷ 0 ∷ 100 ∷ 100 ∷ []) []
+    ∷ good framed 40 40 21600 440 (0 ∷ 0 ∷ 30 ∷ 100 ∷ 30 ∷ 0 ∷ 70 ∷ 30 ∷ 30 ∷ 70 ∷ 70 ∷ 100 ∷ 70 ∷ 0 ∷ 100 ∷ 100 ∷ []) []
+    ∷ good windowed 25 40 4000 0 (0 ∷ 0 ∷ 30 ∷ 100 ∷ 30 ∷ 0 ∷ 70 ∷ 30 ∷ 30 ∷ 70 ∷ 70 ∷ 100 ∷ 70 ∷ 0 ∷ 100 ∷ 100 ∷ []) []
+    ∷ good (figure (0 ∷ 0 ∷ 10 ∷ 0 ∷ 10 ∷ 10 ∷ 0 ∷ 10 ∷ 10 ∷ 0 ∷ 20 ∷ 0 ∷ 20 ∷ 10 ∷ 10 ∷ 10 ∷ []) (4 ∷ 4 ∷ [])) 0 40 1000 0 (0 ∷ 0 ∷ 20 ∷ 10 ∷ []) []
     ∷ record {
-      figure = figure (0 ∷ 0 ∷ 1 ∷ 0 ∷ 1 ∷ 1 ∷ 0 ∷ 1 ∷ 0 ∷ 0 ∷ 1 ∷ 0 ∷ 1 ∷ 1 ∷ 0 ∷ 1 ∷ []);
+      figure = outline (0 ∷ 0 ∷ 1 ∷ 0 ∷ 1 ∷ 1 ∷ 0 ∷ 1 ∷ 0 ∷ 0 ∷ 1 ∷ 0 ∷ 1 ∷ 1 ∷ 0 ∷ 1 ∷ []);
       by = any;
       number = 5;
       cost = 0;

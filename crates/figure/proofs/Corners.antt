@@ -15,7 +15,6 @@ use borrow.Author.Tests.{lt-ltb, le-ltb, eq-eqb, ne-eqb}
 use Rattle.figure.specs.declared.Axis.{Axis}
 use Rattle.figure.specs.declared.Axis.the-variants.{X, Y}
 use Rattle.figure.specs.Corners.{corners, coordinate, last, steps, around, any, edges, turns, changes, both, neither, alike, odd, slanted, unturned}
-use Rattle.figure.specs.Figure.{figure, badFigure}
 use Rattle.figure.specs.Steps.{origin, still, corner, edge, turn, before}
 
 pub length-corners : (l : List ℕ) → length (corners l) ≡ length l / 2
@@ -168,21 +167,6 @@ module _ (a : Axis) (l : List ℕ) (k b : ℕ) (t : Bool) (h : k < length l / 2)
 
   pub turn-to : t ≡ changes a (edge l k) → t ≡ changes a (turn l k .to)
   turn-to p = p ∙ sym (ap (λ u. changes a (u .to)) (turn-at l k h))
-
--- the three faults of a list's length, in turn
-module _ (l : List ℕ) where
-  pub length-odd : length l % 2 ≡ 1 → true ≡ badFigure (figure l)
-  unfolding badFigure odd
-  length-odd h = rw (eq-eqb (length l % 2) 1 h)
-
-  module _ (even : length l % 2 ≡ 1 → ⊥) where
-    pub length-few : length l < 8 → ltb (length l) 8 ≡ badFigure (figure l)
-    unfolding badFigure odd
-    length-few h = rw (ne-eqb (length l % 2) 1 even, lt-ltb (length l) 8 h)
-
-    pub length-many : 8 ≤ length l → ltb 64 (length l) ≡ badFigure (figure l)
-    unfolding badFigure odd
-    length-many h = rw (ne-eqb (length l % 2) 1 even, le-ltb (length l) 8 h)
 
 -- what one edge or turn shows of the ring, and what all of them show
 module _ (l : List ℕ) (k : ℕ) (h : k < length l / 2) where

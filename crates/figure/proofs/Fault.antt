@@ -2,37 +2,51 @@
 --
 --   fault-2, fault-3, fault-4, fault-0   == the fault, by the tests in their order
 --   fault-right                          == a figure without a fault passes 2, 3 and 4
---   length-good                          == what passing 2 says of the list's length
+--   Good, rings-good                     == what passing 2 says of a figure
 --   shape-one                            == two answers that tell the same are the same
-use Prim.Native.Nat.{ℕ, _%_, _≤_}
+use Prim.Native.Nat.{ℕ, _*_, _≤_, _<_}
 use mathlib.Core.Path.{_≡_, refl, sym, _∙_, ap}
-use mathlib.Core.Bool.{Bool, true, false, cond, _||_, true≢false}
-use mathlib.Core.List.{List}
+use mathlib.Core.Bool.{Bool, true, false, cond, _||_}
 use mathlib.Core.Logic.{inl, inr}
 use native.Mathlib.Omega.{arith}
 use lib.Dec.{ltb, eqb}
 use lib.ListN.{length}
-use borrow.Author.Tests.{ltb-false, eqb-false}
+use borrow.Author.Tests.{ltb-false, eqb-false, eqb-true, not-false}
+use Rattle.sum.specs.Sum.{All, sumOf}
 use Rattle.sum.proofs.Sum.{le-or}
+use Rattle.sum.proofs.Lists.{All-imp}
 use Rattle.refusal.specs.declared.Refusal.{Refusal}
 use Rattle.refusal.specs.Refusals.{refusalNo}
 use Rattle.refusal.proofs.Refusals.{refusal-one, refusal-some}
 use Rattle.figure.specs.declared.Shape.{Shape}
 use Rattle.figure.specs.declared.Shape.the-variants as shape
-use Rattle.figure.specs.Corners.{odd, slanted, unturned}
-use Rattle.figure.specs.Figure.{Figure, cornersOf, badFigure, fault, shapeNo}
+use Rattle.figure.specs.Corners.{any, slanted, unturned}
+use Rattle.figure.specs.Figure.{Figure, rings, total, mostRings, mostCorners, badLength, badFigure, fault, shapeNo}
 use Rattle.figure.specs.Steps.{Right}
+use Rattle.figure.proofs.Turns.{or-false, any-all}
+
+pub length-good : (n : ℕ) → badLength n ≡ false → (4 ≤ n) × (n ≤ mostCorners)
+unfolding badLength
+length-good n e = let k = or-false (ltb n 4) (ltb mostCorners n) e in (ltb-false _ _ (k .0), ltb-false _ _ (k .1))
+
+-- what passing 2 says of a figure
+pub record Good (f : Figure) : Type 0 where
+  pub some : 0 < length (f .lengths)
+  pub few : length (f .lengths) ≤ mostRings
+  pub each : All (λ n. (4 ≤ n) × (n ≤ mostCorners)) (f .lengths)
+  pub most : total f ≤ mostCorners
+  pub numbers : length (f .numbers) ≡ 2 * total f
 
 module _ (f : Figure) where
   pub fault-2 : badFigure f ≡ true → 2 ≡ fault f
   unfolding fault
   fault-2 a = rw a
 
-  pub fault-3 : badFigure f ≡ false → slanted (cornersOf f) ≡ true → 3 ≡ fault f
+  pub fault-3 : badFigure f ≡ false → any slanted (rings f) ≡ true → 3 ≡ fault f
   unfolding fault
   fault-3 a b = rw (a, b)
 
-  pub fault-4 : badFigure f ≡ false → slanted (cornersOf f) ≡ false → unturned (cornersOf f) ≡ true → 4 ≡ fault f
+  pub fault-4 : badFigure f ≡ false → any slanted (rings f) ≡ false → any unturned (rings f) ≡ true → 4 ≡ fault f
   unfolding fault
   fault-4 a b c = rw (a, b, c)
 
@@ -42,9 +56,9 @@ module _ (f : Figure) where
 
   pub fault-right : fault f ≡ 0 → Right f
   unfolding fault
-  fault-right e = go (badFigure f) refl (slanted (cornersOf f)) refl (unturned (cornersOf f)) refl e
+  fault-right e = go (badFigure f) refl (any slanted (rings f)) refl (any unturned (rings f)) refl e
     where
-      go : (a : Bool) → badFigure f ≡ a → (b : Bool) → slanted (cornersOf f) ≡ b → (c : Bool) → unturned (cornersOf f) ≡ c
+      go : (a : Bool) → badFigure f ≡ a → (b : Bool) → any slanted (rings f) ≡ b → (c : Bool) → any unturned (rings f) ≡ c
           → _≡_ {A = ℕ} (cond a 2 (cond b 3 (cond c 4 0))) 0
           → Right f
       go true p b q c r h = absurd (omega arith)
@@ -52,24 +66,23 @@ module _ (f : Figure) where
       go false p false q true r h = absurd (omega arith)
       go false p false q false r h = record { figure-good = p; slanted-none = q; unturned-none = r }
 
-  pub length-good : badFigure f ≡ false → (length (f .numbers) % 2 ≡ 0) × (8 ≤ length (f .numbers)) × (length (f .numbers) ≤ 64)
-  unfolding badFigure odd
-  length-good h = go (eqb (length (f .numbers) % 2) 1) refl (ltb (length (f .numbers)) 8) refl (ltb 64 (length (f .numbers))) refl h
+  pub rings-good : badFigure f ≡ false → Good f
+  unfolding badFigure
+  rings-good h =
+      let a = or-false (eqb (length (f .lengths)) 0 || ltb mostRings (length (f .lengths))) _ h in
+      let b = or-false (eqb (length (f .lengths)) 0) _ (a .0) in
+      let c = or-false (any badLength (f .lengths)) _ (a .1) in
+      let d = or-false (ltb mostCorners (total f)) _ (c .1) in
+      record {
+        some = some (length (f .lengths)) (eqb-false _ _ (b .0));
+        few = ltb-false _ _ (b .1);
+        each = All-imp length-good (f .lengths) (any-all badLength (f .lengths) (c .0));
+        most = ltb-false _ _ (d .0);
+        numbers = eqb-true _ _ (not-false _ (d .1));
+      }
     where
-      go : (p : Bool) → eqb (length (f .numbers) % 2) 1 ≡ p → (q : Bool) → ltb (length (f .numbers)) 8 ≡ q
-          → (r : Bool) → ltb 64 (length (f .numbers)) ≡ r
-          → (p || (q || r)) ≡ false
-          → (length (f .numbers) % 2 ≡ 0) × (8 ≤ length (f .numbers)) × (length (f .numbers) ≤ 64)
-      go true a q b r c h = absurd (true≢false h)
-      go false a true b r c h = absurd (true≢false h)
-      go false a false b true c h = absurd (true≢false h)
-      go false a false b false c h = (two, ltb-false (length (f .numbers)) 8 b, ltb-false 64 (length (f .numbers)) c)
-        where
-          two : length (f .numbers) % 2 ≡ 0
-          two = elim (le-or 1 (length (f .numbers) % 2)) [
-            | inl q ↦ absurd (eqb-false (length (f .numbers) % 2) 1 a (omega arith))
-            | inr q ↦ omega arith
-          ]
+      some : (n : ℕ) → (n ≡ 0 → ⊥) → 0 < n
+      some n h = elim (le-or 1 n) [ inl q ↦ q | inr q ↦ absurd (h (omega arith)) ]
 
 not-right : (why : Refusal) → 0 ≡ refusalNo why → ⊥
 not-right why e = omega (arith, refusal-some why)

@@ -5,6 +5,7 @@
 --   count-append, count-none, count-same, even, none-within   == how many walls of two lists, of none; an even number is not odd
 --   Beside lo hi v                    == v does not lie strictly between lo and hi
 --   passes, parity                    == a ring whose edges lie along the axes passes each height an even number of times
+--   walls-rings, walls-all, parity-all   == the same of all rings of a figure
 --   inside-left, inside-right, inside-below, inside-above   == beyond all corners of a figure nothing is inside
 use Prim.Native.Nat.{ℕ, suc, _+_, _%_, _≤_, _<_, min, max}
 use mathlib.Core.Path.{_≡_, refl, sym, _∙_, ap, ap₂, subst}
@@ -16,10 +17,10 @@ use lib.Dec.{leb, eqb}
 use borrow.Author.Tests.{eqb-true, le-leb, lt-leb, not-false}
 use Rattle.sum.specs.Sum.{only, sumOf, All, join}
 use Rattle.sum.proofs.Sum.{le-or}
-use Rattle.sum.proofs.Lists.{sumOf-append, sumOf-same, All-imp, All-join, All-all}
+use Rattle.sum.proofs.Lists.{sumOf-append, sumOf-same, All-imp, All-join, All-all, All-parts, join-append}
 use Rattle.figure.specs.declared.Axis.the-variants.{X}
-use Rattle.figure.specs.Corners.{Corner, Link, coordinate, last, steps, around, edges, changes, both, slanted, odd}
-use Rattle.figure.specs.Figure.{Figure, cornersOf, edgesOf}
+use Rattle.figure.specs.Corners.{Corner, Link, coordinate, last, steps, around, edges, changes, both, any, slanted, odd}
+use Rattle.figure.specs.Figure.{Figure, rings, cornersOf, edgesOf}
 use Rattle.figure.specs.Inside.{Wall, wall, walls, covers, count, within, insideAt}
 use Rattle.figure.proofs.Turns.{any-all, All-both, around-all}
 
@@ -148,6 +149,44 @@ module _ (lo hi : ℕ) where
               (around-all (λ p. Beside lo hi (p .y)) (c ∷ cs) h)),
         )
 
+-- of all rings
+
+-- what all corners of a figure have, all corners of each ring have
+rings-all : {A : Type 0} (Q : A → Type 0) (rs : List (List A)) → All Q (join (λ r. r) rs) → All (All Q) rs
+unfolding join
+rings-all Q [] h = tt
+rings-all Q (r ∷ rs) h = let k = All-parts Q r (join (λ r. r) rs) h in (k .0, rings-all Q rs (k .1))
+
+pub walls-rings : (rs : List (List Corner)) → walls (join edges rs) ≡ join (λ r. walls (edges r)) rs
+unfolding walls join
+walls-rings [] = refl
+walls-rings (r ∷ rs) = join-append wall (edges r) (join edges rs) ∙ ap (λ ws. join wall (edges r) ++ ws) (walls-rings rs)
+
+pub walls-all : (Qx Qy : ℕ → Type 0) (f : Figure) → All (Seat Qx Qy) (cornersOf f) → All (Set Qx Qy) (walls (edgesOf f))
+walls-all Qx Qy f h =
+    subst (All (Set Qx Qy)) (sym (walls-rings (rings f)))
+    (All-join (Set Qx Qy) (λ r. walls (edges r)) (rings f)
+    (All-imp (walls-set Qx Qy) (rings f) (rings-all (Seat Qx Qy) (rings f) h)))
+
+-- each ring passes a stretch of heights an even number of times, so all of them do
+parity-rings : (lo hi : ℕ) → lo < hi → (rs : List (List Corner)) → All (λ r. slanted r ≡ false) rs → All (All (λ c. Beside lo hi (c .y))) rs
+    → count (passes lo hi) (join (λ r. walls (edges r)) rs) % 2 ≡ 0
+unfolding join count sumOf
+parity-rings lo hi some [] s h = refl
+parity-rings lo hi some (r ∷ rs) s h =
+    omega (
+      arith,
+      count-append (passes lo hi) (walls (edges r)) (join (λ r. walls (edges r)) rs),
+      parity lo hi some r (s .0) (h .0),
+      parity-rings lo hi some rs (s .1) (h .1),
+    )
+
+pub parity-all : (lo hi : ℕ) → lo < hi → (f : Figure) → any slanted (rings f) ≡ false → All (λ c. Beside lo hi (c .y)) (cornersOf f)
+    → count (passes lo hi) (walls (edgesOf f)) % 2 ≡ 0
+parity-all lo hi some f s h =
+    ap (λ ws. count (passes lo hi) ws % 2) (walls-rings (rings f))
+    ∙ parity-rings lo hi some (rings f) (any-all slanted (rings f) s) (rings-all (λ c. Beside lo hi (c .y)) (rings f) h)
+
 -- beyond all corners
 module _ (f : Figure) (x y : ℕ) where
   abbrev ws : List Wall
@@ -158,7 +197,7 @@ module _ (f : Figure) (x y : ℕ) where
   inside-left h =
       none-within ws x y (suc y)
       (All-imp (λ w k. ap (λ b. b && (leb (w .lo) y && leb (suc y) (w .hi))) (lt-leb (w .x) x (k .0))) ws
-      (walls-set (λ v. x < v) (λ v. Unit {0}) (cornersOf f) (All-imp (λ c k. (k, tt)) (cornersOf f) h)))
+      (walls-all (λ v. x < v) (λ v. Unit {0}) f (All-imp (λ c k. (k, tt)) (cornersOf f) h)))
 
   pub inside-below : All (λ c. y < c .y) (cornersOf f) → insideAt f x y ≡ false
   unfolding insideAt covers
@@ -167,7 +206,7 @@ module _ (f : Figure) (x y : ℕ) where
       (All-imp
       (λ w k. ap (λ b. leb (w .x) x && (b && leb (suc y) (w .hi))) (lt-leb (w .lo) y (k .1 .0)) ∙ and-false (leb (w .x) x))
       ws
-      (walls-set (λ v. Unit {0}) (λ v. y < v) (cornersOf f) (All-imp (λ c k. (tt, k)) (cornersOf f) h)))
+      (walls-all (λ v. Unit {0}) (λ v. y < v) f (All-imp (λ c k. (tt, k)) (cornersOf f) h)))
 
   pub inside-above : All (λ c. c .y ≤ y) (cornersOf f) → insideAt f x y ≡ false
   unfolding insideAt covers
@@ -179,14 +218,14 @@ module _ (f : Figure) (x y : ℕ) where
       ∙ ap (λ b. leb (w .x) x && b) (and-false (leb (w .lo) y))
       ∙ and-false (leb (w .x) x))
       ws
-      (walls-set (λ v. Unit {0}) (λ v. v ≤ y) (cornersOf f) (All-imp (λ c k. (tt, k)) (cornersOf f) h)))
+      (walls-all (λ v. Unit {0}) (λ v. v ≤ y) f (All-imp (λ c k. (tt, k)) (cornersOf f) h)))
 
-  pub inside-right : slanted (cornersOf f) ≡ false → All (λ c. c .x ≤ x) (cornersOf f) → insideAt f x y ≡ false
+  pub inside-right : any slanted (rings f) ≡ false → All (λ c. c .x ≤ x) (cornersOf f) → insideAt f x y ≡ false
   unfolding insideAt within covers passes
   inside-right s h =
       ap odd
       (count-same (covers x y (suc y)) (passes y (suc y)) ws
       (All-imp (λ w k. ap (λ b. b && (leb (w .lo) y && leb (suc y) (w .hi))) (le-leb (w .x) x (k .0))) ws
-      (walls-set (λ v. v ≤ x) (λ v. Unit {0}) (cornersOf f) (All-imp (λ c k. (k, tt)) (cornersOf f) h))))
+      (walls-all (λ v. v ≤ x) (λ v. Unit {0}) f (All-imp (λ c k. (k, tt)) (cornersOf f) h))))
       ∙ even (count (passes y (suc y)) ws)
-      (parity y (suc y) (omega arith) (cornersOf f) s (All-all (λ c. le-or (c .y) y) (cornersOf f)))
+      (parity-all y (suc y) (omega arith) f s (All-all (λ c. le-or (c .y) y) (cornersOf f)))

@@ -1,55 +1,85 @@
 -- To believe: a figure, and what refusals 2, 3 and 4 say of it.
 --
---   Figure           == what a call is handed: the numbers x, y, x, y, .. of its corners
---   figure l         == the figure of these numbers
---   mostCorners      == no figure has more corners
+--   Figure           == what a call is handed: the numbers x, y, x, y, .. of all corners, ring after ring, and how many corners each
+--                       ring has
+--   figure l ns      == the figure of these numbers and lengths
+--   leastCorners     == no ring has fewer corners
+--   mostCorners      == no figure has more, in all its rings together
+--   mostRings        == nor more rings
 --   mostPlace        == the highest place, in nm
---   cornersOf f      == its corners
---   edgesOf f        == its edges
---   turnsOf f        == its turns: each edge with the next
---   badFigure f      == 2: the list's length is odd, under 8 or over 64
+--   share ns l       == the numbers l shared out: two for each corner of the first ring, then of the next
+--   rings f          == its rings: the corners of each
+--   cornersOf f      == its corners, ring after ring
+--   edgesOf f        == its edges, each ring closed
+--   turnsOf f        == its turns: each edge with the next of its ring
+--   total f          == how many corners its ring lengths announce
+--   badLength n      == a ring has 4 to 32 corners
+--   badFigure f      == 2: a bad ring count, ring length or total
 --   fault f          == the first of 2, 3, 4 whose condition holds of f, 0 where none does
 --   shapeNo          == the number of each answer of `shape_of`; 0 where the figure is right-angled
 use Prim.Native.Nat.{ℕ, _*_}
-use mathlib.Core.Bool.{Bool, cond, _||_}
-use mathlib.Core.List.{List}
-use lib.Dec.{ltb}
-use lib.ListN.{length}
+use mathlib.Core.Bool.{Bool, cond, not, _||_}
+use mathlib.Core.List.{List, [], _∷_, map}
+use lib.Dec.{ltb, eqb}
+use lib.ListN.{length, take, drop}
+use Rattle.sum.specs.Sum.{sumOf, join}
 use Rattle.refusal.specs.declared.Refusal.the-variants as because
 use Rattle.refusal.specs.Refusals.{refusalNo}
 use Rattle.figure.specs.declared.Shape.{Shape}
 use Rattle.figure.specs.declared.Shape.the-variants.{Right, Refused}
-use Rattle.figure.specs.Corners.{Corner, Link, corners, edges, turns, odd, slanted, unturned}
+use Rattle.figure.specs.Corners.{Corner, Link, corners, edges, turns, any, slanted, unturned}
 
 pub record Figure : Type 0 where
   pub numbers : List ℕ
+  pub lengths : List ℕ
 
-abbrev pub figure : List ℕ → Figure
-figure l = record { numbers = l }
+abbrev pub figure : List ℕ → List ℕ → Figure
+figure l ns = record { numbers = l; lengths = ns }
+
+abbrev pub leastCorners : ℕ
+leastCorners = 4
 
 abbrev pub mostCorners : ℕ
 mostCorners = 32
 
+abbrev pub mostRings : ℕ
+mostRings = 8
+
 abbrev pub mostPlace : ℕ
 mostPlace = 65535
 
+unfoldable pub share : List ℕ → List ℕ → List (List ℕ)
+share [] l = []
+share (n ∷ ns) l = take (2 * n) l ∷ share ns (drop (2 * n) l)
+
+abbrev pub rings : Figure → List (List Corner)
+rings f = map corners (share (f .lengths) (f .numbers))
+
 abbrev pub cornersOf : Figure → List Corner
-cornersOf f = corners (f .numbers)
+cornersOf f = join (λ r. r) (rings f)
 
 abbrev pub edgesOf : Figure → List (Link Corner)
-edgesOf f = edges (cornersOf f)
+edgesOf f = join edges (rings f)
 
 abbrev pub turnsOf : Figure → List (Link (Link Corner))
-turnsOf f = turns (cornersOf f)
+turnsOf f = join turns (rings f)
+
+abbrev pub total : Figure → ℕ
+total f = sumOf (λ n. n) (f .lengths)
+
+unfoldable pub badLength : ℕ → Bool
+badLength n = ltb n leastCorners || ltb mostCorners n
 
 unfoldable pub badFigure : Figure → Bool
-badFigure f = odd (length (f .numbers)) || (ltb (length (f .numbers)) 8 || ltb (2 * mostCorners) (length (f .numbers)))
+badFigure f =
+    (eqb (length (f .lengths)) 0 || ltb mostRings (length (f .lengths)))
+    || (any badLength (f .lengths) || (ltb mostCorners (total f) || not (eqb (length (f .numbers)) (2 * total f))))
 
 unfoldable pub fault : Figure → ℕ
 fault f =
     cond (badFigure f) (refusalNo because.Length)
-    (cond (slanted (cornersOf f)) (refusalNo because.Slanted)
-    (cond (unturned (cornersOf f)) (refusalNo because.Unturned)
+    (cond (any slanted (rings f)) (refusalNo because.Slanted)
+    (cond (any unturned (rings f)) (refusalNo because.Unturned)
     0))
 
 abbrev pub shapeNo : Shape → ℕ

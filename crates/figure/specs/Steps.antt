@@ -8,8 +8,8 @@ use mathlib.Core.Path.{_≡_}
 use mathlib.Core.Bool.{false}
 use mathlib.Core.List.{List}
 use lib.ListN.{getD}
-use Rattle.figure.specs.Corners.{Corner, Link, corners, edges, turns, slanted, unturned}
-use Rattle.figure.specs.Figure.{Figure, cornersOf, badFigure}
+use Rattle.figure.specs.Corners.{Corner, Link, corners, edges, turns, any, slanted, unturned}
+use Rattle.figure.specs.Figure.{Figure, rings, badFigure}
 
 unfoldable pub origin : Corner
 origin = record { x = 0; y = 0 }
@@ -32,5 +32,5 @@ before (suc k) n = k
 
 pub record Right (f : Figure) : Type 0 where
   pub figure-good : badFigure f ≡ false
-  pub slanted-none : slanted (cornersOf f) ≡ false
-  pub unturned-none : unturned (cornersOf f) ≡ false
+  pub slanted-none : any slanted (rings f) ≡ false
+  pub unturned-none : any unturned (rings f) ≡ false

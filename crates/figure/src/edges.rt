@@ -1,12 +1,10 @@
-// The edges of a ring, and refusals 2, 3 and 4.
+// The edges of a ring, and refusals 3 and 4.
 ghost use mathlib.Core.Path.{_≡_};
 ghost use Prim.Native.Nat.{_/_, _<_};
 ghost use lib.ListN.{length};
 ghost use Rattle.figure.specs.Corners as corner;
-ghost use Rattle.figure.specs.Figure.{figure, badFigure};
 ghost use Rattle.figure.specs.Steps as step;
 use crate::Axis;
-use crate::MOST_CORNERS;
 use crate::Place;
 
 // The place of corner k along an axis.
@@ -76,17 +74,6 @@ fn alike(corners: &[u16], k: usize) -> bool
     let x = same(corners, k, Axis::X);
     let y = same(corners, k, Axis::Y);
     x || y
-}
-
-// 2: the list's length is odd, under 8 or over 64.
-pub fn bad_length(corners: &[u16]) -> bool
-    ensures { λ r. ⌜ r ≡ badFigure (figure (now (corners .entry))) ⌝ }
-{
-    let n = corners.len();
-    if n % 2 == 1 {
-        return true;
-    }
-    n < 8 || 2 * MOST_CORNERS < n
 }
 
 // 3: an edge changes both coordinates. The edge that ends at corner 0 is the closing one.

@@ -4,6 +4,7 @@ ghost use mathlib.Core.Path.{_≡_};
 ghost use Rattle.figure.specs.Figure.{figure, fault, shapeNo};
 
 pub mod edges;
+pub mod rings;
 
 // A place in whole nanometres.
 pub struct Place(pub u16);
@@ -14,7 +15,13 @@ pub enum Axis {
     Y,
 }
 
-// No figure has more corners.
+// No figure has more rings.
+pub const MOST_RINGS: usize = 8;
+
+// No ring has fewer corners.
+pub const LEAST_CORNERS: usize = 4;
+
+// No figure has more corners, in all its rings together.
 pub const MOST_CORNERS: usize = 32;
 
 // The highest place, in nm.
@@ -26,17 +33,18 @@ pub enum Shape {
     Refused(Refusal),
 }
 
-// The shape of a figure, from the list x, y, x, y, .. of its corners. Each of 2, 3, 4 is tried over all of it before the next.
-pub fn shape_of(corners: &[u16]) -> Shape
-    ensures settled { λ r. ⌜ shapeNo r ≡ fault (figure (now (corners .entry))) ⌝ }
+// The shape of a figure, from the list x, y, x, y, .. of its corners, ring after ring, and the number of corners of each ring. Each of
+// 2, 3, 4 is tried over all rings before the next.
+pub fn shape_of(corners: &[u16], lengths: &[u16]) -> Shape
+    ensures settled { λ r. ⌜ shapeNo r ≡ fault (figure (now (corners .entry)) (now (lengths .entry))) ⌝ }
 {
-    if edges::bad_length(corners) {
+    if rings::bad_figure(corners, lengths) {
         return Shape::Refused(Refusal::Length);
     }
-    if edges::slanted(corners) {
+    if rings::slanted(corners, lengths) {
         return Shape::Refused(Refusal::Slanted);
     }
-    if edges::unturned(corners) {
+    if rings::unturned(corners, lengths) {
         return Shape::Refused(Refusal::Unturned);
     }
     Shape::Right

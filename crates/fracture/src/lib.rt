@@ -59,14 +59,20 @@ fn fracture_grid(
 }
 
 // The fracture of a figure by a rule in range: 2 to 7 or the shots.
-fn fracture_by(corners: &[u16], rule: Rule, table: &mut [u32], list: &mut [u16]) -> Fractured
+fn fracture_by(
+    corners: &[u16],
+    lengths: &[u16],
+    rule: Rule,
+    table: &mut [u32],
+    list: &mut [u16],
+) -> Fractured
     requires { ⌜ inRange (rule .threshold) (rule .weight) ≡ true ⌝ }
-    ensures { λ a. ⌜ told a (now (table .exit)) (now (list .exit)) ≡ ruled (figure (now (corners .entry))) rule (now (table .entry)) (now (list .entry)) ⌝ }
+    ensures { λ a. ⌜ told a (now (table .exit)) (now (list .exit)) ≡ ruled (figure (now (corners .entry)) (now (lengths .entry))) rule (now (table .entry)) (now (list .entry)) ⌝ }
 {
     let mut xs = [0u16; MOST_LINES];
     let mut ys = [0u16; MOST_LINES];
     let mut cells = [0u8; MOST_CELLS];
-    let drawing = draw(corners, &mut xs, &mut ys, &mut cells);
+    let drawing = draw(corners, lengths, &mut xs, &mut ys, &mut cells);
     let answer = drawing.answer;
     match answer {
         Answer::Accepted => {
@@ -78,29 +84,35 @@ fn fracture_by(corners: &[u16], rule: Rule, table: &mut [u32], list: &mut [u16])
     }
 }
 
-// Fractures a figure, given as x, y, x, y, .. of its corners, by a threshold in nm and a weight in thousandths of a shot per nm. It
-// leaves the cost of every piece at the front of the table and the shots at the front of the list, and touches nothing beyond.
+// Fractures a figure, given as x, y, x, y, .. of its corners, ring after ring, and the number of corners of each ring, by a threshold
+// in nm and a weight in thousandths of a shot per nm. It leaves the cost of every piece at the front of the table and the shots at the front of the list, and touches nothing beyond.
 pub fn fracture(
     corners: &[u16],
+    lengths: &[u16],
     threshold: u32,
     weight: u32,
     table: &mut [u32],
     list: &mut [u16],
 ) -> Fractured
-    ensures settled { λ a. ⌜ told a (now (table .exit)) (now (list .exit)) ≡ outcome (asked (now (corners .entry)) threshold weight (now (table .entry)) (now (list .entry))) ⌝ }
+    ensures settled { λ a. ⌜ told a (now (table .exit)) (now (list .exit)) ≡ outcome (asked (now (corners .entry)) (now (lengths .entry)) threshold weight (now (table .entry)) (now (list .entry))) ⌝ }
 {
     match Rule::new(threshold, weight) {
-        Made::Rule(rule) => fracture_by(corners, rule, table, list),
+        Made::Rule(rule) => fracture_by(corners, lengths, rule, table, list),
         Made::Refused(why) => Fractured::Refused(why, 0),
     }
 }
 
 // The same by the default preset.
-pub fn fracture_default(corners: &[u16], table: &mut [u32], list: &mut [u16]) -> Fractured
-    ensures settled { λ a. ⌜ told a (now (table .exit)) (now (list .exit)) ≡ outcome (asked (now (corners .entry)) (presetTold 0 .threshold) (presetTold 0 .weight) (now (table .entry)) (now (list .entry))) ⌝ }
+pub fn fracture_default(
+    corners: &[u16],
+    lengths: &[u16],
+    table: &mut [u32],
+    list: &mut [u16],
+) -> Fractured
+    ensures settled { λ a. ⌜ told a (now (table .exit)) (now (list .exit)) ≡ outcome (asked (now (corners .entry)) (now (lengths .entry)) (presetTold 0 .threshold) (presetTold 0 .weight) (now (table .entry)) (now (list .entry))) ⌝ }
 {
     match Rule::preset(Rule::DEFAULT_PRESET) {
-        Preset::Row(rule) => fracture_by(corners, rule, table, list),
+        Preset::Row(rule) => fracture_by(corners, lengths, rule, table, list),
         Preset::Refused(why) => Fractured::Refused(why, 0),
     }
 }

@@ -4,9 +4,9 @@
 --   fault-whole, read-whole == what the job is, by what `whole` is
 --   job-said         == threshold, weight and K of a job are its header's
 --   checked-fault, checked-read == checking a job, by `whole`
---   located-before, located-fault, located-part == where an outline stands, by those before it and by itself
+--   located-before, located-fault, located-part == where a figure stands, by those before it and by itself
 --   located-within   == it stands within the bytes
---   taken-fault, taken-missing, taken-never, taken-part == taking outline k, by `whole` and `located`
+--   taken-fault, taken-missing, taken-never, taken-part == taking figure k, by `whole` and `located`
 use Prim.Native.Nat.{ℕ, _-_, _<_, _≤_}
 use mathlib.Core.Path.{_≡_, _∙_, refl, sym, ap, ap₂}
 use mathlib.Core.List.{List, []}
@@ -83,11 +83,11 @@ module _ (s : List ℕ) where
           let k = job-said q f in
           ap₂ (λ t w. said t w (h .count)) (sym (k .0)) (sym (k .1)) ∙ ap (said (j .threshold) (j .weight)) (sym (k .2)) ∙ sym (ap jobSaid q)
 
--- taking outline k
+-- taking figure k
 
 module _ (s : List ℕ) (k at : ℕ) where
-  ended : ℕ → List ℕ → ℕ → Reading ℕ
-  ended start l end = read start end
+  ended : ℕ → List (List ℕ) → ℕ → Reading ℕ
+  ended start ls end = read start end
 
   begun : List Part → ℕ → Reading ℕ
   begun ps start = andThen (outline s start) (ended start)
@@ -115,7 +115,7 @@ module _ (s : List ℕ) (k at : ℕ) where
   located-within {start} {end} e =
       let i = then-inv (λ ps start. andThen (outline s start) (λ l end. read start end)) (outlines s k at) (sym e) in
       let j = then-inv (λ l end. read (i .1) end) (outline s (i .1)) (i .3) in
-      let h = outline-onward s (i .1) (j .0) (j .1) (j .2) in
+      let h = outline-onward s (i .1) (j .2) in
       let a : i .1 ≡ start = cc in
       let b : j .1 ≡ end = cc in
       omega arith
@@ -135,7 +135,7 @@ module _ (s : List ℕ) (k : ℕ) where
         ap (λ m. told m 0 []) f ∙ simp (le-ltb k (length (w .0 .parts)) (omega arith))
         in p ∙ sym (ap (partTaken s k) (w .2))
 
-    -- outline k of a sound job stands where it is looked for
+    -- figure k of a sound job stands where it is looked for
     pub located-nth : k < h .count → (j : Job) × (last : ℕ) × (job s ≡ read j last) × (k < length (j .parts))
         × (located s k next ≡ read (getD (j .parts) k noPart .start) (getD (j .parts) k noPart .end))
     unfolding outlines

@@ -1,33 +1,39 @@
 -- Laws of reading a job: the ways that each step can go. Assumes nothing.
 --
 --   value-fault, value-under, value-over, value-in == a number held to its range
---   value-read        == a value that is read lies in its range
---   outline-fault, outline-go, outline-inv == an outline, by its V
---   part-past, part-read == a part, by its outline
---   value-onward, outline-onward == what is read goes on within the bytes
+--   value-read, value-onward == a value that is read lies in its range, and goes on within the bytes
+--   told-fault, told-read == a reading, by what is told of its value
+--   ring-fault, ring-go, ring-inv, ring-long, ring-onward == a ring, by its V
+--   sized-V, sized-fault, sized-read, ring-sized == its V with the place past it
+--   rings-fault, rings-go, rings-first, rings-none, rings-length, rings-onward == rings in a row, by the first
+--   announces-none, announces-byte, announces-true == whether rings are announced
+--   begun-many, begun-one, begun-some == how many rings there are
+--   outline-begun, outline-fault, outline-go, outline-rings, outline-past, outline-onward == a figure, by its rings
+--   part-past, part-read == a part, by its figure
 --   header-threshold, header-weight, header-count, header-read == a header, by its three numbers
 --   filled-extra, filled-read == what is read to the end of the bytes, or short of it
 --   filled-inv        == what fills the bytes is read, to their end
 --   job-long, job-header, job-outlines, job-extra, job-made, job-read == a job, by its parts
 --   Whole, job-whole  == what a job that is read is made of
-use Prim.Native.Nat.{ℕ, _-_, _*_, _<_, _≤_}
+use Prim.Native.Nat.{ℕ, zero, suc, _+_, _*_, _/_, _<_, _≤_}
 use mathlib.Core.Path.{_≡_, _∙_, refl, sym, ap, ap₂, subst}
-use mathlib.Core.List.{List}
-use mathlib.Core.Bool.{Bool, true, false, cond, _&&_}
+use mathlib.Core.List.{List, [], _∷_}
+use mathlib.Core.Bool.{Bool, true, false, cond, _&&_, false≢true}
 use native.Mathlib.Omega.{arith}
-use lib.Dec.{leb, ltb}
-use lib.ListN.{length}
-use borrow.Author.Tests.{le-leb, lt-leb, leb-true, lt-ltb, le-ltb, ltb-false}
+use lib.Dec.{leb, ltb, eqb}
+use lib.ListN.{length, getD}
+use borrow.Author.Tests.{le-leb, lt-leb, leb-true, lt-ltb, le-ltb, ltb-true, ltb-false, eqb-true}
 use Rattle.refusal.specs.declared.Refusal.{Refusal}
 use Rattle.refusal.specs.declared.Refusal.the-variants.{Range, Extra, Long}
 use Rattle.number.specs.Reading.{Reading, read, fault, andThen, past}
 use Rattle.number.specs.Number.{number}
 use Rattle.number.proofs.Number.{apart}
 use Rattle.number.proofs.Bytes.{number-onward}
-use Rattle.number.proofs.Reading.{then-same, then-inv, past-fault, past-read, many-onward}
+use Rattle.number.proofs.Reading.{then-same, then-inv, past-fault, past-read, many-length, many-onward}
 use Rattle.rule.specs.Rules.{limit}
-use Rattle.figure.specs.Figure.{mostCorners, mostPlace}
-use Rattle.job.specs.Job.{mostBytes, mostOutlines, value, coordinates, outline, Part, part, outlines, header, Header, filled, body, job, Job}
+use Rattle.figure.specs.Figure.{mostCorners, mostRings, mostPlace, total}
+use Rattle.job.specs.Job.{mostBytes, mostOutlines, leastRings, leftAfter, value, coordinates, ring, ringsFrom, announces, outline, figureOf, Part, part, outlines, header, Header, filled, body, job, Job}
+use Rattle.job.specs.Steps.{begun, sized, summed}
 
 -- value
 
@@ -66,24 +72,209 @@ module _ (s : List ℕ) (low high at : ℕ) where
       go u n true p false q f g = absurd (apart (sym g))
       go u n false p b q f g = absurd (apart (sym g))
 
--- outline
+-- a value that is read goes on within the bytes
+pub value-onward : (s : List ℕ) (low high at v next : ℕ) → value s low high at ≡ read v next → (at ≤ next) × (next ≤ length s)
+value-onward s low high at v next e = let h = number-onward s at (value-read s low high at e .0) in omega arith
 
-module _ (s : List ℕ) (at : ℕ) where
+-- ring
+
+module _ {A B : Type 0} (f : A → B) where
+  -- a reading, by what is told of its value and by the place past it
+  pub told-fault : (u : Reading A) {r : Refusal} {p : ℕ} → fault r p ≡ andThen u (λ a next. read (f a) next) → u ≡ fault r p
+  told-fault (read a next) e = absurd (apart (sym e))
+  told-fault (fault t q) {r} {p} e = let k : t ≡ r = cc in let m : q ≡ p = cc in ap₂ fault k m
+
+  pub told-read : (u : Reading A) {b : B} {n : ℕ} → read b n ≡ andThen u (λ a next. read (f a) next) → (a : A) × (u ≡ read a n) × (f a ≡ b)
+  told-read (read a next) {b} {n} e = let z : next ≡ n = cc in let y : f a ≡ b = cc in (a, ap (read a) z, y)
+  told-read (fault r p) e = absurd (apart e)
+
+module _ (s : List ℕ) (most at : ℕ) where
   abbrev cornered : ℕ → ℕ → Reading (List ℕ)
   cornered v next = coordinates s (2 * v) next
 
-  pub outline-fault : {r : Refusal} {p : ℕ} → fault r p ≡ value s 4 mostCorners at → fault r p ≡ outline s at
-  unfolding outline
-  outline-fault e = then-same cornered e
+  pub ring-fault : {r : Refusal} {p : ℕ} → fault r p ≡ value s 4 most at → fault r p ≡ ring s most at
+  unfolding ring
+  ring-fault e = then-same cornered e
 
-  pub outline-go : {v next : ℕ} → read v next ≡ value s 4 mostCorners at → coordinates s (2 * v) next ≡ outline s at
-  unfolding outline
-  outline-go e = then-same cornered e
+  pub ring-go : {v next : ℕ} → read v next ≡ value s 4 most at → coordinates s (2 * v) next ≡ ring s most at
+  unfolding ring
+  ring-go e = then-same cornered e
 
-  pub outline-inv : {l : List ℕ} {last : ℕ} → outline s at ≡ read l last
-      → (v : ℕ) × (next : ℕ) × (value s 4 mostCorners at ≡ read v next) × (coordinates s (2 * v) next ≡ read l last)
-  unfolding outline
-  outline-inv e = then-inv cornered (value s 4 mostCorners at) e
+  pub ring-inv : {l : List ℕ} {last : ℕ} → ring s most at ≡ read l last
+      → (v : ℕ) × (next : ℕ) × (value s 4 most at ≡ read v next) × (coordinates s (2 * v) next ≡ read l last)
+  unfolding ring
+  ring-inv e = then-inv cornered (value s 4 most at) e
+
+  -- how many numbers a ring has that is read
+  pub ring-long : {l : List ℕ} {last : ℕ} → ring s most at ≡ read l last
+      → (length l ≡ 2 * (length l / 2)) × (4 ≤ length l / 2) × (length l / 2 ≤ most)
+  unfolding coordinates
+  ring-long {l} e =
+      let i = ring-inv e in
+      let n : length l ≡ 2 * i .0 = many-length (value s 0 mostPlace) (2 * i .0) (i .1) (i .3) in
+      let r = value-read s 4 most at (i .2) in
+      (omega arith, omega (arith, r .1), omega (arith, r .2))
+
+  pub ring-onward : {l : List ℕ} {last : ℕ} → ring s most at ≡ read l last → (at ≤ last) × (last ≤ length s)
+  unfolding coordinates
+  ring-onward e =
+      let i = ring-inv e in
+      let h = value-onward s 4 most at (i .0) (i .1) (i .2) in
+      let k = many-onward (value s 0 mostPlace) (length s) (value-onward s 0 mostPlace) (2 * i .0) (i .1) (h .1) (i .3) in
+      omega arith
+
+  -- its V with the place past it
+  pub sized-V : {r : Refusal} {p : ℕ} → fault r p ≡ value s 4 most at → fault r p ≡ sized (ring s most at)
+  unfolding sized
+  sized-V e = ap sized (ring-fault e)
+
+  module _ {v next : ℕ} (e : read v next ≡ value s 4 most at) where
+    pub sized-fault : {r : Refusal} {p : ℕ} → fault r p ≡ past (coordinates s (2 * v) next) → fault r p ≡ sized (ring s most at)
+    unfolding sized
+    sized-fault f = ap sized (sym (past-fault (coordinates s (2 * v) next) f) ∙ ring-go e)
+
+    pub sized-read : {last : ℕ} → read tt last ≡ past (coordinates s (2 * v) next) → read v last ≡ sized (ring s most at)
+    unfolding sized coordinates
+    sized-read {last} f =
+        let u = past-read (coordinates s (2 * v) next) f in
+        let n : length (u .0) ≡ 2 * v = many-length (value s 0 mostPlace) (2 * v) next (u .1) in
+        let w : v ≡ length (u .0) / 2 = omega arith in
+        ap (λ k. read k last) w ∙ ap sized (sym (u .1) ∙ ring-go e)
+
+  -- the ring of which this is told
+  pub ring-sized : {v last : ℕ} → read v last ≡ sized (ring s most at)
+      → (l : List ℕ) × (ring s most at ≡ read l last) × (length l ≡ 2 * v) × (length l / 2 ≡ v) × (v ≤ most)
+  unfolding sized
+  ring-sized {v} e =
+      let u = told-read (λ (l : List ℕ). length l / 2) (ring s most at) e in
+      let k = ring-long (u .1) in
+      (u .0, u .1, omega (arith, k .0, u .2), u .2, omega (arith, k .2, u .2))
+
+-- rings
+
+module _ (s : List ℕ) (n left at : ℕ) where
+  abbrev ringed : List ℕ → ℕ → Reading (List (List ℕ))
+  ringed l next = andThen (ringsFrom s n (leftAfter left l) next) (λ ls last. read (l ∷ ls) last)
+
+  pub rings-fault : {r : Refusal} {p : ℕ} → ring s left at ≡ fault r p → ringsFrom s (suc n) left at ≡ fault r p
+  unfolding ringsFrom
+  rings-fault e = then-same ringed e
+
+  pub rings-go : {l : List ℕ} {next : ℕ} → ring s left at ≡ read l next → ringsFrom s (suc n) left at ≡ ringed l next
+  unfolding ringsFrom
+  rings-go e = then-same ringed e
+
+  pub rings-first : {ls : List (List ℕ)} {last : ℕ} → ringsFrom s (suc n) left at ≡ read ls last
+      → (l : List ℕ) × (next : ℕ) × (ms : List (List ℕ)) × (ring s left at ≡ read l next)
+      × (ringsFrom s n (leftAfter left l) next ≡ read ms last) × (ls ≡ l ∷ ms)
+  unfolding ringsFrom
+  rings-first {ls} {last} e =
+      let i = then-inv ringed (ring s left at) e in
+      let j = then-inv (λ ms k. read (i .0 ∷ ms) k) (ringsFrom s n (leftAfter left (i .0)) (i .1)) (i .3) in
+      let p : i .0 ∷ j .0 ≡ ls = cc in
+      let q : j .1 ≡ last = cc in
+      (i .0, i .1, j .0, i .2, j .2 ∙ ap (read (j .0)) q, sym p)
+
+module _ (s : List ℕ) where
+  pub rings-none : (left at : ℕ) {ls : List (List ℕ)} {last : ℕ} → ringsFrom s 0 left at ≡ read ls last → ([] ≡ ls) × (at ≡ last)
+  unfolding ringsFrom
+  rings-none left at {ls} {last} e = let a : [] ≡ ls = cc in let b : at ≡ last = cc in (a, b)
+
+  pub rings-length : (n left at : ℕ) {ls : List (List ℕ)} {last : ℕ} → ringsFrom s n left at ≡ read ls last → length ls ≡ n
+  rings-length zero left at e = ap length (sym (rings-none left at e .0))
+  rings-length (suc n) left at e =
+      let i = rings-first s n left at e in
+      ap length (i .5) ∙ ap suc (rings-length n (leftAfter left (i .0)) (i .1) (i .4))
+
+  -- some rings go on within the bytes
+  pub rings-onward : (n left at : ℕ) {ls : List (List ℕ)} {last : ℕ} → ringsFrom s (suc n) left at ≡ read ls last
+      → (at ≤ last) × (last ≤ length s)
+  rings-onward zero left at e =
+      let i = rings-first s 0 left at e in
+      omega (arith, ring-onward s left at (i .3), rings-none (leftAfter left (i .0)) (i .1) (i .4) .1)
+  rings-onward (suc n) left at e =
+      let i = rings-first s (suc n) left at e in
+      omega (arith, ring-onward s left at (i .3), rings-onward n (leftAfter left (i .0)) (i .1) (i .4))
+
+-- what announces rings
+
+module _ (s : List ℕ) (at : ℕ) where
+  pub announces-none : length s ≤ at → false ≡ announces s at
+  unfolding announces
+  announces-none h = rw (le-ltb at (length s) h)
+
+  pub announces-byte : at < length s → eqb (getD s at 0) 0 ≡ announces s at
+  unfolding announces
+  announces-byte h = rw (lt-ltb at (length s) h)
+
+  pub announces-true : announces s at ≡ true → (at < length s) × (getD s at 0 ≡ 0)
+  unfolding announces
+  announces-true e = go (ltb at (length s)) refl e
+    where
+      go : (b : Bool) → ltb at (length s) ≡ b → (b && eqb (getD s at 0) 0) ≡ true → (at < length s) × (getD s at 0 ≡ 0)
+      go true p f = (ltb-true at (length s) p, eqb-true (getD s at 0) 0 f)
+      go false p f = absurd (false≢true f)
+
+  pub begun-many : announces s at ≡ true → value s leastRings mostRings (at + 1) ≡ begun s at
+  unfolding begun
+  begun-many e = rw e
+
+  pub begun-one : announces s at ≡ false → read 1 at ≡ begun s at
+  unfolding begun
+  begun-one e = rw e
+
+-- a figure
+
+module _ (s : List ℕ) (at : ℕ) where
+  abbrev shown : ℕ → ℕ → Reading (List (List ℕ))
+  shown r next = ringsFrom s r mostCorners next
+
+  -- one ring is read as rings are, one of them
+  pub outline-begun : outline s at ≡ andThen (begun s at) shown
+  unfolding outline begun ringsFrom
+  outline-begun = go (announces s at)
+    where
+      go : (b : Bool) → cond b (andThen (value s leastRings mostRings (at + 1)) shown) (andThen (ring s mostCorners at) (λ l next. read (l ∷ []) next))
+          ≡ andThen (cond b (value s leastRings mostRings (at + 1)) (read 1 at)) shown
+      go true = refl
+      go false = refl
+
+  pub outline-fault : {r : Refusal} {p : ℕ} → fault r p ≡ begun s at → fault r p ≡ outline s at
+  outline-fault e = then-same shown e ∙ sym outline-begun
+
+  pub outline-go : {r next : ℕ} → read r next ≡ begun s at → ringsFrom s r mostCorners next ≡ outline s at
+  outline-go e = then-same shown e ∙ sym outline-begun
+
+  module _ {r next : ℕ} (e : read r next ≡ begun s at) where
+    pub outline-rings : {t : Refusal} {p : ℕ} → fault t p ≡ summed (ringsFrom s r mostCorners next) → fault t p ≡ outline s at
+    unfolding summed
+    outline-rings f = sym (told-fault (λ ls. total (figureOf ls)) (ringsFrom s r mostCorners next) f) ∙ outline-go e
+
+    pub outline-past : {m last : ℕ} → read m last ≡ summed (ringsFrom s r mostCorners next) → read tt last ≡ past (outline s at)
+    unfolding summed
+    outline-past f =
+        let u = told-read (λ ls. total (figureOf ls)) (ringsFrom s r mostCorners next) f in ap past (sym (u .1) ∙ outline-go e)
+
+  pub begun-some : {r next : ℕ} → begun s at ≡ read r next → (0 < r) × (at ≤ next)
+  unfolding begun
+  begun-some {r} {next} e = go (announces s at) e
+    where
+      go : (b : Bool) → cond b (value s leastRings mostRings (at + 1)) (read 1 at) ≡ read r next → (0 < r) × (at ≤ next)
+      go true f =
+          let v = value-read s leastRings mostRings (at + 1) f in
+          let w = value-onward s leastRings mostRings (at + 1) r next f in
+          (omega (arith, v .1), omega (arith, w .0))
+      go false f = let a : 1 ≡ r = cc in let b : at ≡ next = cc in (omega arith, omega arith)
+
+  pub outline-onward : {ls : List (List ℕ)} {last : ℕ} → outline s at ≡ read ls last → (at ≤ last) × (last ≤ length s)
+  outline-onward {ls} {last} e =
+      let i = then-inv shown (begun s at) (sym outline-begun ∙ e) in
+      let b = begun-some (i .2) in
+      go (i .0) (i .1) (b .0) (b .1) (i .3)
+    where
+      go : (r next : ℕ) → 0 < r → at ≤ next → ringsFrom s r mostCorners next ≡ read ls last → (at ≤ last) × (last ≤ length s)
+      go zero next h k f = absurd (omega arith)
+      go (suc r) next h k f = let o = rings-onward s r mostCorners next f in omega (arith, o)
 
 -- parts
 
@@ -91,33 +282,20 @@ pub part-past : (s : List ℕ) (at : ℕ) → past (part s at) ≡ past (outline
 unfolding part
 part-past s at = go (outline s at)
   where
-    go : (u : Reading (List ℕ)) → past {A = Part} (andThen u (λ l next. read (record { start = at; end = next; corners = l }) next)) ≡ past u
+    go : (u : Reading (List (List ℕ))) → past {A = Part} (andThen u (λ ls next. read (record { start = at; end = next; rings = ls }) next)) ≡ past u
     go (read l next) = refl
     go (fault r p) = refl
 
--- a part that is read: where it stands, and that it is an outline
+-- a part that is read: where it stands, and that it is a figure
 pub part-read : (s : List ℕ) (at : ℕ) {p : Part} {next : ℕ} → part s at ≡ read p next
-    → (outline s at ≡ read (p .corners) next) × (p .start ≡ at) × (p .end ≡ next)
+    → (outline s at ≡ read (p .rings) next) × (p .start ≡ at) × (p .end ≡ next)
 unfolding part
 part-read s at {p} {next} e =
-    let i = then-inv (λ l next. read (record { start = at; end = next; corners = l }) next) (outline s at) e in
-    let made : Part = record { start = at; end = i .1; corners = i .0 } in
+    let i = then-inv (λ ls next. read (record { start = at; end = next; rings = ls }) next) (outline s at) e in
+    let made : Part = record { start = at; end = i .1; rings = i .0 } in
     let z : made ≡ p = cc in
     let n : i .1 ≡ next = cc in
-    (i .2 ∙ ap₂ read (ap (λ (q : Part). q .corners) z) n, sym (ap (λ (q : Part). q .start) z), sym (ap (λ (q : Part). q .end) z) ∙ n)
-
--- what is read goes on within the bytes
-
-pub value-onward : (s : List ℕ) (low high at v next : ℕ) → value s low high at ≡ read v next → (at ≤ next) × (next ≤ length s)
-value-onward s low high at v next e = let h = number-onward s at (value-read s low high at e .0) in omega arith
-
-pub outline-onward : (s : List ℕ) (at : ℕ) (l : List ℕ) (next : ℕ) → outline s at ≡ read l next → (at ≤ next) × (next ≤ length s)
-unfolding coordinates
-outline-onward s at l next e =
-    let i = outline-inv s at e in
-    let h = value-onward s 4 mostCorners at (i .0) (i .1) (i .2) in
-    let k = many-onward (value s 0 mostPlace) (length s) (value-onward s 0 mostPlace) (2 * i .0) (i .1) (h .1) (i .3) in
-    omega arith
+    (i .2 ∙ ap₂ read (ap (λ (q : Part). q .rings) z) n, sym (ap (λ (q : Part). q .start) z), sym (ap (λ (q : Part). q .end) z) ∙ n)
 
 -- header
 

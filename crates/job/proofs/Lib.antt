@@ -1,6 +1,8 @@
+pub mod Rings
 pub mod Job
+pub mod RoundTrip
+pub mod Walking
 pub mod Calls
 pub mod Writing
 pub mod Unpacking
-pub mod RoundTrip
 pub mod Settled

@@ -2,12 +2,13 @@
 --
 --   check-settled, take-settled, unpack-settled, header-settled, outline-settled == for each call of the crate
 use Prim.Native.Nat.{ℕ}
-use mathlib.Core.Path.{_≡_, _∙_, sym, ap, ap₂}
+use mathlib.Core.Path.{_≡_, _∙_, refl, sym, ap, ap₂}
 use mathlib.Core.List.{List}
 use native.Mathlib.Omega.{arith}
 use Rattle.refusal.specs.declared.Refusal.{Refusal}
 use Rattle.refusal.specs.Refusals.{refusalNo}
 use Rattle.refusal.proofs.Refusals.{refusal-one, refusal-some}
+use Rattle.figure.specs.Figure.{Figure}
 use Rattle.job.specs.declared.read.Checked.{Checked}
 use Rattle.job.specs.declared.read.Checked.the-variants as check
 use Rattle.job.specs.declared.unpack.Unpacked.{Unpacked}
@@ -40,19 +41,29 @@ take-settled s k n at n′ at′ l l′ e f =
     let g = e ∙ sym f in
     (ap (λ (s : TakeSaid). s .number) g, ap (λ (s : TakeSaid). s .offset) g, ap (λ (s : TakeSaid). s .part) g)
 
-unpack-one : (u v : Unpacked) (l m : List ℕ) → unpackTold u l ≡ unpackTold v m → (u ≡ v) × (l ≡ m)
-unpack-one (unpack.Corners n) (unpack.Corners n′) l m e =
-    (ap unpack.Corners (ap (λ (s : UnpackSaid). s .corners) e), ap (λ (s : UnpackSaid). s .list) e)
-unpack-one (unpack.Corners n) (unpack.Refused r p) l m e = absurd (never r (ap (λ (s : UnpackSaid). s .number) e))
-unpack-one (unpack.Refused r p) (unpack.Corners n) l m e = absurd (never r (sym (ap (λ (s : UnpackSaid). s .number) e)))
-unpack-one (unpack.Refused r p) (unpack.Refused r′ p′) l m e = (
-  ap₂ unpack.Refused (refusal-one r r′ (ap (λ (s : UnpackSaid). s .number) e)) (ap (λ (s : UnpackSaid). s .offset) e),
-  ap (λ (s : UnpackSaid). s .list) e,
-)
+unpack-one : (u v : Unpacked) (l m ns ms : List ℕ) → unpackTold u l ns ≡ unpackTold v m ms → u ≡ v
+unpack-one (unpack.Figure n k) (unpack.Figure n′ k′) l m ns ms e =
+    ap₂ unpack.Figure (ap (λ (s : UnpackSaid). s .corners) e) (ap (λ (s : UnpackSaid). s .rings) e)
+unpack-one (unpack.Figure n k) (unpack.Refused r p) l m ns ms e = absurd (never r (ap (λ (s : UnpackSaid). s .number) e))
+unpack-one (unpack.Refused r p) (unpack.Figure n k) l m ns ms e = absurd (never r (sym (ap (λ (s : UnpackSaid). s .number) e)))
+unpack-one (unpack.Refused r p) (unpack.Refused r′ p′) l m ns ms e =
+    ap₂ unpack.Refused (refusal-one r r′ (ap (λ (s : UnpackSaid). s .number) e)) (ap (λ (s : UnpackSaid). s .offset) e)
 
-pub unpack-settled : (p l : List ℕ) (u v : Unpacked) (m m′ : List ℕ) → unpackTold u m ≡ unpacked p l → unpackTold v m′ ≡ unpacked p l
-    → (u ≡ v) × (m ≡ m′)
-unpack-settled p l u v m m′ e f = unpack-one u v m m′ (e ∙ sym f)
+-- an answer leaves both lists as it says
+told-list : (u : Unpacked) (l ns : List ℕ) → (unpackTold u l ns .list ≡ l) × (unpackTold u l ns .lengths ≡ ns)
+told-list (unpack.Figure n k) l ns = (refl, refl)
+told-list (unpack.Refused r p) l ns = (refl, refl)
+
+pub unpack-settled : (p l ns : List ℕ) (u v : Unpacked) (m m′ ms ms′ : List ℕ) → unpackTold u m ms ≡ unpacked p l ns
+    → unpackTold v m′ ms′ ≡ unpacked p l ns → (u ≡ v) × (m ≡ m′) × (ms ≡ ms′)
+unpack-settled p l ns u v m m′ ms ms′ e f =
+    let g = e ∙ sym f in
+    let a = told-list u m ms in
+    let b = told-list v m′ ms′ in (
+      unpack-one u v m m′ ms ms′ g,
+      sym (a .0) ∙ ap (λ (s : UnpackSaid). s .list) g ∙ b .0,
+      sym (a .1) ∙ ap (λ (s : UnpackSaid). s .lengths) g ∙ b .1,
+    )
 
 write-one : (u v : Written) (o p : List ℕ) → writeTold u o ≡ writeTold v p → (u ≡ v) × (o ≡ p)
 write-one (write.Bytes n) (write.Bytes n′) o p e =
@@ -66,6 +77,6 @@ pub header-settled : (t w k : ℕ) (out : List ℕ) (u v : Written) (o p : List 
     → writeTold u o ≡ headerWritten t w k out → writeTold v p ≡ headerWritten t w k out → (u ≡ v) × (o ≡ p)
 header-settled t w k out u v o p e f = write-one u v o p (e ∙ sym f)
 
-pub outline-settled : (l out : List ℕ) (u v : Written) (o p : List ℕ)
-    → writeTold u o ≡ outlineWritten l out → writeTold v p ≡ outlineWritten l out → (u ≡ v) × (o ≡ p)
-outline-settled l out u v o p e f = write-one u v o p (e ∙ sym f)
+pub outline-settled : (f : Figure) (out : List ℕ) (u v : Written) (o p : List ℕ)
+    → writeTold u o ≡ outlineWritten f out → writeTold v p ≡ outlineWritten f out → (u ≡ v) × (o ≡ p)
+outline-settled f out u v o p e g = write-one u v o p (e ∙ sym g)

@@ -5,16 +5,23 @@
 --   coordinates-more == the bytes of the coordinates from one on
 --   sizes-more, put-room, put-more, put-done == the loops over the coordinates
 --   written-room, written-fits == bytes that do not fit the buffer, and bytes that do
+--   announced-nothing, announced-length, announced-put == what announces rings
+--   figure-bytes     == a figure's bytes: what announces its rings, and the rings
+--   ring-length, ring-put == a ring's bytes
+--   rings-length     == how many bytes the rings have: those of all ring lengths, and those of all coordinates
+--   Putting          == the state of the loop that puts rings: those put and those still to be put give what the whole gives
+--   putting-start, putting-part, putting-short, putting-room, putting-more, putting-done == the loop's ways
 --   header-.., outline-.. == the cases of `headerWritten` and `outlineWritten`
-use Prim.Native.Nat.{ℕ, suc, _+_, _-_, _/_, _%_, _<_, _≤_}
+use Prim.Native.Nat.{ℕ, suc, _+_, _-_, _*_, _/_, _%_, _<_, _≤_}
 use mathlib.Core.Path.{_≡_, _∙_, refl, sym, ap, ap₂}
-use mathlib.Core.List.{List, [], _∷_, _++_}
+use mathlib.Core.List.{List, [], _∷_, _++_, append-assoc, append-nil}
 use mathlib.Core.Bool.{Bool, true, false, cond}
 use native.Mathlib.Numerals.{add-one}
 use native.Mathlib.Omega.{arith}
-use lib.ListN.{length, getD, drop, set, length-append, drop-of-length-le}
-use lib.Seq.{sets, drop-cons}
-use borrow.Author.Tests.{le-leb, lt-leb, lt-ltb, le-ltb}
+use lib.ListN.{length, getD, take, drop, set, length-append, length-map, length-take, length-drop, take-append-drop, drop-of-length-le}
+use lib.Seq.{sets, length-sets, drop-cons, length-take-le}
+use borrow.Author.Tests.{le-leb, lt-leb, lt-ltb, le-ltb, eq-eqb, ne-eqb}
+use Rattle.sum.specs.Sum.{sumOf, join}
 use Rattle.sum.proofs.Lists.{sets-append, sets-front}
 use Rattle.refusal.specs.declared.Refusal.{Refusal}
 use Rattle.refusal.specs.declared.Refusal.the-variants.{Rule, Length, Range, Room}
@@ -23,10 +30,13 @@ use Rattle.refusal.proofs.Refusals.{refusal-some}
 use Rattle.number.specs.Number.{numberBytes}
 use Rattle.number.proofs.Bytes.{bytes-one, bytes-two, bytes-three}
 use Rattle.rule.specs.Rules.{Told, refused, given, inRange, ruleTold}
-use Rattle.figure.specs.Figure.{figure, badFigure}
-use Rattle.job.specs.Bytes.{coordinateBytes, headerBytes, outlineBytes}
+use Rattle.figure.specs.Figure.{Figure, figure, share, mostCorners, badFigure}
+use Rattle.figure.proofs.Fault.{rings-good}
+use Rattle.job.specs.Bytes.{coordinateBytes, headerBytes, ringBytes, figureBytes}
 use Rattle.job.specs.Job.{mostOutlines}
+use Rattle.job.specs.Steps.{announceBytes}
 use Rattle.job.specs.Calls.{WriteSaid, unwritten, writtenTo, headerWritten, outlineWritten}
+use Rattle.job.proofs.Rings.{sum-cons, share-cons, share-back}
 
 -- a number
 
@@ -159,38 +169,200 @@ module _ (t w k : ℕ) (out : List ℕ) (range : inRange t w ≡ true) {a b d : 
   header-fits q e h =
       written-fits out (headerBytes t w k) (a + b + d) (header-length t w k ea eb ed) q h e ∙ header-few t w k out range few
 
--- an outline
+-- what announces rings, and the rings
 
-module _ (l out : List ℕ) where
-  pub outline-bad : badFigure (figure l) ≡ true → unwritten (refusalNo Length) out ≡ outlineWritten l out
+module _ (n : ℕ) where
+  announced-one : n ≡ 1 → announceBytes n ≡ []
+  unfolding announceBytes
+  announced-one e = rw (eq-eqb n 1 e)
+
+  -- one ring: nothing is put
+  pub announced-nothing : n ≡ 1 → (out : List ℕ) → (0 ≡ length (announceBytes n)) × (out ≡ sets out 0 (announceBytes n))
+  announced-nothing e out = (sym (ap length (announced-one e)), sym (ap (sets out 0) (announced-one e)))
+
+  announced-many : (n ≡ 1 → ⊥) → announceBytes n ≡ numberBytes 0 ++ numberBytes n
+  unfolding announceBytes
+  announced-many d = rw (ne-eqb n 1 d)
+
+  pub announced-length : (n ≡ 1 → ⊥) → length (announceBytes n) ≡ length (numberBytes 0) + length (numberBytes n)
+  announced-length d = ap length (announced-many d) ∙ length-append (numberBytes 0) (numberBytes n)
+
+  pub announced-put : (n ≡ 1 → ⊥) → (out : List ℕ) (at last : ℕ) (o q : List ℕ) → at ≡ 0 + length (numberBytes 0) → o ≡ sets out 0 (numberBytes 0)
+      → last ≡ at + length (numberBytes n) → q ≡ sets o at (numberBytes n)
+      → (last ≡ length (announceBytes n)) × (q ≡ sets out 0 (announceBytes n))
+  announced-put d out at last o q ea eo el eq = (
+    omega (arith, el, ea, announced-length d),
+    eq
+        ∙ ap₂ (λ (m : List ℕ) i. sets m i (numberBytes n)) eo ea
+        ∙ sym (sets-append out 0 (numberBytes 0) (numberBytes n))
+        ∙ ap (sets out 0) (sym (announced-many d)),
+  )
+
+-- one ring has no announcement, and other rings have one
+pub figure-bytes : (ls : List (List ℕ)) → figureBytes ls ≡ announceBytes (length ls) ++ join ringBytes ls
+unfolding figureBytes announceBytes join
+figure-bytes [] = sym (append-assoc (numberBytes 0) (numberBytes 0) [])
+figure-bytes (l ∷ []) = sym (append-nil (ringBytes l))
+figure-bytes (a ∷ b ∷ ls) =
+    let n : ℕ = length (a ∷ b ∷ ls) in
+    let B : List ℕ = join ringBytes (a ∷ b ∷ ls) in
+    sym (ap (λ (m : List ℕ). m ++ B) (announced-many n (λ e. omega arith)) ∙ append-assoc (numberBytes 0) (numberBytes n) B)
+
+pub ring-put : (l out : List ℕ) (from v at last : ℕ) (o q : List ℕ) → at ≡ from + length (numberBytes v) → o ≡ sets out from (numberBytes v)
+    → last ≡ at + length (coordinateBytes l) → q ≡ sets o at (coordinateBytes l) → v ≡ length l / 2
+    → (last ≡ from + length (ringBytes l)) × (q ≡ sets out from (ringBytes l))
+unfolding ringBytes
+ring-put l out from v at last o q ea eo el eq ev =
+    let w = ap numberBytes ev in (
+      el
+          ∙ ap (λ k. k + length (coordinateBytes l)) (ea ∙ ap (λ (b : List ℕ). from + length b) w)
+          ∙ omega (arith, length-append (numberBytes (length l / 2)) (coordinateBytes l)),
+      eq
+          ∙ ap₂ (λ (m : List ℕ) i. sets m i (coordinateBytes l)) eo ea
+          ∙ sym (sets-append out from (numberBytes v) (coordinateBytes l))
+          ∙ ap (λ (b : List ℕ). sets out from (b ++ coordinateBytes l)) w,
+    )
+
+pub ring-length : (l : List ℕ) → length (ringBytes l) ≡ length (numberBytes (length l / 2)) + length (coordinateBytes l)
+unfolding ringBytes
+ring-length l = length-append (numberBytes (length l / 2)) (coordinateBytes l)
+
+coordinates-append : (l m : List ℕ) → coordinateBytes (l ++ m) ≡ coordinateBytes l ++ coordinateBytes m
+unfolding coordinateBytes
+coordinates-append [] m = refl
+coordinates-append (n ∷ l) m =
+    ap (λ (b : List ℕ). numberBytes n ++ b) (coordinates-append l m) ∙ sym (append-assoc (numberBytes n) (coordinateBytes l) (coordinateBytes m))
+
+-- the bytes of shared out rings are those of all ring lengths and of all coordinates
+rings-size : (ns l : List ℕ) → length l ≡ 2 * sumOf (λ n. n) ns
+    → length (join ringBytes (share ns l)) ≡ length (coordinateBytes ns) + length (coordinateBytes l)
+unfolding share join sumOf coordinateBytes
+rings-size [] [] h = refl
+rings-size [] (u ∷ l) h = absurd (omega arith)
+rings-size (n ∷ ns) l h =
+    let r : List ℕ = take (2 * n) l in
+    let rest : List ℕ = drop (2 * n) l in
+    let i = rings-size ns rest (omega (arith, length-drop {A = ℕ} (2 * n) l)) in
+    let v : length r / 2 ≡ n = omega (arith, length-take-le (2 * n) l (omega arith)) in
+    let a = length-append (ringBytes r) (join ringBytes (share ns rest)) in
+    let b = ring-length r ∙ ap (λ k. length (numberBytes k) + length (coordinateBytes r)) v in
+    let c = length-append (numberBytes n) (coordinateBytes ns) in
+    let d = ap (λ (m : List ℕ). length (coordinateBytes m)) (sym (take-append-drop (2 * n) l))
+    ∙ ap length (coordinates-append r rest)
+    ∙ length-append (coordinateBytes r) (coordinateBytes rest)
+    in omega (arith, a, b, c, d, i)
+
+-- on the way through the rings: those put and those from the k-th on, whose numbers begin at from, give what the whole gives
+pub record Putting (l ns before : List ℕ) (first from k at : ℕ) (out : List ℕ) : Type 0 where
+  pub few : length l ≤ 2 * mostCorners
+  pub numbers : from + 2 * sumOf (λ n. n) (drop k ns) ≡ length l
+  pub same : length out ≡ length before
+  pub ends : at + length (join ringBytes (share (drop k ns) (drop from l))) ≡ first + length (join ringBytes (share ns l))
+  pub all : sets out at (join ringBytes (share (drop k ns) (drop from l))) ≡ sets before first (join ringBytes (share ns l))
+
+module _ (l ns before : List ℕ) (first : ℕ) where
+  pub putting-start : badFigure (figure l ns) ≡ false → Putting l ns before first 0 0 first before
+  putting-start h =
+      let g = rings-good (figure l ns) h in
+      record { few = omega (arith, g .numbers, g .most); numbers = omega (arith, g .numbers); same = refl; ends = refl; all = refl }
+
+  module _ (from k at : ℕ) (out : List ℕ) (p : Putting l ns before first from k at out) where
+    module _ (n to : ℕ) (here : k < length ns) (long : n ≡ getD ns k 0) (ends : to ≡ from + 2 * n) where
+      pub putting-part : (from ≤ to) × (to ≤ length l)
+      putting-part = (omega arith, omega (arith, p .numbers, sum-cons ns k here))
+
+      pub putting-short : length (take (to - from) (drop from l)) ≤ 2 * mostCorners
+      putting-short = omega (arith, p .few, length-take (to - from) (drop from l), length-drop from l)
+
+      this : List ℕ
+      this = take (to - from) (drop from l)
+
+      more : List ℕ
+      more = join ringBytes (share (drop (k + 1) ns) (drop to l))
+
+      split : join ringBytes (share (drop k ns) (drop from l)) ≡ ringBytes this ++ more
+      unfolding join this more
+      split = ap (join ringBytes) (share-cons ns k here l from n to long ends)
+
+      pub putting-room : first + length (join ringBytes (share ns l)) ≤ length before
+          → at + length (ringBytes (take (to - from) (drop from l))) ≤ length out
+      unfolding this
+      putting-room h = omega (arith, p .ends, p .same, ap length split, length-append (ringBytes this) more)
+
+      pub putting-more : (next : ℕ) (done : List ℕ) → next ≡ at + length (ringBytes (take (to - from) (drop from l)))
+          → done ≡ sets out at (ringBytes (take (to - from) (drop from l))) → Putting l ns before first to (k + 1) next done
+      unfolding this more
+      putting-more next done e d =
+          record {
+            few = p .few;
+            numbers = omega (arith, p .numbers, sum-cons ns k here);
+            same = ap length d ∙ length-sets out at (ringBytes this) ∙ p .same;
+            ends = omega (arith, e, p .ends, ap length split, length-append (ringBytes this) more);
+            all =
+                ap₂ (λ (o : List ℕ) i. sets o i more) d e
+                ∙ sym (sets-append out at (ringBytes this) more)
+                ∙ ap (sets out at) (sym split)
+                ∙ p .all;
+          }
+
+    pub putting-done : length ns ≤ k → out ≡ sets before first (join ringBytes (share ns l))
+    unfolding share join
+    putting-done h = sym (ap (λ (m : List ℕ). sets out at (join ringBytes (share m (drop from l)))) (drop-of-length-le ns {i = k} h)) ∙ p .all
+
+-- a figure
+
+pub rings-length : (f : Figure) → badFigure f ≡ false → {b d : ℕ} → b ≡ length (coordinateBytes (f .lengths)) → d ≡ length (coordinateBytes (f .numbers))
+    → b + d ≡ length (join ringBytes (share (f .lengths) (f .numbers)))
+rings-length f good eb ed = ap₂ _+_ eb ed ∙ sym (rings-size (f .lengths) (f .numbers) (rings-good f good .numbers))
+
+module _ (f : Figure) (out : List ℕ) where
+  -- its bytes
+  abbrev bytes : List ℕ
+  bytes = figureBytes (share (f .lengths) (f .numbers))
+
+  pub outline-bad : badFigure f ≡ true → unwritten (refusalNo Length) out ≡ outlineWritten f out
   unfolding outlineWritten
   outline-bad e = rw e
 
-  pub outline-good : badFigure (figure l) ≡ false → writtenTo out (outlineBytes l) ≡ outlineWritten l out
-  unfolding outlineWritten
-  outline-good e = rw e
+  module _ (good : badFigure f ≡ false) where
+    outline-good : writtenTo out bytes ≡ outlineWritten f out
+    unfolding outlineWritten
+    outline-good = rw good
 
-  pub outline-put : (v at : ℕ) (o q : List ℕ) → at ≡ 0 + length (numberBytes v) → o ≡ sets out 0 (numberBytes v)
-      → q ≡ sets o at (coordinateBytes l) → v ≡ length l / 2 → q ≡ sets out 0 (outlineBytes l)
-  unfolding outlineBytes
-  outline-put v at o q ea eo eq ev =
-      eq
-      ∙ ap₂ (λ (m : List ℕ) i. sets m i (coordinateBytes l)) eo ea
-      ∙ sym (sets-append out 0 (numberBytes v) (coordinateBytes l))
-      ∙ ap (λ u. sets out 0 (numberBytes u ++ coordinateBytes l)) ev
+    ring-count : length (share (f .lengths) (f .numbers)) ≡ length (f .lengths)
+    ring-count = sym (length-map (share (f .lengths) (f .numbers)) (λ (m : List ℕ). length m / 2)) ∙ ap (λ (g : Figure). length (g .lengths)) (share-back f good)
 
-pub outline-length : (l : List ℕ) (v : ℕ) {a b : ℕ} → v ≡ length l / 2 → a ≡ length (numberBytes v) → b ≡ length (coordinateBytes l)
-    → a + b ≡ length (outlineBytes l)
-unfolding outlineBytes
-outline-length l v e ea eb =
-    ap₂ _+_ (ea ∙ ap (λ u. length (numberBytes u)) e) eb ∙ sym (length-append (numberBytes (length l / 2)) (coordinateBytes l))
+    -- what announces the rings, and the rings
+    two-parts : bytes ≡ announceBytes (length (f .lengths)) ++ join ringBytes (share (f .lengths) (f .numbers))
+    two-parts =
+        figure-bytes (share (f .lengths) (f .numbers))
+        ∙ ap (λ n. announceBytes n ++ join ringBytes (share (f .lengths) (f .numbers))) ring-count
 
-module _ (l out : List ℕ) (v : ℕ) {a b : ℕ} (ea : a ≡ length (numberBytes v)) (eb : b ≡ length (coordinateBytes l)) (ev : v ≡ length l / 2)
-    (good : badFigure (figure l) ≡ false) where
-  pub outline-room : length out < a + b → unwritten (refusalNo Room) out ≡ outlineWritten l out
-  outline-room h = written-room out (outlineBytes l) (a + b) (outline-length l v ev ea eb) h ∙ outline-good l out good
+    module _ {a b d : ℕ} (ea : a ≡ length (announceBytes (length (f .lengths)))) (eb : b ≡ length (coordinateBytes (f .lengths)))
+        (ed : d ≡ length (coordinateBytes (f .numbers))) where
+      outline-length : a + b + d ≡ length bytes
+      outline-length =
+          omega (
+            arith,
+            ea,
+            rings-length f good eb ed,
+            ap length two-parts,
+            length-append (announceBytes (length (f .lengths))) (join ringBytes (share (f .lengths) (f .numbers))),
+          )
 
-  pub outline-fits : (q : List ℕ) → q ≡ sets out 0 (outlineBytes l) → a + b ≤ length out
-      → record { number = 0; bytes = a + b; out = q } ≡ outlineWritten l out
-  outline-fits q e h =
-      written-fits out (outlineBytes l) (a + b) (outline-length l v ev ea eb) q h e ∙ outline-good l out good
+      pub outline-room : length out < a + b + d → unwritten (refusalNo Room) out ≡ outlineWritten f out
+      outline-room h = written-room out bytes (a + b + d) outline-length h ∙ outline-good
+
+      pub outline-fits : (at : ℕ) (o q : List ℕ) → at ≡ length (announceBytes (length (f .lengths)))
+          → o ≡ sets out 0 (announceBytes (length (f .lengths))) → q ≡ sets o at (join ringBytes (share (f .lengths) (f .numbers)))
+          → a + b + d ≤ length out → record { number = 0; bytes = a + b + d; out = q } ≡ outlineWritten f out
+      outline-fits at o q eat eo eq h =
+          let A : List ℕ = announceBytes (length (f .lengths)) in
+          let R : List ℕ = join ringBytes (share (f .lengths) (f .numbers)) in
+          let put : q ≡ sets out 0 bytes =
+          eq
+          ∙ ap₂ (λ (m : List ℕ) i. sets m i R) eo eat
+          ∙ ap (λ i. sets (sets out 0 A) i R) (let z : length A ≡ 0 + length A = omega arith in z)
+          ∙ sym (sets-append out 0 A R)
+          ∙ ap (sets out 0) (sym two-parts)
+          in written-fits out bytes (a + b + d) outline-length q h put ∙ outline-good

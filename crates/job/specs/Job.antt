@@ -1,25 +1,32 @@
 -- To believe: a job as it is read, numbers from the front, the first fault deciding.
 --
---   mostBytes, mostOutlines == a job has no more bytes, and no more outlines
+--   mostBytes, mostOutlines == a job has no more bytes, and no more figures
+--   leastRings              == a figure announces its rings from two on: one ring is not announced
 --   value s low high at     == a number from low to high; one outside is a fault where it starts
 --   coordinates s n at      == n coordinates, one after another
---   outline s at            == V, 4 to 32, and 2V coordinates: the list that they are
---   Part                    == an outline of a job: where its V starts, where its last coordinate ends, and its coordinates
---   part s at               == an outline with where it stands
---   outlines s k at         == k outlines, one after another
+--   ring s most at          == V, 4 to the most that is left, and 2V coordinates: the list that they are
+--   leftAfter left l        == how many corners a ring leaves of those that were left before it
+--   ringsFrom s r left at   == r rings, one after another, with so many corners together at most
+--   announces s at          == the byte 0 stands at the place: rings are announced
+--   outline s at            == a figure, as its rings: 0, R from 2 to 8, and R rings; or one ring alone
+--   figureOf ls             == rings laid out as the two lists of a figure: all numbers, and how many corners each ring has
+--   Part                    == a figure of a job: where its first byte stands, where its last coordinate ends, and its rings
+--   part s at               == a figure with where it stands
+--   outlines s k at         == k figures, one after another
 --   Header, header s        == threshold, weight and K of a job, from its front
---   Job                     == threshold, weight and the outlines, with where they stand
+--   Job                     == threshold, weight and the figures, with where they stand
 --   filled s r              == what fills the bytes s exactly: the first byte too many is a fault
---   body s                  == the header and its outlines
---   job s                   == a whole job: at most 4,096 bytes, a header, K outlines, and nothing after them
-use Prim.Native.Nat.{ℕ, _*_}
-use mathlib.Core.List.{List}
-use mathlib.Core.Bool.{cond, _&&_}
-use lib.ListN.{length}
-use lib.Dec.{ltb, leb}
+--   body s                  == the header and its figures
+--   job s                   == a whole job: at most 4,096 bytes, a header, K figures, and nothing after them
+use Prim.Native.Nat.{ℕ, zero, suc, _+_, _-_, _*_, _/_}
+use mathlib.Core.List.{List, [], _∷_, map}
+use mathlib.Core.Bool.{Bool, cond, _&&_}
+use lib.ListN.{length, getD}
+use lib.Dec.{ltb, leb, eqb}
+use Rattle.sum.specs.Sum.{join}
 use Rattle.refusal.specs.declared.Refusal.the-variants as because
 use Rattle.rule.specs.Rules.{limit}
-use Rattle.figure.specs.Figure.{mostCorners, mostPlace}
+use Rattle.figure.specs.Figure.{Figure, figure, leastCorners, mostCorners, mostRings, mostPlace}
 use Rattle.number.specs.Reading.{Reading, read, fault, andThen, many}
 use Rattle.number.specs.Number.{number}
 
@@ -29,6 +36,9 @@ mostBytes = 4096
 abbrev pub mostOutlines : ℕ
 mostOutlines = 255
 
+abbrev pub leastRings : ℕ
+leastRings = 2
+
 unfoldable pub value : List ℕ → ℕ → ℕ → ℕ → Reading ℕ
 value s low high at =
     andThen (number s at) (λ v next. cond (leb low v && leb v high) (read v next) (fault because.Range at))
@@ -37,16 +47,37 @@ unfoldable pub coordinates : List ℕ → ℕ → ℕ → Reading (List ℕ)
 coordinates s n at = many (value s 0 mostPlace) n at
 
 -- V may be odd here
-unfoldable pub outline : List ℕ → ℕ → Reading (List ℕ)
-outline s at = andThen (value s 4 mostCorners at) (λ v next. coordinates s (2 * v) next)
+unfoldable pub ring : List ℕ → ℕ → ℕ → Reading (List ℕ)
+ring s most at = andThen (value s leastCorners most at) (λ v next. coordinates s (2 * v) next)
+
+abbrev pub leftAfter : ℕ → List ℕ → ℕ
+leftAfter left l = left - length l / 2
+
+unfoldable pub ringsFrom : List ℕ → ℕ → ℕ → ℕ → Reading (List (List ℕ))
+ringsFrom s zero left at = read [] at
+ringsFrom s (suc r) left at =
+    andThen (ring s left at)
+    (λ l next. andThen (ringsFrom s r (leftAfter left l) next) (λ ls last. read (l ∷ ls) last))
+
+unfoldable pub announces : List ℕ → ℕ → Bool
+announces s at = ltb at (length s) && eqb (getD s at 0) 0
+
+unfoldable pub outline : List ℕ → ℕ → Reading (List (List ℕ))
+outline s at =
+    cond (announces s at)
+    (andThen (value s leastRings mostRings (at + 1)) (λ r next. ringsFrom s r mostCorners next))
+    (andThen (ring s mostCorners at) (λ l next. read (l ∷ []) next))
+
+abbrev pub figureOf : List (List ℕ) → Figure
+figureOf ls = figure (join (λ l. l) ls) (map (λ (l : List ℕ). length l / 2) ls)
 
 pub record Part : Type 0 where
   pub start : ℕ
   pub end : ℕ
-  pub corners : List ℕ
+  pub rings : List (List ℕ)
 
 unfoldable pub part : List ℕ → ℕ → Reading Part
-part s at = andThen (outline s at) (λ l next. read (record { start = at; end = next; corners = l }) next)
+part s at = andThen (outline s at) (λ ls next. read (record { start = at; end = next; rings = ls }) next)
 
 unfoldable pub outlines : List ℕ → ℕ → ℕ → Reading (List Part)
 outlines s k at = many (part s) k at

@@ -1,7 +1,10 @@
 // Reading a job: numbers from the front, the first fault deciding.
+use crate::LEAST_CORNERS;
+use crate::LEAST_RINGS;
 use crate::MOST_BYTES;
 use crate::MOST_CORNERS;
 use crate::MOST_OUTLINES;
+use crate::MOST_RINGS;
 use figure::MOST_PLACE;
 use number::Cursor;
 use number::Read;
@@ -9,11 +12,13 @@ use refusal::Refusal;
 use refusal::refusal_no;
 use rule::Rule;
 ghost use mathlib.Core.Path.{_≡_};
+ghost use Prim.Native.Nat.{_≤_};
 ghost use Rattle.number.specs.Number.{readTold};
 ghost use Rattle.number.specs.Reading.{past};
-ghost use Rattle.job.specs.Job.{value, coordinates, outline, outlines, header, job};
+ghost use Rattle.figure.specs.Figure.{mostCorners};
+ghost use Rattle.job.specs.Job.{value, coordinates, ring, ringsFrom, announces, outline, outlines, header, job};
 ghost use Rattle.job.specs.Calls.{checked, checkTold, taken, told};
-ghost use Rattle.job.specs.Steps.{pastTold, headTold, whole, locatedTold, located};
+ghost use Rattle.job.specs.Steps.{pastTold, sized, summed, begun, headTold, whole, locatedTold, located};
 
 // Where reading got to, or the first fault.
 pub enum Past {
@@ -21,7 +26,7 @@ pub enum Past {
     Fault(Refusal, usize),
 }
 
-// What a header says and where the outlines begin, or the first fault.
+// What a header says and where the figures begin, or the first fault.
 pub enum Head {
     Header {
         threshold: u32,
@@ -32,7 +37,7 @@ pub enum Head {
     Fault(Refusal, usize),
 }
 
-// Where an outline starts and ends, or the first fault on the way to it.
+// Where a figure starts and ends, or the first fault on the way to it.
 pub enum Located {
     Part(usize, usize),
     Fault(Refusal, usize),
@@ -87,17 +92,78 @@ pub fn coordinates(job: &[u8], from: Cursor, n: u32) -> Past
     Past::At(c)
 }
 
-// Past one outline: V, and its 2V coordinates.
-pub fn outline(job: &[u8], from: Cursor) -> Past
-    ensures { λ r. ⌜ pastTold r ≡ past (outline (now (job .entry)) (from .at)) ⌝ }
+// Past one ring: V, no more than the most that is left, and its 2V coordinates. Gives V with the place past it.
+fn ring(job: &[u8], from: Cursor, most: u32) -> Read
+    requires { ⌜ most ≤ mostCorners ⌝ }
+    ensures { λ r. ⌜ readTold r ≡ sized (ring (now (job .entry)) most (from .at)) ⌝ }
 {
-    match value(job, from, 4, MOST_CORNERS) {
-        Read::Fault(r, p) => Past::Fault(r, p),
-        Read::Number(v, next) => coordinates(job, next, 2 * v),
+    match value(job, from, LEAST_CORNERS, most) {
+        Read::Fault(r, p) => Read::Fault(r, p),
+        Read::Number(v, first) => match coordinates(job, first, 2 * v) {
+            Past::Fault(r, p) => Read::Fault(r, p),
+            Past::At(end) => Read::Number(v, end),
+        },
     }
 }
 
-// Past k outlines.
+// Past so many rings: each may have what the ones before it left of all corners. Gives how many corners they have together.
+pub fn rings(job: &[u8], from: Cursor, count: u32) -> Read
+    ensures { λ r. ⌜ readTold r ≡ summed (ringsFrom (now (job .entry)) count mostCorners (from .at)) ⌝ }
+{
+    let mut c = from;
+    let mut total = 0;
+    let mut i = 0;
+    while i < count {
+        match ring(job, c, MOST_CORNERS - total) {
+            Read::Fault(r, p) => {
+                return Read::Fault(r, p);
+            }
+            Read::Number(v, next) => {
+                c = next;
+                total += v;
+            }
+        }
+        i += 1;
+    }
+    Read::Number(total, c)
+}
+
+// Whether rings are announced: a byte 0 stands there.
+fn announces(job: &[u8], from: Cursor) -> bool
+    ensures { λ r. ⌜ r ≡ announces (now (job .entry)) (from .at) ⌝ }
+{
+    let at = from.at;
+    if at < job.len() {
+        return job[at] == 0;
+    }
+    false
+}
+
+// How many rings a figure has, and the place of the first: the number that 0 announces, or one ring, which is not announced.
+pub fn begin(job: &[u8], from: Cursor) -> Read
+    ensures { λ r. ⌜ readTold r ≡ begun (now (job .entry)) (from .at) ⌝ }
+{
+    if announces(job, from) {
+        let next = from.at + 1;
+        return value(job, Cursor { at: next }, LEAST_RINGS, MOST_RINGS);
+    }
+    Read::Number(1, from)
+}
+
+// Past one figure: its rings, after what announces them.
+pub fn outline(job: &[u8], from: Cursor) -> Past
+    ensures { λ r. ⌜ pastTold r ≡ past (outline (now (job .entry)) (from .at)) ⌝ }
+{
+    match begin(job, from) {
+        Read::Fault(r, p) => Past::Fault(r, p),
+        Read::Number(count, first) => match rings(job, first, count) {
+            Read::Fault(r, p) => Past::Fault(r, p),
+            Read::Number(_, end) => Past::At(end),
+        },
+    }
+}
+
+// Past k figures.
 pub fn outlines(job: &[u8], from: Cursor, k: usize) -> Past
     ensures { λ r. ⌜ pastTold r ≡ past (outlines (now (job .entry)) k (from .at)) ⌝ }
 {
@@ -189,7 +255,7 @@ pub fn check(job: &[u8]) -> Checked
     }
 }
 
-// Where outline k stands, by reading k outlines and then one more.
+// Where figure k stands, by reading k figures and then one more.
 pub fn locate(job: &[u8], first: Cursor, k: usize) -> Located
     ensures { λ r. ⌜ locatedTold r ≡ located (now (job .entry)) k (first .at) ⌝ }
 {
@@ -202,8 +268,8 @@ pub fn locate(job: &[u8], first: Cursor, k: usize) -> Located
     }
 }
 
-// Outline k as that part of the job's own bytes, from its V to its last coordinate. The whole job is read first, so a fault
-// anywhere refuses every outline; with a refusal the part is empty.
+// Figure k as that part of the job's own bytes, from its first byte to its last coordinate. The whole job is read first, so a
+// fault anywhere refuses every figure; with a refusal the part is empty.
 pub fn take<'a>(job: &'a [u8], k: usize, refusal: &mut u32, offset: &mut usize) -> &'a [u8]
     ensures settled { λ r. ⌜ told (now (refusal .exit)) (now (offset .exit)) (now r) ≡ taken (now (job .entry)) k ⌝ }
 {

@@ -6,11 +6,12 @@
 --   grid-cell, grid-right, grid-above == the cells of a grid: within the frame, right of it and above it
 --   inside-cell                       == a unit square is inside just if the cell that holds it is
 --   inside-left, inside-right, inside-below, inside-above   == beyond the frame nothing is inside
+--   one-ring-grid                     == the grid of a figure of one ring, from the corners of its list
 --   grid-sound                        == the grid of a figure that passes 2 to 4 is sound
-use Prim.Native.Nat.{ℕ, suc, _-_, _≤_, _<_}
+use Prim.Native.Nat.{ℕ, suc, _-_, _/_, _≤_, _<_}
 use mathlib.Core.Path.{_≡_, refl, sym, _∙_, ap, ap₂}
 use mathlib.Core.Bool.{Bool, false, _&&_, and-false}
-use mathlib.Core.List.{List, map, List·Memᴰ as Member}
+use mathlib.Core.List.{List, [], _∷_, map, List·Memᴰ as Member}
 use mathlib.Core.Logic.{inl, inr}
 use native.Mathlib.Omega.{arith}
 use lib.Dec.{leb, ltb}
@@ -20,13 +21,14 @@ use Rattle.sum.specs.Sum.{All}
 use Rattle.sum.proofs.Lists.{All-imp, All-unmap, All-map}
 use Rattle.figure.specs.declared.Axis.{Axis}
 use Rattle.figure.specs.declared.Axis.the-variants.{X, Y}
-use Rattle.figure.specs.Corners.{Corner, coordinate, edges, slanted, unturned}
-use Rattle.figure.specs.Figure.{Figure, cornersOf, edgesOf}
+use Rattle.figure.specs.Corners.{Corner, corners, coordinate, any, edges, slanted}
+use Rattle.figure.specs.Figure.{Figure, figure, rings, cornersOf, edgesOf}
 use Rattle.figure.specs.Inside.{Wall, walls, covers, within, insideAt}
 use Rattle.figure.specs.Steps.{Right}
 use Rattle.figure.proofs.Turns.{All-both}
 use Rattle.figure.proofs.Inside as count
-use Rattle.figure.proofs.Inside.{Beside, Set, Seat, walls-set}
+use Rattle.figure.proofs.Sharing.{one-ring-corners, one-ring-edges}
+use Rattle.figure.proofs.Inside.{Beside, Set, walls-all}
 use Rattle.outline.specs.Lines.{rising, lines, Up, place}
 use Rattle.outline.specs.Grid.{Sound}
 use Rattle.outline.specs.Inside.{gridOf, grid}
@@ -58,11 +60,12 @@ pub corners-all : (Q : ℕ → Type 0) (a : Axis) (cs : List Corner) → All Q (
 unfolding lines
 corners-all Q a cs h = All-unmap Q (coordinate a) cs (rising-back Q (map (coordinate a) cs) h)
 
-pub walls-lines : (Qx Qy : ℕ → Type 0) (cs : List Corner) → All Qx (lines X cs) → All Qy (lines Y cs) → All (Set Qx Qy) (walls (edges cs))
+pub walls-lines : (Qx Qy : ℕ → Type 0) (f : Figure) → All Qx (lines X (cornersOf f)) → All Qy (lines Y (cornersOf f))
+    → All (Set Qx Qy) (walls (edgesOf f))
 unfolding coordinate
-walls-lines Qx Qy cs h k =
-    walls-set Qx Qy cs
-    (All-both (λ c. Qx (c .x)) (λ c. Qy (c .y)) cs (corners-all Qx X cs h) (corners-all Qy Y cs k))
+walls-lines Qx Qy f h k =
+    walls-all Qx Qy f
+    (All-both (λ c. Qx (c .x)) (λ c. Qy (c .y)) (cornersOf f) (corners-all Qx X (cornersOf f) h) (corners-all Qy Y (cornersOf f) k))
 
 -- between lo and hi there is no line: a test against a line goes the same way at each place
 same-low : (lo hi v x : ℕ) → Beside lo hi v → lo ≤ x → x < hi → leb v lo ≡ leb v x
@@ -100,6 +103,11 @@ module _ (f : Figure) (i j : ℕ) where
   unfolding grid gridOf
   grid-above h = rw (le-ltb j (length (lines Y (cornersOf f)) - 1) h) (and-false (ltb i (length (lines X (cornersOf f)) - 1)))
 
+pub one-ring-grid : (l : List ℕ)
+    → grid (figure l (length l / 2 ∷ [])) ≡ gridOf (lines X (corners l)) (lines Y (corners l)) (walls (edges (corners l)))
+unfolding grid
+one-ring-grid l = ap₂ (λ cs es. gridOf (lines X cs) (lines Y cs) (walls es)) (one-ring-corners l) (one-ring-edges l)
+
 module _ (f : Figure) (x y : ℕ) where
   -- Inside at the nanometre: as the cell that holds the square
   pub inside-cell : (i j : ℕ) → i < grid f .columns → j < grid f .rows
@@ -110,7 +118,7 @@ module _ (f : Figure) (x y : ℕ) where
       sym
       (grid-cell f i j hi hj
       ∙ same-within (place xs i) (place xs (suc i)) (place ys j) (place ys (suc j)) x y (walls (edgesOf f))
-      (walls-lines (Beside (place xs i) (place xs (suc i))) (Beside (place ys j) (place ys (suc j))) (cornersOf f)
+      (walls-lines (Beside (place xs i) (place xs (suc i))) (Beside (place ys j) (place ys (suc j))) f
       (beside xs (lines-up X (cornersOf f)) i (next i (length xs) hi))
       (beside ys (lines-up Y (cornersOf f)) j (next j (length ys) hj)))
       a
@@ -151,7 +159,7 @@ module _ (f : Figure) (x y : ℕ) where
       (All-imp (λ c k. omega arith) cs
       (corners-all (λ v. v ≤ place (lines Y cs) (length (lines Y cs) - 1)) Y cs (highest (lines Y cs) (lines-up Y cs))))
 
-  pub inside-right : slanted cs ≡ false → grid f .x (grid f .columns) ≤ x → insideAt f x y ≡ false
+  pub inside-right : any slanted (rings f) ≡ false → grid f .x (grid f .columns) ≤ x → insideAt f x y ≡ false
   unfolding grid gridOf coordinate
   inside-right s h =
       count.inside-right f x y s

@@ -4,23 +4,24 @@
 --   front-within, front-lines, front-length   == the lines at the front of a list
 --   lines-laid, cells-laid       == lines and cells as the code has them are those of the grid in memory
 --   sheet-whole, sheet-without   == and so is the whole sheet; cleared lists are the sheet of a refusal
---   cells-shaded                 == the marks of all edges, swept, are the cells
+--   cells-shaded                 == the marks of all walls, swept, are the cells
 --   cells-empty, cells-some      == where no cell in memory is 1 no cell is inside, and the other way round
 --   refusal-2, -3, -4, -5, -0    == the refusal, by the tests in their order
 --   refusal-first, answer-first  == a refusal is given exactly when it is the first whose condition holds
+--   one-ring-refusal             == a figure of one ring is refused as document 01 says of an outline
 --   refusal-most                 == no refusal of a drawing has a number above 5
---   right-sound                  == the grid of an outline that passes 2 to 4 is sound
+--   right-sound                  == the grid of a figure that passes 2 to 4 is sound
 --   promise-refused, promise-empty, promise-accepted   == each way a drawing ends keeps the promise
 --   promise-unique               == any two drawings that keep the promise are equal, and so is what they leave in the lent lists
 use Prim.Native.Nat.{ℕ, zero, suc, _+_, _*_, _-_, _/_, _%_, _≤_, _<_}
 use mathlib.Core.Path.{_≡_, refl, sym, _∙_, ap, ap₂, subst}
-use mathlib.Core.Bool.{Bool, true, false, not, cond, true≢false}
+use mathlib.Core.Bool.{Bool, true, false, not, cond, _||_, true≢false}
 use mathlib.Core.List.{List, [], _∷_, _++_}
 use mathlib.Core.Logic.{_↔_, inl, inr}
 use native.Mathlib.Omega.{arith}
-use lib.Dec.{leb, eqb}
+use lib.Dec.{leb, ltb, eqb}
 use lib.ListN.{length, getD, take, drop, replicate, length-append, length-drop, List·getD-append}
-use lib.Seq.{ext-getD, take-all, take-at, getD-append-add, getD-drop, getD-at}
+use lib.Seq.{ext-getD, take-at, getD-append-add, getD-drop, getD-at}
 use borrow.Author.Tests.{le-leb, lt-leb, eqb-true, eq-eqb, ne-eqb, not-false}
 use Rattle.sum.specs.Sum.{only, over, All}
 use Rattle.sum.proofs.Sum.{le-or, over-zero, over-term}
@@ -34,20 +35,21 @@ use Rattle.refusal.specs.declared.Refusal.the-variants as because
 use Rattle.refusal.specs.Refusals.{refusalNo}
 use Rattle.refusal.proofs.Refusals.{refusal-one, refusal-some}
 use Rattle.figure.specs.Corners.{corners, coordinate, edges, odd, any, slanted, unturned}
-use Rattle.figure.specs.Figure.{Figure, figure, cornersOf, badFigure, fault}
+use Rattle.figure.specs.Figure.{Figure, figure, rings, cornersOf, edgesOf, badFigure, fault}
 use Rattle.figure.specs.Inside.{walls, count}
 use Rattle.figure.specs.Steps.{Right}
 use Rattle.figure.proofs.Fault.{fault-0}
+use Rattle.figure.proofs.Sharing.{corners-whole, one-ring-fault}
 use Rattle.outline.specs.Lines.{lines, place}
 use Rattle.outline.specs.Grid.{Grid, Sound, Memory, memory}
 use Rattle.outline.specs.Inside.{gridOf, grid, insideCells, empty}
 use Rattle.outline.specs.Promise.{answerNo, refusal, listOf, laid, blank, Sheet, sheet, Promise}
-use Rattle.outline.specs.Steps.{lit, stands, marks, Gathered, Ruled, Marked, Swept, Clear, sheetOf, without}
-use Rattle.figure.proofs.Corners.{length-edges, none-at, any-some}
+use Rattle.outline.specs.Steps.{flip, lit, stands, Gathered, Lined, Marked, Swept, Clear, sheetOf, without}
+use Rattle.figure.proofs.Corners.{none-at, any-some}
 use Rattle.outline.proofs.Lines.{place-at}
-use Rattle.outline.proofs.Inside.{grid-sound}
+use Rattle.outline.proofs.Inside.{grid-sound, one-ring-grid}
 use Rattle.outline.proofs.Marking.{right-length, right-lines}
-use Rattle.outline.proofs.Shading.{swept-count, reaches-inside}
+use Rattle.outline.proofs.Shading.{swept-count, reaches-inside, beyond-inside}
 
 pub length-listOf : (n : ℕ) (f : ℕ → ℕ) → length (listOf n f) ≡ n
 unfolding listOf
@@ -67,10 +69,10 @@ listOf-is : (n : ℕ) (f : ℕ → ℕ) (l : List ℕ) → length l ≡ n → ((
 listOf-is n f l h k =
     ext-getD 0 l (listOf n f) (h ∙ sym (length-listOf n f)) (λ i q. k i (omega arith) ∙ sym (listOf-at n f i (omega arith)))
 
-zeros : (m n : ℕ) → _≡_ {A = ℕ} (getD (replicate m 0) n 0) 0
-zeros zero n = refl
-zeros (suc m) zero = refl
-zeros (suc m) (suc n) = zeros m n
+nothing : (m n : ℕ) → _≡_ {A = ℕ} (getD (replicate m 0) n 0) 0
+nothing zero n = refl
+nothing (suc m) zero = refl
+nothing (suc m) (suc n) = nothing m n
 
 -- what was gathered is at the front
 module _ (a : Axis) (l ls : List ℕ) (n : ℕ) (after : List ℕ) (h : Gathered a l ls n after) where
@@ -103,31 +105,36 @@ lines-laid ls h k =
         ap (λ n. getD (ls ++ drop (length ls) (replicate 16 0)) n 0) z
         ∙ getD-append-add ls (drop (length ls) (replicate 16 0)) (i - length ls) 0
         ∙ getD-drop (length ls) (replicate 16 0) (i - length ls) 0
-        ∙ zeros 16 (length ls + (i - length ls))
+        ∙ nothing 16 (length ls + (i - length ls))
         ∙ ap (λ b. only b (place ls i)) (sym (lt-leb i (length ls - 1) (omega arith)))
 
 -- what was gathered into zeros
-gathered-laid : (a : Axis) (l ls : List ℕ) (n : ℕ) (after : List ℕ) → Right (figure l) → ls ≡ replicate 16 0 → Gathered a l ls n after
-    → after ≡ listOf 16 (λ i. only (leb i (length (lines a (corners l)) - 1)) (place (lines a (corners l)) i))
-gathered-laid a l ls n after right z h =
+gathered-laid : (a : Axis) (f : Figure) (ls : List ℕ) (n : ℕ) (after : List ℕ) → Right f → ls ≡ replicate 16 0 → Gathered a (f .numbers) ls n after
+    → after ≡ listOf 16 (λ i. only (leb i (length (lines a (cornersOf f)) - 1)) (place (lines a (cornersOf f)) i))
+gathered-laid a f ls n after right z h =
+    let w = sym (corners-whole f (right .figure-good)) in
     h .list
-    ∙ ap₂ (λ k m. lines a (corners l) ++ drop k m) (h .number) z
-    ∙ lines-laid (lines a (corners l)) (omega (arith, right-lines (figure l) right a)) (right-lines (figure l) right a .1)
+    ∙ ap₂ (λ k m. lines a (corners (f .numbers)) ++ drop k m) (h .number) z
+    ∙ ap (λ cs. lines a cs ++ drop (length (lines a cs)) (replicate 16 0)) w
+    ∙ lines-laid (lines a (cornersOf f)) (omega (arith, right-lines f right a)) (right-lines f right a .1)
 
 -- lines and cells together
-pub sheet-whole : (l xs ys cells : List ℕ) → Right (figure l) → Clear xs ys cells → (m n : ℕ) (xs′ ys′ cells′ : List ℕ)
-    → Gathered X l xs m xs′ → Gathered Y l ys n ys′ → cells′ ≡ laid (grid (figure l)) .cells
-    → sheet (record { answer = Accepted; columns = m - 1; rows = n - 1 }) xs′ ys′ cells′ ≡ sheetOf (grid (figure l))
+pub sheet-whole : (f : Figure) (xs ys cells : List ℕ) → Right f → Clear xs ys cells → (m n : ℕ) (xs′ ys′ cells′ : List ℕ)
+    → Gathered X (f .numbers) xs m xs′ → Gathered Y (f .numbers) ys n ys′ → cells′ ≡ laid (grid f) .cells
+    → sheet (record { answer = Accepted; columns = m - 1; rows = n - 1 }) xs′ ys′ cells′ ≡ sheetOf (grid f)
 unfolding sheet sheetOf laid grid gridOf
-sheet-whole l xs ys cells right clear m n xs′ ys′ cells′ hx hy shaded i =
+sheet-whole f xs ys cells right clear m n xs′ ys′ cells′ hx hy shaded i =
     record {
       answer = Accepted;
       grid =
-          memory (ap (λ k. k - 1) (hx .number) i) (ap (λ k. k - 1) (hy .number) i)
-          (gathered-laid X l xs m xs′ right (clear .xs-clear) hx i)
-          (gathered-laid Y l ys n ys′ right (clear .ys-clear) hy i)
+          memory (across X m xs xs′ hx i) (across Y n ys ys′ hy i)
+          (gathered-laid X f xs m xs′ right (clear .xs-clear) hx i)
+          (gathered-laid Y f ys n ys′ right (clear .ys-clear) hy i)
           (shaded i);
     }
+  where
+    across : (a : Axis) (n : ℕ) (ls after : List ℕ) → Gathered a (f .numbers) ls n after → n - 1 ≡ length (lines a (cornersOf f)) - 1
+    across a n ls after h = ap (λ k. k - 1) (h .number ∙ ap (λ cs. length (lines a cs)) (sym (corners-whole f (right .figure-good))))
 
 -- all cleared
 pub sheet-without : (why : Refusal) (xs ys cells : List ℕ) → Clear xs ys cells
@@ -147,26 +154,38 @@ cells-laid g cells h k =
     let z : n ≡ 16 * (n / 16) + n % 16 = omega arith in
     ap (λ m. getD cells m 0) z ∙ k (n / 16) (n % 16) (omega arith) (omega arith))
 
--- the marks of all edges, swept, are the cells
-pub cells-shaded : (l xs ys cells after : List ℕ) → Ruled l xs ys → Marked l (length l / 2) cells → Swept cells after
-    → length after ≡ length cells
-    → after ≡ laid (grid (figure l)) .cells
-unfolding marks
-cells-shaded l xs ys cells after ruled m swept e =
-    cells-laid (grid (figure l)) after (e ∙ m .length-cells)
-    (λ i j p q.
-    swept .at i j p q
-    ∙ swept-count (figure l) some cells all i j q
-    ∙ ap (λ b. only b 1) (reaches-inside (figure l) some (ruled .right .slanted-none) i j))
-  where
-    some : 0 < length (lines X (corners l))
-    some = omega (arith, right-lines (figure l) (ruled .right) X)
+-- a zero turned over
+flip-zero : (t : Bool) → flip t 0 ≡ only t 1
+unfolding flip
+flip-zero true = refl
+flip-zero false = refl
 
-    all : (n : ℕ) → getD cells n 0 ≡ only (odd (count (stands (lines X (corners l)) (lines Y (corners l)) n) (walls (edges (corners l))))) 1
+-- the marks of all walls, swept, are the cells
+pub cells-shaded : (f : Figure) (xs ys zeros cells after : List ℕ) → Lined f xs ys → zeros ≡ replicate 256 0
+    → Marked xs ys (walls (edgesOf f)) zeros cells → Swept (length xs) cells after → length after ≡ length cells
+    → after ≡ laid (grid f) .cells
+cells-shaded f xs ys zeros cells after lined z m swept e =
+    cells-laid (grid f) after (e ∙ m .marks .length-cells)
+    (λ i j p q. elim (le-or (length xs) i) [
+      | inl r ↦
+          swept .rest (16 * i + j) (omega arith)
+          ∙ all (16 * i + j)
+          ∙ ap (λ b. only b 1) (beyond-inside f some i j q (omega (arith, ap length (lined .across-x))))
+      | inr r ↦
+          swept .at i j r q
+          ∙ swept-count f some cells all i j q
+          ∙ ap (λ b. only b 1) (reaches-inside f some (lined .right .slanted-none) i j)
+    ])
+  where
+    some : 0 < length (lines X (cornersOf f))
+    some = omega (arith, right-lines f (lined .right) X)
+
+    all : (n : ℕ) → getD cells n 0 ≡ only (odd (count (stands (lines X (cornersOf f)) (lines Y (cornersOf f)) n) (walls (edgesOf f)))) 1
     all n =
         m .at n
-        ∙ ap (λ es. only (odd (count (stands (lines X (corners l)) (lines Y (corners l)) n) (walls es))) 1)
-        (take-all (length l / 2) (edges (corners l)) (omega (arith, length-edges l)))
+        ∙ ap₂ (λ us vs. flip (odd (count (stands us vs n) (walls (edgesOf f)))) (getD zeros n 0)) (lined .across-x) (lined .across-y)
+        ∙ ap (flip (odd (count (stands (lines X (cornersOf f)) (lines Y (cornersOf f)) n) (walls (edgesOf f))))) (ap (λ l. getD l n 0) z ∙ nothing 256 n)
+        ∙ flip-zero (odd (count (stands (lines X (cornersOf f)) (lines Y (cornersOf f)) n) (walls (edgesOf f))))
 
 -- where no cell in memory is 1 no cell is inside, and the other way round
 module _ (g : Grid) (sound : Sound g) where
@@ -265,36 +284,37 @@ corners-range (u ∷ []) h a = tt
 corners-range (u ∷ v ∷ l) h X = (h 0, corners-range l (λ i. h (suc (suc i))) X)
 corners-range (u ∷ v ∷ l) h Y = (h 1, corners-range l (λ i. h (suc (suc i))) Y)
 
-module _ (l : List ℕ) (right : Right (figure l)) (range : (i : ℕ) → getD l i 0 ≤ 65535) where
+module _ (f : Figure) (right : Right f) (range : (i : ℕ) → getD (f .numbers) i 0 ≤ 65535) where
   -- The grid of a figure that passes 2 to 4 is sound
-  pub right-sound : Sound (grid (figure l))
+  pub right-sound : Sound (grid f)
   right-sound =
-      let n = right-length (figure l) right in
-      grid-sound (figure l) right (omega arith) (omega arith) (corners-range l range)
+      let n = right-length f right in
+      grid-sound f right (omega arith) (omega arith)
+      (λ a. subst (All (λ c. coordinate a c ≤ 65535)) (sym (corners-whole f (right .figure-good))) (corners-range (f .numbers) range a))
 
   -- the whole sheet was drawn, and t tells whether a cell of it is 1
-  module _ (s : Sheet) (drawn : s ≡ sheetOf (grid (figure l))) (t : Bool) (e : t ≡ any lit (s .grid .cells)) where
-    lit-cells : any lit (laid (grid (figure l)) .cells) ≡ t
+  module _ (s : Sheet) (drawn : s ≡ sheetOf (grid f)) (t : Bool) (e : t ≡ any lit (s .grid .cells)) where
+    lit-cells : any lit (laid (grid f) .cells) ≡ t
     unfolding sheetOf
     lit-cells = ap (λ (q : Sheet). any lit (q .grid .cells)) (sym drawn) ∙ sym e
 
-    pub promise-empty : t ≡ false → (q : Sheet) → q ≡ without because.Empty → Promise (figure l) q
-    promise-empty f q h =
-        promise-refused (figure l) q because.Empty
-        (refusal-5 (figure l) right (cells-empty (grid (figure l)) right-sound (lit-cells ∙ f)))
+    pub promise-empty : t ≡ false → (q : Sheet) → q ≡ without because.Empty → Promise f q
+    promise-empty z q h =
+        promise-refused f q because.Empty
+        (refusal-5 f right (cells-empty (grid f) right-sound (lit-cells ∙ z)))
         h
 
-    pub promise-accepted : t ≡ true → Promise (figure l) s
+    pub promise-accepted : t ≡ true → Promise f s
     unfolding sheetOf
-    promise-accepted f =
+    promise-accepted z =
         record {
           told = ap (λ (q : Sheet). answerNo (q .answer)) drawn ∙ sym none;
-          drawn = ap (λ (q : Sheet). q .grid) drawn ∙ sym (ap (λ z. cond (eqb z 0) (laid (grid (figure l))) blank) none);
-          sound = λ z. right-sound;
+          drawn = ap (λ (q : Sheet). q .grid) drawn ∙ sym (ap (λ z. cond (eqb z 0) (laid (grid f)) blank) none);
+          sound = λ y. right-sound;
         }
       where
-        none : refusal (figure l) ≡ 0
-        none = refusal-0 (figure l) right (cells-some (grid (figure l)) right-sound (lit-cells ∙ f))
+        none : refusal f ≡ 0
+        none = refusal-0 f right (cells-some (grid f) right-sound (lit-cells ∙ z))
 
 -- which of four tests is the first that holds
 pub record FirstOf (a b c d : Bool) (n : ℕ) : Type 0 where
@@ -348,15 +368,15 @@ first-of false false false false =
 
 -- Each refusal is given exactly when its condition holds and none before it does, and none exactly when no condition holds
 pub refusal-first : (f : Figure)
-    → FirstOf (badFigure f) (slanted (cornersOf f)) (unturned (cornersOf f)) (empty (grid f)) (refusal f)
+    → FirstOf (badFigure f) (any slanted (rings f)) (any unturned (rings f)) (empty (grid f)) (refusal f)
 unfolding refusal fault
-refusal-first f = first-of (badFigure f) (slanted (cornersOf f)) (unturned (cornersOf f)) (empty (grid f))
+refusal-first f = first-of (badFigure f) (any slanted (rings f)) (any unturned (rings f)) (empty (grid f))
 
 -- and so does the answer of a drawing that keeps its promise
 pub answer-first : (f : Figure) (s : Sheet) → Promise f s
-    → FirstOf (badFigure f) (slanted (cornersOf f)) (unturned (cornersOf f)) (empty (grid f)) (answerNo (s .answer))
+    → FirstOf (badFigure f) (any slanted (rings f)) (any unturned (rings f)) (empty (grid f)) (answerNo (s .answer))
 answer-first f s p =
-    subst (FirstOf (badFigure f) (slanted (cornersOf f)) (unturned (cornersOf f)) (empty (grid f))) (sym (p .told)) (refusal-first f)
+    subst (FirstOf (badFigure f) (any slanted (rings f)) (any unturned (rings f)) (empty (grid f))) (sym (p .told)) (refusal-first f)
 
 -- Any two drawings that keep the promise are equal: numbers tell the answers apart
 pub answer-one : (a b : Answer) → answerNo a ≡ answerNo b → a ≡ b
@@ -382,9 +402,30 @@ promise-unique f r s xs ys cells xs′ ys′ cells′ p q =
       ap (λ (m : Memory). m .cells) e,
     )
 
+-- A figure of one ring is refused as document 01 says of an outline
+pub one-ring-refusal : (l : List ℕ)
+    → refusal (figure l (length l / 2 ∷ []))
+    ≡ cond (odd (length l) || (ltb (length l) 8 || ltb 64 (length l))) 2
+    (cond (slanted (corners l)) 3
+    (cond (unturned (corners l)) 4
+    (cond (empty (gridOf (lines X (corners l)) (lines Y (corners l)) (walls (edges (corners l))))) 5
+    0)))
+unfolding refusal
+one-ring-refusal l =
+    ap₂ (λ n g. cond (eqb n 0) (cond (empty g) 5 0) n) (one-ring-fault l) (one-ring-grid l)
+    ∙ go (odd (length l) || (ltb (length l) 8 || ltb 64 (length l))) (slanted (corners l)) (unturned (corners l))
+    (empty (gridOf (lines X (corners l)) (lines Y (corners l)) (walls (edges (corners l)))))
+  where
+    go : (a b c d : Bool)
+        → _≡_ {A = ℕ} (cond (eqb (cond a 2 (cond b 3 (cond c 4 0))) 0) (cond d 5 0) (cond a 2 (cond b 3 (cond c 4 0)))) (cond a 2 (cond b 3 (cond c 4 (cond d 5 0))))
+    go true b c d = refl
+    go false true c d = refl
+    go false false true d = refl
+    go false false false d = refl
+
 pub refusal-most : (f : Figure) → refusal f ≤ 5
 unfolding refusal fault
-refusal-most f = most (badFigure f) (slanted (cornersOf f)) (unturned (cornersOf f)) (empty (grid f))
+refusal-most f = most (badFigure f) (any slanted (rings f)) (any unturned (rings f)) (empty (grid f))
   where
     most : (a b c d : Bool) → cond (eqb (cond a 2 (cond b 3 (cond c 4 0))) 0) (cond d 5 0) (cond a 2 (cond b 3 (cond c 4 0))) ≤ 5
     most true b c d = omega arith

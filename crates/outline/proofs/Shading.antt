@@ -3,7 +3,8 @@
 --   reaches xs ys i j w     == the wall w stands at or left of the x line i, and its span covers the row j
 --   reaches-first, -next    == the walls that reach a column are those that reach the one before, and those that stand there
 --   swept-count             == a swept mark is 1 where an odd number of walls reaches the cell
---   swept-inside            == that is where the cell is inside
+--   reaches-inside          == that is where the cell is inside
+--   beyond-inside           == right of the last line no wall stands, and nothing is inside
 use Prim.Native.Nat.{ℕ, zero, suc, _+_, _*_, _-_, _/_, _%_, _≤_, _<_}
 use native.Mathlib.Numerals.{add-one}
 use mathlib.Core.Path.{_≡_, refl, sym, _∙_, ap, ap₂}
@@ -18,10 +19,10 @@ use Rattle.sum.specs.Sum.{only, All}
 use Rattle.sum.proofs.Sum.{le-or}
 use Rattle.sum.proofs.Lists.{All-imp, All-all, sumOf-same, sumOf-add}
 use Rattle.figure.specs.declared.Axis.the-variants.{X, Y}
-use Rattle.figure.specs.Corners.{Corner, edges, odd, slanted, coordinate}
-use Rattle.figure.specs.Figure.{Figure, cornersOf, edgesOf}
+use Rattle.figure.specs.Corners.{Corner, any, odd, slanted, coordinate}
+use Rattle.figure.specs.Figure.{Figure, rings, cornersOf, edgesOf}
 use Rattle.figure.specs.Inside.{Wall, walls, covers, count, within}
-use Rattle.figure.proofs.Inside.{Beside, count-same, count-none, even, passes, parity}
+use Rattle.figure.proofs.Inside.{Beside, count-same, count-none, even, passes, parity-all}
 use Rattle.outline.specs.Lines.{lines, place}
 use Rattle.outline.specs.Inside.{grid}
 use Rattle.outline.specs.Steps.{covered, span, stands, swept}
@@ -122,14 +123,14 @@ module _ (f : Figure) (some : 0 < length (lines X (cornersOf f))) where
   ys = lines Y cs
 
   abbrev ws : List Wall
-  ws = walls (edges cs)
+  ws = walls (edgesOf f)
 
   count-first : (j : ℕ) → j < 16
       → count (stands xs ys (16 * 0 + j)) ws ≡ count (reaches xs ys 0 j) ws
   count-first j h =
       count-same _ _ ws
       (All-imp (λ w s. reaches-first xs ys j w h some (s .0)) ws
-      (walls-lines (λ v. place xs 0 ≤ v) (λ v. Unit {0}) cs (lowest xs (lines-up X cs)) (All-all (λ v. tt) ys)))
+      (walls-lines (λ v. place xs 0 ≤ v) (λ v. Unit {0}) f (lowest xs (lines-up X cs)) (All-all (λ v. tt) ys)))
 
   -- where there is a next line, no wall stands between it and this one
   apart : (i : ℕ) → All (λ w. suc i < length xs → Beside (place xs i) (place xs (suc i)) (w .x) × (place xs i < place xs (suc i))) ws
@@ -137,7 +138,7 @@ module _ (f : Figure) (some : 0 < length (lines X (cornersOf f))) where
     | inl q ↦ All-all (λ w k. absurd (omega arith)) ws
     | inr q ↦
         All-imp (λ w s k. (s .0, place-rises xs (lines-up X cs) i q)) ws
-        (walls-lines (Beside (place xs i) (place xs (suc i))) (λ v. Unit {0}) cs (beside xs (lines-up X cs) i q) (All-all (λ v. tt) ys))
+        (walls-lines (Beside (place xs i) (place xs (suc i))) (λ v. Unit {0}) f (beside xs (lines-up X cs) i q) (All-all (λ v. tt) ys))
   ]
 
   count-next : (i j : ℕ) → j < 16
@@ -161,6 +162,17 @@ module _ (f : Figure) (some : 0 < length (lines X (cornersOf f))) where
       ap₂ (λ a b. (a + b) % 2) (swept-count cells m i j h) (m (16 * suc i + j))
       ∙ odd-add (count (reaches xs ys i j) ws) (count (stands xs ys (16 * suc i + j)) ws)
       ∙ ap (λ n. only (odd n) 1) (count-next i j h)
+
+  -- right of the last line no wall stands, and nothing is inside
+  pub beyond-inside : (i j : ℕ) → j < 16 → length xs ≤ i → odd (count (stands xs ys (16 * i + j)) ws) ≡ grid f .inside i j
+  beyond-inside i j h q =
+      ap odd
+      (count-none _ ws
+      (All-all
+      (λ w. stands-at xs ys i j w h ∙ ap (λ b. (b && eqb (w .x) (place xs i)) && span ys (w .lo) (w .hi) j) (le-ltb i (length xs) q))
+      ws))
+      ∙ even 0 refl
+      ∙ sym (grid-right f i j (omega arith))
 
   -- what reaches a cell covers it; beyond the frame that is nothing, or an even number
   reaches-cell : (i j : ℕ) → suc j < length ys → (w : Wall)
@@ -190,7 +202,7 @@ module _ (f : Figure) (some : 0 < length (lines X (cornersOf f))) where
   unfolding coordinate
   levels j q = corners-all (Beside (place ys j) (place ys (suc j))) Y cs (beside ys (lines-up Y cs) j q)
 
-  pub reaches-inside : slanted cs ≡ false → (i j : ℕ)
+  pub reaches-inside : any slanted (rings f) ≡ false → (i j : ℕ)
       → odd (count (reaches xs ys i j) ws) ≡ grid f .inside i j
   unfolding within
   reaches-inside s i j = elim (le-or (length ys) (suc j)) [
@@ -204,8 +216,8 @@ module _ (f : Figure) (some : 0 < length (lines X (cornersOf f))) where
               ap odd
               (count-same _ (passes (place ys j) (place ys (suc j))) ws
               (All-imp (λ w h. reaches-right i j r q w (h .0)) ws
-              (walls-lines (λ v. v ≤ place xs (length xs - 1)) (λ v. Unit {0}) cs (highest xs (lines-up X cs)) (All-all (λ v. tt) ys))))
-              ∙ even _ (parity (place ys j) (place ys (suc j)) (place-rises ys (lines-up Y cs) j q) cs s (levels j q))
+              (walls-lines (λ v. v ≤ place xs (length xs - 1)) (λ v. Unit {0}) f (highest xs (lines-up X cs)) (All-all (λ v. tt) ys))))
+              ∙ even _ (parity-all (place ys j) (place ys (suc j)) (place-rises ys (lines-up Y cs) j q) f s (levels j q))
               ∙ sym (grid-right f i j (omega arith))
           | inr r ↦
               ap odd (count-same _ _ ws (All-all (reaches-cell i j q) ws))

@@ -1,6 +1,6 @@
 -- How the marks reach to the right, cell by cell. Assumes nothing.
 --
---   Sweeping cells now k        == on the way: below k the cells have taken in those left of them, from k on they are as they were
+--   Sweeping cells end now k    == on the way to the end: below k the cells have taken in those left of them, from k on they are as they were
 --   sweeping-start, -more, -end == the first column stays; one more cell; all of them
 --   sweeping-bits               == what is added are bits
 --   swept-bit                   == so is what comes of it
@@ -24,16 +24,16 @@ unfolding swept
 swept-bit cells h zero j = h .bit j
 swept-bit cells h (suc i) j = omega arith
 
-pub record Sweeping (cells now : List ℕ) (k : ℕ) : Type 0 where
-  pub most : k ≤ 256
+pub record Sweeping (cells : List ℕ) (end : ℕ) (now : List ℕ) (k : ℕ) : Type 0 where
+  pub most : k ≤ end
   pub some : 16 ≤ k
   pub same : length now ≡ length cells
   pub done : (i j : ℕ) → j < 16 → 16 * i + j < k → getD now (16 * i + j) 0 ≡ swept cells i j
   pub rest : (n : ℕ) → k ≤ n → getD now n 0 ≡ getD cells n 0
 
-pub sweeping-start : (cells : List ℕ) → Sweeping cells cells 16
+pub sweeping-start : (cells : List ℕ) (end : ℕ) → 16 ≤ end → Sweeping cells end cells 16
 unfolding swept
-sweeping-start cells =
+sweeping-start cells end e =
     record {
       most = omega arith;
       some = omega arith;
@@ -46,7 +46,7 @@ sweeping-start cells =
     first zero j h q = let z : 16 * 0 + j ≡ j = omega arith in ap (λ n. getD cells n 0) z
     first (suc i) j h q = absurd (omega arith)
 
-module _ (cells now : List ℕ) (k : ℕ) (marks : Marks cells) (h : Sweeping cells now k) where
+module _ (cells : List ℕ) (end : ℕ) (now : List ℕ) (k : ℕ) (marks : Marks cells) (h : Sweeping cells end now k) where
   -- the cell to the left is done
   left : (i j : ℕ) → j < 16 → 16 * suc i + j ≡ k → getD now (k - 16) 0 ≡ swept cells i j
   left i j q e = let z : k - 16 ≡ 16 * i + j = omega arith in ap (λ n. getD now n 0) z ∙ h .done i j q (omega (arith, h .some))
@@ -58,9 +58,9 @@ module _ (cells now : List ℕ) (k : ℕ) (marks : Marks cells) (h : Sweeping ce
         omega (arith, h .rest k (omega arith), marks .bit k),
       )
 
-  pub sweeping-more : k < 256 → Sweeping cells (set now k ((getD now (k - 16) 0 + getD now k 0) % 2)) (k + 1)
+  pub sweeping-more : k < end → end ≤ 256 → Sweeping cells end (set now k ((getD now (k - 16) 0 + getD now k 0) % 2)) (k + 1)
   unfolding swept
-  sweeping-more q =
+  sweeping-more q t =
       record {
         most = omega arith;
         some = omega (arith, h .some);
@@ -85,8 +85,8 @@ module _ (cells now : List ℕ) (k : ℕ) (marks : Marks cells) (h : Sweeping ce
           ∙ getD-set-same now k v 0 (omega (arith, h .same, marks .length-cells))
           ∙ ap₂ (λ a b. (a + b) % 2) (left i j p e) (h .rest k (omega arith) ∙ ap (λ n. getD cells n 0) (sym e))
 
-  pub sweeping-end : 256 ≤ k → Swept cells now
-  sweeping-end q = record { at = λ i j p r. h .done i j r (omega arith) }
+  pub sweeping-end : (lines : ℕ) → end ≡ 16 * lines → end ≤ k → Swept lines cells now
+  sweeping-end lines e q = record { at = λ i j p r. h .done i j r (omega arith); rest = λ n p. h .rest n (omega (arith, h .most)) }
 
 -- a search of the cells
 pub lit-some : (cells : List ℕ) (k : ℕ) → k < length cells → (getD cells k 0 ≡ 0 → ⊥) → true ≡ any lit cells

@@ -1,4 +1,4 @@
--- To believe: what drawing a figure promises, for every list of numbers.
+-- To believe: what drawing a figure promises, for every list of numbers and every list of ring lengths.
 --
 --   answerNo a       == the number of the answer a; 0 for an accepted figure
 --   refusal f        == the first of 2, 3, 4, 5 whose condition holds of the figure f, 0 where none does

@@ -4,7 +4,8 @@
 -- The lines
 --   Room ls n v, Inserted ..         == the first n of ls rise, and there is room to insert v; ls with v inserted, and their number
 --   Gathered a l ls r after          == the r lines of the outline across the axis a, at the front of what was ls
---   Ruled l xs ys                    == the figure of the list l passes 2, 3 and 4, and these are its lines
+--   Lined f xs ys                    == the figure f passes 2, 3 and 4, and these are its lines
+--   Ruled l xs ys                    == up to 16 lines each way, one y line at least; the x lines rise, and those of the ring l are among them
 -- The cells, the cell (i, j) at 16 * i + j
 --   flip t n                         == n, 0 or 1, turned over where the test t holds
 --   covered lo hi bottom top         == what lies from bottom to top lies from lo to hi
@@ -12,9 +13,10 @@
 --   Bits cells ys line               == 16 by 16 bits, the y lines of a grid, and the number of an x line
 --   Turned cells ys line lo hi after == each cell right of the line whose row lies from lo to hi is turned over
 --   stands xs ys n w                 == the wall w stands on the low x of the cell n, and its span covers the cell
---   marks cs k n                     == 1 where an odd number of the first k edges are walls that stand at the cell n, else 0
---   Marked l k cells, Marks cells    == the first k edges are marked; marks are bits
---   swept l i j, Swept cells after   == 1 where an odd number of the marks of row j up to column i are 1; all of them so
+--   Marks cells                      == 16 by 16 bits
+--   Marked xs ys ws cells after      == each cell is turned over once for each of the walls ws that stands at it
+--   swept l i j                      == 1 where an odd number of the marks of row j up to column i are 1
+--   Swept count cells after          == so are the first columns, so many of them; the others are as they were
 --   lit n                            == a cell that is not 0
 -- The drawing
 --   Clear xs ys cells                == the lists of a drawing are all zeros
@@ -22,17 +24,17 @@
 use Prim.Native.Nat.{ℕ, zero, suc, _+_, _*_, _-_, _/_, _%_, _≤_, _<_}
 use mathlib.Core.Path.{_≡_}
 use mathlib.Core.Bool.{Bool, true, false, not, _&&_}
-use mathlib.Core.List.{List, _++_}
+use mathlib.Core.List.{List, _++_, List·Memᴰ as Member}
 use lib.Dec.{leb, ltb, eqb}
 use lib.ListN.{length, getD, take, drop, replicate}
-use Rattle.sum.specs.Sum.{only}
+use Rattle.sum.specs.Sum.{All}
 use Rattle.figure.specs.declared.Axis.{Axis}
 use Rattle.figure.specs.declared.Axis.the-variants.{X, Y}
 use Rattle.outline.specs.declared.Answer.the-variants.{Accepted, Refused}
 use Rattle.refusal.specs.declared.Refusal.{Refusal}
-use Rattle.figure.specs.Corners.{Corner, corners, edges, odd}
-use Rattle.figure.specs.Figure.{figure}
-use Rattle.figure.specs.Inside.{Wall, walls, count}
+use Rattle.figure.specs.Corners.{corners, coordinate, odd}
+use Rattle.figure.specs.Figure.{Figure, cornersOf}
+use Rattle.figure.specs.Inside.{Wall, count}
 use Rattle.figure.specs.Steps.{Right}
 use Rattle.outline.specs.Lines.{Up, insert, lines, place}
 use Rattle.outline.specs.Grid.{Grid}
@@ -75,28 +77,33 @@ unfoldable pub stands : List ℕ → List ℕ → ℕ → Wall → Bool
 stands xs ys n w =
     (ltb (n / 16) (length xs) && eqb (w .x) (place xs (n / 16))) && span ys (w .lo) (w .hi) (n % 16)
 
-unfoldable pub marks : List Corner → ℕ → ℕ → ℕ
-marks cs k n = only (odd (count (stands (lines X cs) (lines Y cs) n) (walls (take k (edges cs))))) 1
+pub record Lined (f : Figure) (xs ys : List ℕ) : Type 0 where
+  pub right : Right f
+  pub across-x : xs ≡ lines X (cornersOf f)
+  pub across-y : ys ≡ lines Y (cornersOf f)
 
 pub record Ruled (l xs ys : List ℕ) : Type 0 where
-  pub right : Right (figure l)
-  pub across-x : xs ≡ lines X (corners l)
-  pub across-y : ys ≡ lines Y (corners l)
-
-pub record Marked (l : List ℕ) (k : ℕ) (cells : List ℕ) : Type 0 where
-  pub length-cells : length cells ≡ 256
-  pub at : (n : ℕ) → getD cells n 0 ≡ marks (corners l) k n
+  pub rise : Up xs
+  pub hold : All (λ c. Member (coordinate X c) xs) (corners l)
+  pub columns : length xs ≤ 16
+  pub some : 1 ≤ length ys
+  pub rows : length ys ≤ 16
 
 pub record Marks (cells : List ℕ) : Type 0 where
   pub length-cells : length cells ≡ 256
   pub bit : (n : ℕ) → getD cells n 0 ≤ 1
 
+pub record Marked (xs ys : List ℕ) (ws : List Wall) (cells after : List ℕ) : Type 0 where
+  pub marks : Marks after
+  pub at : (n : ℕ) → getD after n 0 ≡ flip (odd (count (stands xs ys n) ws)) (getD cells n 0)
+
 unfoldable pub swept : List ℕ → ℕ → ℕ → ℕ
 swept l zero j = getD l j 0
 swept l (suc i) j = (swept l i j + getD l (16 * suc i + j) 0) % 2
 
-pub record Swept (cells after : List ℕ) : Type 0 where
-  pub at : (i j : ℕ) → i < 16 → j < 16 → getD after (16 * i + j) 0 ≡ swept cells i j
+pub record Swept (count : ℕ) (cells after : List ℕ) : Type 0 where
+  pub at : (i j : ℕ) → i < count → j < 16 → getD after (16 * i + j) 0 ≡ swept cells i j
+  pub rest : (n : ℕ) → 16 * count ≤ n → getD after n 0 ≡ getD cells n 0
 
 unfoldable pub lit : ℕ → Bool
 lit n = not (eqb n 0)

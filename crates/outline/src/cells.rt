@@ -1,19 +1,21 @@
 // The cells inside a figure, by the odd count.
 ghost use mathlib.Core.Path.{_≡_};
-ghost use Prim.Native.Nat.{_+_, _/_, _≤_, _<_, min, max};
+ghost use Prim.Native.Nat.{_/_, _≤_, _<_, min, max};
 ghost use lib.ListN.{length, replicate};
 ghost use Rattle.figure.specs.Corners as corner;
-ghost use Rattle.figure.specs.Figure.{figure};
+ghost use Rattle.figure.specs.Figure.{figure, edgesOf};
+ghost use Rattle.figure.specs.Inside as inside;
+ghost use Rattle.figure.specs.Steps.{edge};
 ghost use Rattle.outline.specs.Inside.{grid};
 ghost use Rattle.outline.specs.Steps as step;
 ghost use Rattle.outline.specs.Promise as promise;
 use crate::Line;
-use crate::MOST_CELLS;
 use crate::MOST_LINES;
 use crate::rising;
 use figure::Axis;
 use figure::Place;
 use figure::edges;
+use figure::rings;
 
 fn lower(a: Place, b: Place) -> Place
     ensures { λ r. ⌜ r .0 ≡ min (a .0) (b .0) ⌝ }
@@ -59,12 +61,12 @@ fn turn_over(cells: &mut [u8], line: Line, ys: &[u16], low: Place, high: Place)
     }
 }
 
-// Turns over the cells that the edge that ends at corner k covers on its right, if it is vertical.
+// Turns over the cells that the edge that ends at corner k of a ring covers on its right, if it is vertical.
 fn mark(corners: &[u16], k: usize, xs: &[u16], ys: &[u16], cells: &mut [u8])
     requires { ⌜ k < length (now corners) / 2 ⌝ }
     requires { ⌜ step.Ruled (now corners) (now xs) (now ys) ⌝ }
-    requires { ⌜ step.Marked (now corners) k (now cells) ⌝ }
-    ensures { λ _. ⌜ step.Marked (now (corners .entry)) (k + 1) (now (cells .exit)) ⌝ }
+    requires { ⌜ step.Marks (now cells) ⌝ }
+    ensures { λ _. ⌜ step.Marked (now (xs .entry)) (now (ys .entry)) (inside.wall (edge (now (corners .entry)) k)) (now (cells .entry)) (now (cells .exit)) ⌝ }
 {
     if edges::changes(corners, k, Axis::X) {
         return;
@@ -75,11 +77,11 @@ fn mark(corners: &[u16], k: usize, xs: &[u16], ys: &[u16], cells: &mut [u8])
     turn_over(cells, line, ys, lower(start, end), higher(start, end));
 }
 
-// Turns over the cells on the right of each wall.
-fn mark_walls(corners: &[u16], xs: &[u16], ys: &[u16], cells: &mut [u8])
+// Turns over the cells on the right of each wall of a ring.
+fn mark_ring(corners: &[u16], xs: &[u16], ys: &[u16], cells: &mut [u8])
     requires { ⌜ step.Ruled (now corners) (now xs) (now ys) ⌝ }
-    requires { ⌜ step.Marked (now corners) 0 (now cells) ⌝ }
-    ensures { λ _. ⌜ step.Marked (now (corners .entry)) (length (now (corners .entry)) / 2) (now (cells .exit)) ⌝ }
+    requires { ⌜ step.Marks (now cells) ⌝ }
+    ensures { λ _. ⌜ step.Marked (now (xs .entry)) (now (ys .entry)) (inside.walls (corner.edges (corner.corners (now (corners .entry))))) (now (cells .entry)) (now (cells .exit)) ⌝ }
 {
     let count = corners.len() / 2;
     for edge in 0..count {
@@ -87,24 +89,41 @@ fn mark_walls(corners: &[u16], xs: &[u16], ys: &[u16], cells: &mut [u8])
     }
 }
 
-// Lets each mark reach to the right: a cell is then 1 where the number of walls at or left of it is odd.
-fn sweep(cells: &mut [u8])
+// Turns over the cells on the right of each wall of all rings: so a window in a ring takes away what the ring holds.
+fn mark_walls(corners: &[u16], lengths: &[u16], xs: &[u16], ys: &[u16], cells: &mut [u8])
+    requires { ⌜ step.Lined (figure (now corners) (now lengths)) (now xs) (now ys) ⌝ }
     requires { ⌜ step.Marks (now cells) ⌝ }
-    ensures { λ _. ⌜ step.Swept (now (cells .entry)) (now (cells .exit)) ⌝ }
+    ensures { λ _. ⌜ step.Marked (now (xs .entry)) (now (ys .entry)) (inside.walls (edgesOf (figure (now (corners .entry)) (now (lengths .entry))))) (now (cells .entry)) (now (cells .exit)) ⌝ }
 {
-    for k in MOST_LINES..MOST_CELLS {
+    let mut from: usize = 0;
+    for k in 0..lengths.len() {
+        let to = from + 2 * rings::wide(lengths[k]);
+        mark_ring(&corners[from..to], xs, ys, cells);
+        from = to;
+    }
+}
+
+// Lets each mark reach to the right, up to the last of so many x lines: a cell is then 1 where the number of walls at or left of it
+// is odd. Beyond that line no wall stands and nothing is inside.
+fn sweep(cells: &mut [u8], lines: usize)
+    requires { ⌜ step.Marks (now cells) ⌝ }
+    requires { ⌜ (1 ≤ lines) × (lines ≤ 16) ⌝ }
+    ensures { λ _. ⌜ step.Swept lines (now (cells .entry)) (now (cells .exit)) ⌝ }
+{
+    let end = MOST_LINES * lines;
+    for k in MOST_LINES..end {
         cells[k] = (cells[k - MOST_LINES] + cells[k]) % 2;
     }
 }
 
 // Sets the cells inside a figure that passes 2, 3 and 4, by its x lines and its y lines.
-pub fn shade(corners: &[u16], xs: &[u16], ys: &[u16], cells: &mut [u8])
-    requires { ⌜ step.Ruled (now corners) (now xs) (now ys) ⌝ }
+pub fn shade(corners: &[u16], lengths: &[u16], xs: &[u16], ys: &[u16], cells: &mut [u8])
+    requires { ⌜ step.Lined (figure (now corners) (now lengths)) (now xs) (now ys) ⌝ }
     requires { ⌜ now cells ≡ replicate 256 0 ⌝ }
-    ensures { λ _. ⌜ now (cells .exit) ≡ promise.laid (grid (figure (now (corners .entry)))) .cells ⌝ }
+    ensures { λ _. ⌜ now (cells .exit) ≡ promise.laid (grid (figure (now (corners .entry)) (now (lengths .entry)))) .cells ⌝ }
 {
-    mark_walls(corners, xs, ys, cells);
-    sweep(cells);
+    mark_walls(corners, lengths, xs, ys, cells);
+    sweep(cells, xs.len());
 }
 
 // Whether some cell is inside.

@@ -74,14 +74,20 @@ fn refused(
 }
 
 // Draws the lines and the cells of a figure that passes 2, 3 and 4 into lists that are all zeros; 5 is not asked yet.
-fn trace(corners: &[u16], xs: &mut [u16], ys: &mut [u16], cells: &mut [u8]) -> Drawing
-    requires { ⌜ Right (figure (now corners)) ⌝ }
+fn trace(
+    corners: &[u16],
+    lengths: &[u16],
+    xs: &mut [u16],
+    ys: &mut [u16],
+    cells: &mut [u8],
+) -> Drawing
+    requires { ⌜ Right (figure (now corners) (now lengths)) ⌝ }
     requires { ⌜ step.Clear (now xs) (now ys) (now cells) ⌝ }
-    ensures { λ r. ⌜ promise.sheet r (now (xs .exit)) (now (ys .exit)) (now (cells .exit)) ≡ step.sheetOf (grid (figure (now (corners .entry)))) ⌝ }
+    ensures { λ r. ⌜ promise.sheet r (now (xs .exit)) (now (ys .exit)) (now (cells .exit)) ≡ step.sheetOf (grid (figure (now (corners .entry)) (now (lengths .entry)))) ⌝ }
 {
     let across_x = rising::gather(corners, Axis::X, xs);
     let across_y = rising::gather(corners, Axis::Y, ys);
-    cells::shade(corners, &xs[..across_x], &ys[..across_y], cells);
+    cells::shade(corners, lengths, &xs[..across_x], &ys[..across_y], cells);
     Drawing {
         answer: Answer::Accepted,
         columns: across_x - 1,
@@ -92,34 +98,36 @@ fn trace(corners: &[u16], xs: &mut [u16], ys: &mut [u16], cells: &mut [u8]) -> D
 // The drawing of a figure that passes 2, 3 and 4.
 fn plot(
     corners: &[u16],
+    lengths: &[u16],
     xs: &mut [u16; MOST_LINES],
     ys: &mut [u16; MOST_LINES],
     cells: &mut [u8; MOST_CELLS],
 ) -> Drawing
-    requires { ⌜ Right (figure (now corners)) ⌝ }
-    ensures { λ r. ⌜ promise.Promise (figure (now (corners .entry))) (promise.sheet r (now (xs .exit)) (now (ys .exit)) (now (cells .exit))) ⌝ }
+    requires { ⌜ Right (figure (now corners) (now lengths)) ⌝ }
+    ensures { λ r. ⌜ promise.Promise (figure (now (corners .entry)) (now (lengths .entry))) (promise.sheet r (now (xs .exit)) (now (ys .exit)) (now (cells .exit))) ⌝ }
 {
     clear(xs, ys, cells);
-    let drawing = trace(corners, xs, ys, cells);
+    let drawing = trace(corners, lengths, xs, ys, cells);
     if !cells::any_inside(cells) {
         return refused(Refusal::Empty, xs, ys, cells);
     }
     drawing
 }
 
-// The grid of a figure, from the list x, y, x, y, .. of its corners; or the first of 2, 3, 4, 5 whose condition holds. It is drawn
-// into the lent arrays, whatever was in them: the places of the columns + 1 x lines and of the rows + 1 y lines, and at 16 * i + j a 1
+// The grid of a figure, from the list x, y, x, y, .. of its corners, ring after ring, and the number of corners of each ring; or the
+// first of 2, 3, 4, 5 whose condition holds. It is drawn into the lent arrays, whatever was in them: the places of the columns + 1 x lines and of the rows + 1 y lines, and at 16 * i + j a 1
 // where the cell (i, j) is inside. All else is 0, and beside a refusal all of it.
 pub fn draw(
     corners: &[u16],
+    lengths: &[u16],
     xs: &mut [u16; MOST_LINES],
     ys: &mut [u16; MOST_LINES],
     cells: &mut [u8; MOST_CELLS],
 ) -> Drawing
-    ensures { λ r. ⌜ promise.Promise (figure (now (corners .entry))) (promise.sheet r (now (xs .exit)) (now (ys .exit)) (now (cells .exit))) ⌝ }
+    ensures { λ r. ⌜ promise.Promise (figure (now (corners .entry)) (now (lengths .entry))) (promise.sheet r (now (xs .exit)) (now (ys .exit)) (now (cells .exit))) ⌝ }
 {
-    match shape_of(corners) {
-        Shape::Right => plot(corners, xs, ys, cells),
+    match shape_of(corners, lengths) {
+        Shape::Right => plot(corners, lengths, xs, ys, cells),
         Shape::Refused(why) => refused(why, xs, ys, cells),
     }
 }

@@ -1,4 +1,6 @@
 // The job program: reads a job on standard input, fractures each outline by the job's rule, and prints the shots.
+use figure::MOST_CORNERS;
+use figure::MOST_RINGS;
 use fracture::Fractured;
 use job::read;
 use job::read::Checked;
@@ -77,15 +79,16 @@ fn print_refused(r: Refusal, at: usize) {
     print(b"\n");
 }
 
-// Fractures one outline.
+// Fractures one outline, which may have several rings.
 fn fracture_outline(
     corners: &[u16],
+    lengths: &[u16],
     threshold: u32,
     weight: u32,
     table: &mut [u32],
     list: &mut [u16],
 ) -> Answer {
-    match fracture::fracture(corners, threshold, weight, table, list) {
+    match fracture::fracture(corners, lengths, threshold, weight, table, list) {
         Fractured::Done {
             shots,
             cost,
@@ -119,13 +122,18 @@ fn run_outline(
     table: &mut [u32],
     list: &mut [u16],
 ) {
-    let mut corners = [0u16; 64];
+    let mut corners = [0u16; 2 * MOST_CORNERS];
+    let mut lengths = [0u16; MOST_RINGS];
     let mut refusal: u32 = 0;
     let mut offset: usize = 0;
     let part = read::take(job, k, &mut refusal, &mut offset);
-    if let Unpacked::Corners(v) = unpack::unpack(part, &mut corners) {
+    if let Unpacked::Figure {
+        corners: v,
+        rings: r,
+    } = unpack::unpack(part, &mut corners, &mut lengths) {
         let outline = front(&corners, 2 * (v as usize));
-        let told = fracture_outline(outline, threshold, weight, table, list);
+        let rings = front(&lengths, r as usize);
+        let told = fracture_outline(outline, rings, threshold, weight, table, list);
         print_outline(k, told, list);
     }
 }

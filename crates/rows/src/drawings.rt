@@ -1,106 +1,134 @@
-// What is fractured: outlines of seven sorts, each by a number. Sort 0 are the rows of document 01. The others are made up from
-// seeds: 1 walks that cross themselves, 2 walks on few lines, which touch themselves, 3 walks along 16 by 16 lines, 4 combs,
-// 5 staircases, 6 walks of sorts 1 and 2 that are then spoilt.
+// What is fractured: figures of thirteen sorts, each by a number. Sorts 0 and 7 are the rows of the document, with one ring and
+// with windows. The others are made up. Of one ring: 1 walks that cross themselves, 2 walks on few lines, which touch themselves,
+// 3 walks along 16 by 16 lines, 4 combs, 5 staircases, 6 walks of sorts 1 and 2 that are then spoilt. Of two to eight rings: 8
+// windows in windows, 9 squares that touch, 10 rings that cross, 11 rings that come again, 12 figures of sorts 8 to 11 that are
+// then spoilt.
 use super::document;
 use super::guarded::gap;
 use super::guarded::pick;
 use super::guarded::product;
 use super::guarded::sum;
+use super::made;
+use super::made::drawn;
 use super::second::Asked;
 ghost use mathlib.Core.Path.{_≡_};
 ghost use lib.ListN.{length};
 
-// A number from a seed and a turn.
-fn drawn(seed: usize, turn: usize) -> usize {
-    let a = seed % 1048576 * 7919 + turn % 1024 * 104729 + 12345;
-    let b = (a * 1103515245 + 12345) % 2147483648;
-    let c = (b / 4096 + b * 69069 + 1) % 2147483648;
-    let d = (c * 1103515245 + 12345) % 2147483648;
-    d / 1024
+// Whether the figures of a sort are rows of the document.
+pub fn is_row(sort: usize) -> bool {
+    (sort == 0) | (sort == 7)
 }
 
-// How many numbers an outline has: four to a turn of a walk and to a step, eight to a tooth of a comb.
+// The number of the first figure of a sort, and that past its last.
+pub fn first(sort: usize) -> usize {
+    pick(sort == 7, document::WINDOWS, 0)
+}
+
+pub fn past(sort: usize) -> usize {
+    pick(
+        sort == 0,
+        document::WINDOWS,
+        pick(sort == 7, document::COUNT, 60),
+    )
+}
+
+// ---- spoilt ones
+
+// The sort of which a figure is, or was before it was spoilt.
+fn sound(sort: usize, k: usize) -> usize {
+    pick(sort == 6, k % 2 + 1, pick(sort == 12, k % 4 + 8, sort))
+}
+
+// What is spoilt of a figure: 0 half of the numbers are missing, 1 there is one too many, 2 and 3 one may be anything; 4 there is no
+// ring, or there are nine; 5 the first ring has four corners more, 6 it has one of the second's, 7 both are one ring; 8 a line lies
+// on another, 9 and a number may be anything; 10 nothing.
+fn slip(sort: usize, k: usize) -> usize {
+    pick(
+        sort == 6,
+        drawn(k, 951) % 4,
+        pick(sort == 12, k / 4 % 10, 10),
+    )
+}
+
+// ---- ring lengths
+
+// How many rings a made-up figure has.
+fn rings(sort: usize, k: usize) -> usize {
+    let slip = slip(sort, k);
+    let own = made::rings(sound(sort, k), k);
+    let none_or_nine = k / 40 % 2 * 9;
+    pick(slip == 4, none_or_nine, gap((slip == 7) as usize, own))
+}
+
+// How many corners ring r of a made-up figure with several has.
+fn ring_length(sort: usize, k: usize, r: usize) -> usize {
+    let shape = sound(sort, k);
+    let slip = slip(sort, k);
+    let joined = slip == 7;
+    let own = made::ring_length(shape, k, sum(r, (joined & (0 < r)) as usize));
+    let longer = pick(slip == 5, 4, (slip == 6) as usize);
+    let more = pick(joined, made::ring_length(shape, k, 1), longer);
+    let less = ((slip == 6) & (r == 1)) as usize;
+    gap(less, sum(own, pick(r == 0, more, 0)))
+}
+
+// Puts the ring lengths of a figure of so many numbers into lent memory; gives how many rings it has.
+pub fn share(lengths: &mut [u16; 9], sort: usize, k: usize, numbers: usize) -> usize
+    ensures { λ r. ⌜ length (now (lengths .exit)) ≡ 9 ⌝ }
+{
+    *lengths = [0u16; 9];
+    let is_row = is_row(sort);
+    for r in 0..9 {
+        let said = document::list(document::row(k, 11), r);
+        let made = pick(sort < 8, numbers / 2, ring_length(sort, k, r));
+        lengths[r] = (pick(is_row, said, made) % 65536) as u16;
+    }
+    pick(is_row, document::row(k, 12), rings(sort, k))
+}
+
+// ---- corners
+
+// How many numbers there are to draw.
 fn size(sort: usize, k: usize) -> usize {
-    match sort {
-        0 => document::row(k, 1),
-        1 => drawn(k, 900) % 14 * 4 + 8,
-        2 => drawn(k, 900) % 7 * 8 + 8,
-        3 => 64,
-        4 => drawn(k, 920) % 7 * 8 + 16,
-        _ => drawn(k, 940) % 14 * 4 + 12,
-    }
+    let slip = slip(sort, k);
+    let own = made::size(sound(sort, k), k);
+    let squares = product(rings(sort, k), 8);
+    let made = pick(slip == 4, squares, sum(own, pick(slip == 5, 8, 0)));
+    pick(is_row(sort), document::row(k, 1), made)
 }
 
-// The line that a walk goes along at a turn, of the x (way 0) or the y (way 1). Neighbours differ in being odd.
-fn walk_line(sort: usize, seed: usize, way: usize, turn: usize) -> usize {
-    let t = turn % 32;
-    let w = way % 2;
-    let any = drawn(seed, t * 2 + w) % 8;
-    let odd = drawn(seed, 901 + w) % 8 * 2 + 1;
-    match sort {
-        1 => any * 2 + t % 2,
-        2 => any % 2 * 2 + t % 2,
-        _ => sum(product(t, odd), drawn(seed, 903 + w)) % 16,
-    }
+// Number i of a made-up figure of so many.
+fn number(sort: usize, k: usize, i: usize, numbers: usize) -> usize {
+    let shape = sound(sort, k);
+    let slip = slip(sort, k);
+    let own = made::number(shape, k, i, numbers);
+    let line = made::number(shape, k, 0, numbers);
+    let other = made::number(shape, k, drawn(k, 954) % 4 * 2 + 2, numbers);
+    let moved = pick((slip / 2 == 4) & (own == line), other, own);
+    let anything = ((slip / 2 == 1) | (slip == 9)) & (i == drawn(k, 950) % 64);
+    pick(anything, drawn(k, 952) % 400, moved)
 }
 
-// The line of number i of a made-up outline of so many. A corner's x is the next turn's, and its y is this turn's. A comb has
-// teeth of any height on a back.
-fn line(sort: usize, seed: usize, i: usize, numbers: usize) -> usize {
-    let v = i % 128 / 2;
-    let here = v / 2;
-    let next = pick(v * 2 + 2 < numbers, (v + 1) / 2, 0);
-    let top = drawn(seed, 930 + v / 4) % 12 + 2;
-    match sort % 8 * 2 + i % 2 {
-        8 => here,
-        9 => pick(next % 2 == 1, top, pick(next == 0, 0, 1)),
-        10 => pick(next == 0, 0, gap(next, numbers / 4)),
-        11 => here,
-        _ => walk_line(sort, seed, i % 2, pick(i % 2 == 0, next, here)),
-    }
-}
-
-// From line to line of a made-up outline it is one of these: some are as wide as a threshold.
-const STEPS: [usize; 6] = [1, 5, 24, 25, 100, 4000];
-
-// Number i of a made-up outline of so many: even steps, from an offset.
-fn made(sort: usize, seed: usize, i: usize, numbers: usize) -> usize {
-    let way = i % 2;
-    let step = STEPS[drawn(seed, 910 + way) % 6];
-    let offset = drawn(seed, 912 + way) % 50;
-    sum(product(line(sort, seed, i, numbers), step), offset)
-}
-
-// Puts an outline into lent memory; gives how many numbers it has. Of the spoilt ones some have half of them, some one too many,
-// and half of them have one that may be anything.
+// Puts the corners of a figure into lent memory, zeros behind them; gives how many numbers are handed on.
 pub fn draw(corners: &mut [u16; 128], sort: usize, k: usize) -> usize
-    requires { ⌜ length (now corners) ≡ 128 ⌝ }
     ensures { λ r. ⌜ length (now (corners .exit)) ≡ 128 ⌝ }
 {
-    let shape = pick(sort == 6, k % 2 + 1, sort);
-    let numbers = size(shape, k) % 128;
+    *corners = [0u16; 128];
+    let is_row = is_row(sort);
+    let slip = slip(sort, k);
+    let numbers = size(sort, k) % 128;
     for i in 0..numbers {
-        let v = pick(
-            sort == 0,
-            document::list(document::row(k, 0), i),
-            made(shape, k, i, numbers),
-        );
-        corners[i] = (v % 65536) as u16;
+        let said = document::list(document::row(k, 0), i);
+        corners[i] = (pick(is_row, said, number(sort, k, i, numbers)) % 65536) as u16;
     }
-    match pick(sort == 6, drawn(k, 951) % 4, 4) {
-        0 => numbers / 2,
-        1 => numbers + 1,
-        4 => numbers,
-        _ => {
-            corners[drawn(k, 950) % 64] = (drawn(k, 952) % 400) as u16;
-            numbers
-        }
-    }
+    pick(slip == 0, numbers / 2, sum(numbers, (slip == 1) as usize))
 }
 
-// What is asked of an outline. The rule of a made-up one is now and then too high.
+// ---- the question
+
+// What is asked of a figure. The rule of a made-up one is now and then too high.
 pub fn asked(sort: usize, k: usize) -> Asked {
-    if sort == 0 {
+    if is_row(sort) {
         return Asked {
             threshold: document::row(k, 2),
             weight: document::row(k, 3),

@@ -1,11 +1,13 @@
-// Runs every row of document 01's table of drawings, and some hundred made-up outlines, by the library and by a second
-// fracturer that is written another way, and compares answer by answer, shot by shot and cost by cost.
+// Runs every row of document 01's table of drawings, the worked figures with windows, and some hundred made-up figures, by the
+// library and by a second fracturer that is written another way, and compares answer by answer, shot by shot and cost by cost.
 mod document;
 mod drawings;
 mod guarded;
+mod made;
 mod second;
 
 use fracture::Fractured;
+use guarded::gap;
 use guarded::pick;
 use guarded::sum;
 use refusal::refusal_no;
@@ -48,7 +50,7 @@ fn same_answer(a: Answer, b: Answer) -> bool {
     (a.number == b.number) & (a.shots == b.shots) & (a.cost == b.cost) & (a.sliver == b.sliver)
 }
 
-// Whether an answer is what document 01 says of a row; of an outline that is no row it says nothing.
+// Whether an answer is what the document says of a row; of a figure that is no row it says nothing.
 fn as_document(row: usize, told: Answer) -> bool {
     let said = Answer {
         number: document::row(row, 6),
@@ -84,9 +86,10 @@ fn same_costs(table: &[u32; 14400], own: &Memory) -> bool {
     same
 }
 
-// Whether the second answers the same, with the same list and costs if there are any; and so does document 01 of a row.
+// Whether the second answers the same, with the same list and costs if there are any; and so does the document of a row.
 fn agrees(
     corners: &[u16],
+    lengths: &[u16],
     asked: Asked,
     row: usize,
     told: Answer,
@@ -94,13 +97,13 @@ fn agrees(
     list: &[u16; 900],
 ) -> bool {
     let mut own = [second::UNSETTLED; 132096];
-    let other = second::fracture(corners, asked, &mut own);
+    let other = second::fracture(corners, lengths, asked, &mut own);
     let filled = same_list(list, &own, row, told.shots) & same_costs(table, &own);
     same_answer(told, other) & as_document(row, told) & (filled | (told.number != 0))
 }
 
-// Fractures an outline by the library, and compares.
-fn compare(corners: &[u16], asked: Asked, row: usize) -> Compared {
+// Fractures a figure by the library, and compares.
+fn compare(corners: &[u16], lengths: &[u16], asked: Asked, row: usize) -> Compared {
     let mut table = [0u32; 14400];
     let mut list = [0u16; 900];
     let entries = asked.entries % 14401;
@@ -109,12 +112,13 @@ fn compare(corners: &[u16], asked: Asked, row: usize) -> Compared {
     let weight = (asked.weight % 65536) as u32;
     let told = answered(fracture::fracture(
         corners,
+        lengths,
         threshold,
         weight,
         &mut table[..entries],
         &mut list[..room],
     ));
-    let same = agrees(corners, asked, row, told, &table, &list);
+    let same = agrees(corners, lengths, asked, row, told, &table, &list);
     Compared { told, same }
 }
 
@@ -130,7 +134,13 @@ fn form(i: usize) -> u8 {
         16 by 16 lines: # outlines, # fractured, # shots, # different\n\
         combs: # outlines, # fractured, # shots, # different\n\
         staircases: # outlines, # fractured, # shots, # different\n\
-        spoilt walks: # outlines, # fractured, # shots, # different\n";
+        spoilt walks: # outlines, # fractured, # shots, # different\n\
+        windows: # outlines, # fractured, # shots, # different\n\
+        nested rings: # outlines, # fractured, # shots, # different\n\
+        touching rings: # outlines, # fractured, # shots, # different\n\
+        crossing rings: # outlines, # fractured, # shots, # different\n\
+        repeated rings: # outlines, # fractured, # shots, # different\n\
+        spoilt rings: # outlines, # fractured, # shots, # different\n";
     if i < forms.len() { forms[i] } else { 0 }
 }
 
@@ -148,7 +158,7 @@ fn print_byte(byte: u8, number: usize) -> usize {
 fn print(line: usize, numbers: [usize; 7]) {
     let mut here: usize = 0;
     let mut next: usize = 0;
-    for i in 0..600 {
+    for i in 0..1000 {
         let byte = form(i);
         if here == line {
             next = sum(next, print_byte(byte, numbers[next % 7]));
@@ -157,19 +167,19 @@ fn print(line: usize, numbers: [usize; 7]) {
     }
 }
 
-// ---- outlines of all sorts
+// ---- figures of all sorts
 
-// Runs an outline, and prints what came of it if it is a row.
+// Runs a figure, and prints what came of it if it is a row.
 fn run(sort: usize, k: usize) -> Compared {
     let mut corners = [0u16; 128];
+    let mut lengths = [0u16; 9];
     let count = drawings::draw(&mut corners, sort, k) % 129;
+    let rings = drawings::share(&mut lengths, sort, k, count) % 10;
     let asked = drawings::asked(sort, k);
-    let compared = compare(
-        &corners[..count],
-        asked,
-        pick(sort == 0, k, document::COUNT),
-    );
-    if sort == 0 {
+    let is_row = drawings::is_row(sort);
+    let row = pick(is_row, k, document::COUNT);
+    let compared = compare(&corners[..count], &lengths[..rings], asked, row);
+    if is_row {
         let told = compared.told;
         let numbers = [
             k,
@@ -185,27 +195,26 @@ fn run(sort: usize, k: usize) -> Compared {
     compared
 }
 
-// Runs the outlines of a sort, and prints what came of them.
-fn report(sort: usize, count: usize) {
+// Runs the figures of a sort, and prints what came of them.
+fn report(sort: usize) {
+    let first = drawings::first(sort);
+    let past = drawings::past(sort);
     let mut fractured: usize = 0;
     let mut shots: usize = 0;
     let mut different: usize = 0;
-    for k in 0..count {
+    for k in first..past {
         let compared = run(sort, k);
         let told = compared.told;
         fractured = sum(fractured, (told.number == 0) as usize);
         shots = sum(shots, told.shots);
         different = sum(different, !compared.same as usize);
     }
+    let count = gap(first, past);
     print(sum(sort, 2), [count, fractured, shots, different, 0, 0, 0]);
 }
 
 fn main() {
-    report(0, document::COUNT);
-    report(1, 60);
-    report(2, 60);
-    report(3, 60);
-    report(4, 60);
-    report(5, 60);
-    report(6, 60);
+    for sort in 0..13 {
+        report(sort);
+    }
 }

@@ -1,5 +1,6 @@
 // The newcomers' walk over drawing B, in numbers: its lines and cells, its shots, every piece with its entry and cost, and the
-// cuts of the frame as they are weighed; then two squares that touch. docs/WALK.md tells the walk; each number in it is printed here.
+// cuts of the frame as they are weighed; then two squares that touch, and a frame with a window. docs/WALK.md tells the walk; each
+// number in it is printed here.
 use fracture::Fractured;
 ghost use Prim.Native.Nat.{_≤_};
 
@@ -25,6 +26,33 @@ const B: [u16; 16] = [
 
 // Two squares of document 01 that touch in a corner, drawn as one outline.
 const TOUCHING: [u16; 12] = [0, 0, 10, 0, 10, 20, 20, 20, 20, 10, 0, 10];
+
+// The one ring of B has 8 corners, that of the two squares 6.
+const B_RINGS: [u16; 1] = [8];
+
+const TOUCHING_RINGS: [u16; 1] = [6];
+
+// A frame of 100 by 100 with a window of 40 by 40 in its middle: two rings of 4 corners.
+const FRAME: [u16; 16] = [
+    0,
+    0,
+    100,
+    0,
+    100,
+    100,
+    0,
+    100,
+    30,
+    30,
+    70,
+    30,
+    70,
+    70,
+    30,
+    70,
+];
+
+const FRAME_RINGS: [u16; 2] = [4, 4];
 
 fn text(words: &[u8]) {
     io::write_all(1, words);
@@ -106,15 +134,16 @@ fn rows(cells: &[u8], columns: usize, count: usize) {
     }
 }
 
-// The lines and cells of B.
-fn grid() {
-    let corners = B;
+// The rings, lines and cells of a drawing of 8 corners.
+fn grid(corners: &[u16], lengths: &[u16]) {
     text(b"corners");
-    numbers(&corners, 16);
+    numbers(corners, 16);
+    text(b"corners of each ring");
+    numbers(lengths, 2);
     let mut xs = [0u16; 16];
     let mut ys = [0u16; 16];
     let mut cells = [0u8; 256];
-    let drawing = outline::draw(&corners, &mut xs, &mut ys, &mut cells);
+    let drawing = outline::draw(corners, lengths, &mut xs, &mut ys, &mut cells);
     if drawing.columns < 16 {
         text(b"x lines");
         numbers(&xs, drawing.columns + 1);
@@ -148,11 +177,18 @@ fn shots(list: &[u16], count: u32) {
 }
 
 // Fractures a drawing by a rule, and prints what the call answers.
-fn answer(corners: &[u16], threshold: u32, weight: u32, table: &mut [u32], list: &mut [u16]) {
+fn answer(
+    corners: &[u16],
+    lengths: &[u16],
+    threshold: u32,
+    weight: u32,
+    table: &mut [u32],
+    list: &mut [u16],
+) {
     text(b"rule");
     spaced(threshold as u64);
     spaced(weight as u64);
-    match fracture::fracture(corners, threshold, weight, table, list) {
+    match fracture::fracture(corners, lengths, threshold, weight, table, list) {
         Fractured::Done {
             shots: count,
             cost,
@@ -233,18 +269,45 @@ fn cuts(table: &[u32]) {
     cut(b"cut of the frame at y line 2:", table, 7, 11);
 }
 
+// Those of the frame with a window, which has 4 by 4 lines.
+fn window_cuts(table: &[u32]) {
+    cut(b"cut of the frame at x line 1:", table, 2, 26);
+    cut(b"cut of the frame at x line 2:", table, 8, 32);
+    cut(b"cut of the frame at y line 1:", table, 12, 16);
+    cut(b"cut of the frame at y line 2:", table, 13, 17);
+}
+
+// The block, by three rules.
+fn block(table: &mut [u32], list: &mut [u16]) {
+    let corners = B;
+    let lengths = B_RINGS;
+    grid(&corners, &lengths);
+    answer(&corners, &lengths, 25, 40, table, list);
+    pieces(table);
+    cuts(table);
+    answer(&corners, &lengths, 25, 10, table, list);
+    cuts(table);
+    answer(&corners, &lengths, 25, 9, table, list);
+    cuts(table);
+}
+
+// The frame with a window, by two rules.
+fn window(table: &mut [u32], list: &mut [u16]) {
+    let corners = FRAME;
+    let lengths = FRAME_RINGS;
+    grid(&corners, &lengths);
+    answer(&corners, &lengths, 25, 40, table, list);
+    window_cuts(table);
+    answer(&corners, &lengths, 40, 40, table, list);
+    window_cuts(table);
+}
+
 fn main() {
-    let mut table = [0u32; 18];
+    let mut table = [0u32; 36];
     let mut list = [0u16; 24];
-    let block = B;
     let squares = TOUCHING;
-    grid();
-    answer(&block, 25, 40, &mut table, &mut list);
-    pieces(&table);
-    cuts(&table);
-    answer(&block, 25, 10, &mut table, &mut list);
-    cuts(&table);
-    answer(&block, 25, 9, &mut table, &mut list);
-    cuts(&table);
-    answer(&squares, 0, 40, &mut table, &mut list);
+    let ring = TOUCHING_RINGS;
+    block(&mut table, &mut list);
+    answer(&squares, &ring, 0, 40, &mut table, &mut list);
+    window(&mut table, &mut list);
 }

@@ -3,82 +3,99 @@
 //!     bench [--rounds N]
 //!
 //! The library and the two C++ baselines (see baseline/baseline.cpp: by rows, and by heights) take
-//! turns, round by round, on the same outlines and in the same buffers; the best round of each counts. Table (14,400 entries) and list (900 numbers) are lent whole and
-//! not cleared between calls: each call finds what the last one left. Every call is whole: checks,
-//! grid, fill, emission.
+//! turns, round by round, on the same drawings and in the same buffers; the best round of each counts.
+//! Table (14,400 entries) and list (900 numbers) are lent whole and not cleared between calls: each
+//! call finds what the last one left. Every call is whole: checks, grid, fill, emission.
 
-use drawings::document::{B, JOB, L};
-use drawings::outlines;
+use drawings::document::{B, FRAMED, FRAMED_JOB, JOB, L};
 use drawings::seeded::Seeded;
+use drawings::{figures, outlines};
 use law::bytes::{header, written_outline};
-use law::{Calls, Law, Told};
+use law::{Calls, Drawing, Law, Told};
 use std::hint::black_box;
 use std::time::Instant;
 
-type Fracture<'a> = &'a dyn Fn(&[u16], &mut [u32], &mut [u16]) -> Told;
+type Fracture<'a> = &'a dyn Fn(&Drawing, &mut [u32], &mut [u16]) -> Told;
 
-/// A line of the table: its name and its outlines.
+/// A line of the table: its name and its drawings.
 struct Line {
     name: &'static str,
-    outlines: Vec<Vec<u16>>,
+    drawings: Vec<Drawing>,
 }
 
 /// 32 corners, 16 lines each way.
-fn staircase() -> Vec<u16> {
+fn staircase() -> Drawing {
     let mut corners = vec![0, 0];
     for step in 0..15u16 {
         corners.extend([(15 - step) * 30, step * 40, (15 - step) * 30, (step + 1) * 40]);
     }
     corners.extend([0, 600]);
-    corners
+    Drawing::outline(&corners)
 }
 
 /// Of many crossing walks over 16 by 16 lines the one with most mixed pieces.
-fn worst() -> Vec<u16> {
-    let mixed = |corners: &Vec<u16>| {
-        let figure = law::figure::figure(corners).unwrap();
+fn worst() -> Drawing {
+    let mixed = |drawing: &Drawing| {
+        let figure = law::figure::figure(drawing).unwrap();
         let fracture = law::cutting::Fracture::new(&figure, 25, 40);
         fracture.pieces().into_iter().filter(|&p| fracture.kind(p) == law::cutting::Kind::Mixed).count()
     };
     let made = (0..300).map(|seed| {
         let mut s = Seeded::new(seed);
         let shape = outlines::SORTS[8].1(&mut s);
-        shape.iter().flat_map(|&(x, y)| [x as u16 * 20 + 5, y as u16 * 30 + 5]).collect::<Vec<u16>>()
+        let corners: Vec<u16> = shape.iter().flat_map(|&(x, y)| [x as u16 * 20 + 5, y as u16 * 30 + 5]).collect();
+        Drawing::outline(&corners)
     });
     made.max_by_key(mixed).unwrap()
 }
 
-/// Layout-like outlines: what a mask has, mostly rectangles, Ls, skylines, combs, bumped rectangles.
-fn layout() -> Vec<Vec<u16>> {
-    let mut s = Seeded::new(200);
+/// The first 200 drawings that can be fractured.
+fn two_hundred(mut next: impl FnMut() -> Drawing) -> Vec<Drawing> {
     let mut list = Vec::new();
     while list.len() < 200 {
-        let sort = s.pick(&[0, 0, 0, 1, 1, 2, 2, 3, 4, 5]);
-        let corners = outlines::of_sort(&mut s, sort);
-        if Law.fracture(&corners, 25, 40, &mut vec![0; 14_400], &mut vec![0; 900]).number == 0 {
-            list.push(corners);
+        let drawing = next();
+        if Law.fracture(&drawing, 25, 40, &mut vec![0; 14_400], &mut vec![0; 900]).number == 0 {
+            list.push(drawing);
         }
     }
     list
 }
 
-/// ns per outline of one round: all outlines of a line, over and over.
-fn round(outlines: &[Vec<u16>], fracture: Fracture, table: &mut [u32], list: &mut [u16], turns: usize) -> f64 {
+/// Layout-like outlines: what a mask has, mostly rectangles, Ls, skylines, combs, bumped rectangles.
+fn layout() -> Vec<Drawing> {
+    let mut s = Seeded::new(200);
+    two_hundred(|| {
+        let sort = s.pick(&[0, 0, 0, 1, 1, 2, 2, 3, 4, 5]);
+        outlines::of_sort(&mut s, sort)
+    })
+}
+
+/// Layout-like figures with windows: frames, blocks and Ls with openings, rings in rings.
+fn layout_with_windows() -> Vec<Drawing> {
+    let mut s = Seeded::new(201);
+    two_hundred(|| {
+        let sort = s.pick(&[figures::LAYOUT_LIKE, figures::LAYOUT_LIKE, figures::LAYOUT_LIKE, 0, 1]);
+        figures::of_sort(&mut s, sort)
+    })
+}
+
+/// ns per drawing of one round: all drawings of a line, over and over.
+fn round(drawings: &[Drawing], fracture: Fracture, table: &mut [u32], list: &mut [u16], turns: usize) -> f64 {
     let start = Instant::now();
     for _ in 0..turns {
-        for corners in outlines {
-            let told = fracture(black_box(corners), table, list);
+        for drawing in drawings {
+            let told = fracture(black_box(drawing), table, list);
             assert!(black_box(told).number == 0);
         }
     }
-    start.elapsed().as_secs_f64() * 1e9 / (turns * outlines.len()) as f64
+    start.elapsed().as_secs_f64() * 1e9 / (turns * drawings.len()) as f64
 }
 
 /// So many turns that a round takes some ten milliseconds.
-fn turns(outlines: &[Vec<u16>], fracture: Fracture, table: &mut [u32], list: &mut [u16]) -> usize {
+fn turns(drawings: &[Drawing], fracture: Fracture, table: &mut [u32], list: &mut [u16]) -> usize {
     let mut turns = 1;
     loop {
-        let took = round(outlines, fracture, table, list, turns) * (turns * outlines.len()) as f64;
+        let took = round(drawings, fracture, table, list, turns) * (turns * drawings.len()) as f64;
         if took > 5e6 {
             return (turns as f64 * 1e7 / took).ceil() as usize;
         }
@@ -90,8 +107,8 @@ fn turns(outlines: &[Vec<u16>], fracture: Fracture, table: &mut [u32], list: &mu
 fn job() -> Vec<u8> {
     let mut body = Vec::new();
     let mut count = 0;
-    for corners in layout().iter().take(40) {
-        let part = written_outline(corners);
+    for drawing in layout().iter().take(40) {
+        let part = written_outline(drawing);
         if body.len() + part.len() <= 4000 {
             body.extend(part);
             count += 1;
@@ -101,12 +118,12 @@ fn job() -> Vec<u8> {
 }
 
 /// Reads a job: checks it, takes each outline, unpacks it. Gives a number that depends on all of it.
-fn read(calls: &dyn Calls, job: &[u8], list: &mut [u16]) -> u64 {
+fn read(calls: &dyn Calls, job: &[u8], list: &mut [u16], rings: &mut [u16]) -> u64 {
     let told = calls.job_check(job);
     let mut sum = told.numbers[0];
     for k in 0..told.numbers[2] as usize {
         let part = calls.job_outline(job, k).numbers;
-        sum += calls.unpack(&job[part[0] as usize..(part[0] + part[1]) as usize], list).numbers[0];
+        sum += calls.unpack(&job[part[0] as usize..(part[0] + part[1]) as usize], list, rings).numbers[0];
     }
     sum
 }
@@ -136,19 +153,21 @@ fn main() {
         _ => 40,
     };
     let lines = [
-        Line { name: "L, 3 by 3 lines", outlines: vec![L.to_vec()] },
-        Line { name: "B, 3 by 4 lines", outlines: vec![B.to_vec()] },
-        Line { name: "staircase, 32 corners", outlines: vec![staircase()] },
-        Line { name: "16 by 16 lines, most pieces mixed", outlines: vec![worst()] },
-        Line { name: "200 layout-like outlines", outlines: layout() },
+        Line { name: "L, 3 by 3 lines", drawings: vec![Drawing::outline(&L)] },
+        Line { name: "B, 3 by 4 lines", drawings: vec![Drawing::outline(&B)] },
+        Line { name: "staircase, 32 corners", drawings: vec![staircase()] },
+        Line { name: "16 by 16 lines, most pieces mixed", drawings: vec![worst()] },
+        Line { name: "200 layout-like outlines", drawings: layout() },
+        Line { name: "frame with a window", drawings: vec![Drawing { corners: FRAMED.to_vec(), rings: vec![4, 4] }] },
+        Line { name: "200 layout-like figures with windows", drawings: layout_with_windows() },
     ];
     let library = lent::library();
-    let ours: Fracture = &|corners, table, list| match library {
-        Some(library) => library.fracture(corners, 25, 40, table, list),
-        None => Law.fracture(corners, 25, 40, table, list),
+    let ours: Fracture = &|drawing, table, list| match library {
+        Some(library) => library.fracture(drawing, 25, 40, table, list),
+        None => Law.fracture(drawing, 25, 40, table, list),
     };
-    let heights: Fracture = &|corners, table, list| lent::baseline(corners, 25, 40, table, list);
-    let rows: Fracture = &|corners, table, list| lent::baseline_rows(corners, 25, 40, table, list);
+    let heights: Fracture = &|drawing, table, list| lent::baseline(drawing, 25, 40, table, list);
+    let rows: Fracture = &|drawing, table, list| lent::baseline_rows(drawing, 25, 40, table, list);
     let who = if library.is_some() { "library" } else { "plain Rust" };
     println!("ns per fracture, whole call, rule 25, 40; best of {rounds} rounds in turn; buffers not cleared between calls");
     println!("machine: {}, load before {}", std::env::consts::ARCH, load());
@@ -156,30 +175,32 @@ fn main() {
     let (mut table, mut list) = (vec![0u32; 14_400], vec![0u16; 900]);
     for line in &lines {
         let all = [ours, rows, heights];
-        let turns = all.map(|fracture| turns(&line.outlines, fracture, &mut table, &mut list));
+        let turns = all.map(|fracture| turns(&line.drawings, fracture, &mut table, &mut list));
         let mut best = [f64::MAX; 3];
         for _ in 0..rounds {
             for which in 0..3 {
-                let took = round(&line.outlines, all[which], &mut table, &mut list, turns[which]);
+                let took = round(&line.drawings, all[which], &mut table, &mut list, turns[which]);
                 best[which] = best[which].min(took);
             }
         }
         let [ours, rows, heights] = best;
         println!("| {} | {ours:.0} | {rows:.0} | {heights:.0} | {:.2} | {:.2} |", line.name, ours / rows, ours / heights);
     }
-    let job = job();
     let calls: &dyn Calls = match library {
         Some(library) => library,
         None => &Law,
     };
     println!("\n| Job, by the {who} | bytes | outlines | ns |\n|---|---:|---:|---:|");
-    for (name, job) in [("worked example", &JOB.to_vec()), ("layout-like outlines", &job)] {
+    let mut rings = [0; 8];
+    let jobs =
+        [("worked example", JOB.to_vec()), ("layout-like outlines", job()), ("frame with a window", FRAMED_JOB.to_vec())];
+    for (name, job) in &jobs {
         let count = Law.job_check(job).numbers[2];
         let checked = best(rounds, || {
             black_box(calls.job_check(black_box(job)));
         });
         let read = best(rounds, || {
-            black_box(read(calls, black_box(job), &mut list));
+            black_box(read(calls, black_box(job), &mut list, &mut rings));
         });
         println!("| {name}: checked | {} | {count} | {checked:.0} |", job.len());
         println!("| {name}: checked, and every outline taken and unpacked | {} | {count} | {read:.0} |", job.len());

@@ -1,24 +1,25 @@
-//! Fractures compared: document 01's rows, buffers of every length, every cutting of small grids,
-//! and many seeded outlines in buffers full of what the last drawing left.
+//! Fractures compared: the documents' rows, buffers of every length, ring lengths of every value, rings
+//! in every order, every cutting of small grids, and many seeded drawings, of one ring and of several,
+//! in buffers full of what the last one left.
 
 use crate::progress::Progress;
 use crate::room::Room;
 use crate::Plan;
-use drawings::document::{NUMBERS, ROWS};
-use drawings::outlines;
+use drawings::document::{EIGHT, FRAMED, NUMBERS, RINGS, ROWS};
 use drawings::seeded::Seeded;
+use drawings::{figures, outlines};
 use law::cutting::Fracture;
 use law::every::prices;
 use law::figure::figure;
 use law::nano::Squares;
-use law::{Calls, Law, Told};
+use law::{Calls, Drawing, Law, Told};
 use std::collections::HashMap;
 use std::sync::atomic::{AtomicUsize, Ordering};
 use std::sync::Mutex;
 
-/// One fracture to compare: the outline, the rule (none: the default), what is lent.
+/// One fracture to compare: the drawing, the rule (none: the default), what is lent.
 pub struct Case<'a> {
-    pub corners: &'a [u16],
+    pub drawing: &'a Drawing,
     pub rule: Option<(u32, u32)>,
     pub table: &'a [u32],
     pub list: &'a [u16],
@@ -27,8 +28,8 @@ pub struct Case<'a> {
 impl Case<'_> {
     fn by(&self, calls: &dyn Calls, table: &mut [u32], list: &mut [u16]) -> Told {
         match self.rule {
-            Some((threshold, weight)) => calls.fracture(self.corners, threshold, weight, table, list),
-            None => calls.fracture_default(self.corners, table, list),
+            Some((threshold, weight)) => calls.fracture(self.drawing, threshold, weight, table, list),
+            None => calls.fracture_default(self.drawing, table, list),
         }
     }
 
@@ -37,7 +38,7 @@ impl Case<'_> {
         let (mut table, mut list) = (Room::new(self.table), Room::new(self.list));
         let right = self.by(&Law, table.lent(), list.lent());
         let check = |who: &str, told: Told, its_table: Room<u32>, its_list: Room<u16>| {
-            let said = || format!("{who}: {}\n  corners {:?}\n  rule {:?}, table {}, list {}", from(), self.corners, self.rule, self.table.len(), self.list.len());
+            let said = || format!("{who}: {}\n  {:?}\n  rule {:?}, table {}, list {}", from(), self.drawing, self.rule, self.table.len(), self.list.len());
             assert!(told == right, "{}\n  answers {told:?} and not {right:?}", said());
             if let Some((at, right, wrong)) = table.differs(&its_table) {
                 panic!("{}\n  table at {at}: {wrong} and not {right}", said());
@@ -54,27 +55,28 @@ impl Case<'_> {
         }
         let (threshold, weight) = self.rule.unwrap_or(law::call::PRESETS[0]);
         let (mut its_table, mut its_list) = (Room::new(self.table), Room::new(self.list));
-        let told = lent::baseline(self.corners, threshold, weight, its_table.lent(), its_list.lent());
+        let told = lent::baseline(self.drawing, threshold, weight, its_table.lent(), its_list.lent());
         check("the baseline by heights", told, its_table, its_list);
         let (mut its_table, mut its_list) = (Room::new(self.table), Room::new(self.list));
-        let told = lent::baseline_rows(self.corners, threshold, weight, its_table.lent(), its_list.lent());
+        let told = lent::baseline_rows(self.drawing, threshold, weight, its_table.lent(), its_list.lent());
         check("the baseline by rows", told, its_table, its_list);
         (right, table, list)
     }
 }
 
-/// Document 01's table of drawings: the law against the document, then the others against the law.
+/// The documents' drawings: the law against the documents, then the others against the law.
 pub fn rows(plan: &Plan, progress: &Progress) {
-    for row in &ROWS {
+    for row in ROWS.iter().chain(&RINGS) {
+        let drawing = row.drawing();
         let (table, list) = (vec![7; row.room.0], vec![9; row.room.1]);
-        let case = Case { corners: row.corners, rule: Some(row.rule), table: &table, list: &list };
-        let (told, _, list) = case.compare(plan, progress, &|| format!("document 01, {}", row.name));
+        let case = Case { drawing: &drawing, rule: Some(row.rule), table: &table, list: &list };
+        let (told, _, list) = case.compare(plan, progress, &|| format!("the documents' row: {}", row.name));
         let [shots, cost, sliver, _] = told.numbers;
-        assert_eq!((told.number, [shots, cost, sliver]), row.outcome, "document 01, {}", row.name);
-        assert_eq!(&list.held()[..row.list.len()], row.list, "document 01, {}", row.name);
+        assert_eq!((told.number, [shots, cost, sliver]), row.outcome, "the documents' row: {}", row.name);
+        assert_eq!(&list.held()[..row.list.len()], row.list, "the documents' row: {}", row.name);
         if row.rule == law::call::PRESETS[0] {
-            let case = Case { corners: row.corners, rule: None, table: &table, list: list.held() };
-            case.compare(plan, progress, &|| format!("document 01, {}, no rule named", row.name));
+            let case = Case { drawing: &drawing, rule: None, table: &table, list: list.held() };
+            case.compare(plan, progress, &|| format!("the documents' row: {}, no rule named", row.name));
         }
     }
     for (bytes, number) in NUMBERS {
@@ -85,7 +87,7 @@ pub fn rows(plan: &Plan, progress: &Progress) {
             progress.same();
         }
     }
-    progress.done(format!("document 01: {} rows", ROWS.len() + NUMBERS.len()));
+    progress.done(format!("document 01: {} rows; rings: {} rows", ROWS.len() + NUMBERS.len(), RINGS.len()));
 }
 
 pub fn presets(plan: &Plan, progress: &Progress) {
@@ -104,30 +106,123 @@ pub fn presets(plan: &Plan, progress: &Progress) {
     progress.done(format!("presets: {} numbers", asked.len()));
 }
 
-/// Small outlines with tables and lists of every length up to a few more than enough.
+/// A drawing of the outlines' sorts and the figures' sorts, told in one row of numbers.
+fn of_sort(s: &mut Seeded, sort: usize) -> Drawing {
+    match sort.checked_sub(outlines::SORTS.len()) {
+        None => outlines::of_sort(s, sort),
+        Some(sort) => figures::of_sort(s, sort),
+    }
+}
+
+const SORTS: usize = outlines::SORTS.len() + figures::SORTS.len();
+
+/// Ring lengths of every value of 16 bits beside the right ones, the length of the list staying or
+/// following, and rings of every count: what reckons lengths in too few bits, or adds them up to a
+/// number that wraps, takes one of these.
+pub fn every_ring_length(plan: &Plan, progress: &Progress) {
+    let (table, list) = (vec![7; 14_400], vec![9; 900]);
+    let mut refused = [0; 16];
+    let mut ask = |corners: &[u16], rings: &[u16]| {
+        let drawing = Drawing { corners: corners.to_vec(), rings: rings.to_vec() };
+        let case = Case { drawing: &drawing, rule: Some((25, 40)), table: &table[..700], list: &list[..64] };
+        refused[case.compare(plan, progress, &|| "ring lengths".into()).0.number as usize] += 1;
+    };
+    for length in 0..=u16::MAX {
+        // most values in one place only; those around a limit in each
+        ask(&FRAMED, &[4, length]);
+        let near = |limit: u16| length.abs_diff(limit) <= 36;
+        if near(0) || near(1 << 8) || near(1 << 15) || near(u16::MAX) {
+            ask(&FRAMED, &[length, 4]);
+            ask(&FRAMED, &[length, 8u16.wrapping_sub(length)]);
+            ask(&FRAMED, &[length, 4, 4u16.wrapping_sub(length)]);
+            ask(&FRAMED, &[length]);
+            ask(&EIGHT[..2 * (length as usize).min(32)], &[length]);
+        }
+    }
+    for count in 0..=20 {
+        for length in 0..=9 {
+            ask(&EIGHT, &vec![length; count]);
+            ask(&EIGHT[..(2 * count * length as usize).min(64)], &vec![length; count]);
+        }
+    }
+    for numbers in 0..=64 {
+        ask(&EIGHT[..numbers], &[4; 8]);
+        ask(&EIGHT[..numbers], &vec![4; numbers / 8]);
+        ask(&EIGHT[..numbers], &[(numbers / 2) as u16]);
+    }
+    assert!(refused[0] > 10 && refused[2] > 60_000 && refused[3] > 10, "{refused:?}");
+    let asked: usize = refused.iter().sum();
+    progress.done(format!("ring lengths of every value: {asked} fractures, {} refused by 2", refused[2]));
+}
+
+/// Every order of some rings; of more than four only those that begin elsewhere, forwards and backwards.
+fn orders(rings: &[Vec<u16>]) -> Vec<Vec<Vec<u16>>> {
+    if rings.len() > 4 {
+        let turned = |list: &[Vec<u16>]| -> Vec<Vec<Vec<u16>>> {
+            (0..list.len()).map(|first| [&list[first..], &list[..first]].concat()).collect()
+        };
+        let backwards: Vec<Vec<u16>> = rings.iter().rev().cloned().collect();
+        return [turned(rings), turned(&backwards)].concat();
+    }
+    let mut all = vec![Vec::new()];
+    for ring in rings {
+        // the next ring at every place among those before it
+        let longer = |order: &Vec<Vec<u16>>| -> Vec<Vec<Vec<u16>>> {
+            (0..=order.len()).map(|at| [&order[..at], &[ring.clone()], &order[at..]].concat()).collect()
+        };
+        all = all.iter().flat_map(longer).collect();
+    }
+    all
+}
+
+/// The rings of a figure in every order: always the same answer, table and list.
+pub fn every_order(plan: &Plan, progress: &Progress) {
+    let mut count = 0;
+    for seed in 0..300 {
+        let mut s = Seeded::new(plan.seed << 32 | 0x04d4 << 16 | seed);
+        let drawing = figures::of_sort(&mut s, seed as usize % figures::SORTS.len());
+        let rule = outlines::rule(&mut s, &drawing);
+        let Ok(drawn) = figure(&drawing) else { panic!("every order, seed {seed}: {drawing:?} is not sound") };
+        let (table, list) = (vec![7; drawn.pieces()], vec![9; 900]);
+        let rings: Vec<Vec<u16>> = drawing.apart().unwrap().iter().map(|ring| ring.to_vec()).collect();
+        let from = || format!("every order, seed {seed}");
+        let first = Case { drawing: &drawing, rule: Some(rule), table: &table, list: &list };
+        let (right, right_table, right_list) = first.compare(plan, progress, &from);
+        for order in orders(&rings) {
+            let drawing = Drawing::of(&order);
+            let case = Case { drawing: &drawing, rule: Some(rule), table: &table, list: &list };
+            let (told, its_table, its_list) = case.compare(plan, progress, &from);
+            assert_eq!(told, right, "{} {drawing:?}", from());
+            assert!(right_table.differs(&its_table).is_none() && right_list.differs(&its_list).is_none(), "{}", from());
+            count += 1;
+        }
+    }
+    progress.done(format!("rings in every order: {count} fractures"));
+}
+
+/// Small drawings with tables and lists of every length up to a few more than enough.
 pub fn every_length(plan: &Plan, progress: &Progress) {
     let mut count = 0;
-    for seed in 0..240 {
+    for seed in 0..260 {
         let mut s = Seeded::new(plan.seed << 32 | 0x1e46 << 16 | seed);
-        let sort = seed as usize % outlines::SORTS.len();
-        let corners = outlines::of_sort(&mut s, sort);
-        let pieces = match figure(&corners) {
+        let drawing = of_sort(&mut s, seed as usize % SORTS);
+        let pieces = match figure(&drawing) {
             Ok(figure) if figure.pieces() <= 700 => figure.pieces(),
             _ => continue,
         };
-        let rule = outlines::rule(&mut s, &corners);
+        let rule = outlines::rule(&mut s, &drawing);
         let marks: Vec<u32> = (0..pieces + 3).map(|_| s.any() as u32).collect();
         let places: Vec<u16> = (0..905).map(|_| s.any() as u16).collect();
         let from = || format!("every length, seed {seed}");
-        let ample = Case { corners: &corners, rule: Some(rule), table: &marks, list: &places };
+        let ample = Case { drawing: &drawing, rule: Some(rule), table: &marks, list: &places };
         let shots = ample.compare(plan, progress, &from).0.numbers[0] as usize;
         for length in 0..=pieces + 3 {
-            let case = Case { corners: &corners, rule: Some(rule), table: &marks[..length], list: &places };
+            let case = Case { drawing: &drawing, rule: Some(rule), table: &marks[..length], list: &places };
             case.compare(plan, progress, &from);
             count += 1;
         }
         for length in 0..=4 * shots + 5 {
-            let case = Case { corners: &corners, rule: Some(rule), table: &marks, list: &places[..length] };
+            let case = Case { drawing: &drawing, rule: Some(rule), table: &marks, list: &places[..length] };
             case.compare(plan, progress, &from);
             count += 1;
         }
@@ -138,21 +233,27 @@ pub fn every_length(plan: &Plan, progress: &Progress) {
 /// Every cutting of small grids: none is cheaper than what the table says of its piece, and one
 /// costs as much.
 pub fn every_cutting(plan: &Plan, progress: &Progress) {
-    let (mut grids, mut cuttings) = (0, 0);
+    let (mut grids, mut ringed, mut cuttings) = (0, 0, 0);
     for seed in 0..1500u64 {
         let mut s = Seeded::new(plan.seed << 32 | 0xc077 << 16 | seed);
-        let sort = s.pick(&[0, 0, 1, 2, 6, 7, 7, 9]);
-        let corners = outlines::of_sort(&mut s, sort);
-        let Ok(figure) = figure(&corners) else { continue };
+        // outlines and figures of few lines
+        let drawing = if s.once_in(2) {
+            let sort = s.pick(&[0, 0, 1, 2, 6, 7, 7, 9]);
+            outlines::of_sort(&mut s, sort)
+        } else {
+            let sort = s.pick(&[0, 0, 1, 2, 2, 3, 3, 4, 5, 6, 9]);
+            figures::of_sort(&mut s, sort)
+        };
+        let Ok(figure) = figure(&drawing) else { continue };
         let (columns, rows) = (figure.xs.len() - 1, figure.ys.len() - 1);
         // 4 by 4 cells have over two million cuttings: a few of those
         if figure.empty() || columns.max(rows) > 4 || columns * rows > 12 && seed % 50 > 0 {
             continue;
         }
-        let (threshold, weight) = outlines::rule(&mut s, &corners);
+        let (threshold, weight) = outlines::rule(&mut s, &drawing);
         let (threshold, weight) = (threshold.min(1000), weight.min(1000));
         let table = vec![0; figure.pieces()];
-        let case = Case { corners: &corners, rule: Some((threshold, weight)), table: &table, list: &[0; 900] };
+        let case = Case { drawing: &drawing, rule: Some((threshold, weight)), table: &table, list: &[0; 900] };
         let (_, table, _) = case.compare(plan, progress, &|| format!("every cutting, seed {seed}"));
         let fracture = Fracture::new(&figure, threshold, weight);
         let mut known = HashMap::new();
@@ -160,19 +261,23 @@ pub fn every_cutting(plan: &Plan, progress: &Progress) {
             let all = prices(&fracture, piece, &mut known);
             cuttings += all.len();
             let least = *all.iter().min().unwrap();
-            assert_eq!(least, table.held()[entry] as u64, "every cutting, seed {seed}, {corners:?}, {piece:?}");
+            assert_eq!(least, table.held()[entry] as u64, "every cutting, seed {seed}, {drawing:?}, {piece:?}");
         }
         grids += 1;
+        ringed += (drawing.rings.len() > 1) as usize;
         progress.at("every cutting", seed as usize, 1500);
     }
-    progress.done(format!("every cutting of {grids} small grids: {cuttings} cuttings, none cheaper"));
+    assert!(ringed > 100, "only {ringed} small grids of several rings");
+    progress.done(format!(
+        "every cutting of {grids} small grids ({ringed} of several rings): {cuttings} cuttings, none cheaper"
+    ));
 }
 
 /// The shots against the raw corners, unit square by unit square: each inside square lies in exactly
 /// one shot, each other in none; cost and sliver are reckoned anew from the list.
-fn covers(corners: &[u16], rule: (u32, u32), told: Told, list: &[u16]) {
-    let squares = Squares::new(corners);
-    let top = *corners.iter().max().unwrap() as i32;
+fn covers(drawing: &Drawing, rule: (u32, u32), told: Told, list: &[u16]) {
+    let squares = Squares::new(drawing);
+    let top = *drawing.corners.iter().max().unwrap() as i32;
     let shots: Vec<&[u16]> = list.chunks(4).take(told.numbers[0] as usize).collect();
     for x in 0..=top {
         for y in 0..=top {
@@ -180,7 +285,7 @@ fn covers(corners: &[u16], rule: (u32, u32), told: Told, list: &[u16]) {
                 .iter()
                 .filter(|s| s[0] as i32 <= x && x < s[2] as i32 && s[1] as i32 <= y && y < s[3] as i32)
                 .count();
-            assert_eq!(over, squares.filled(x, y) as usize, "cover at ({x}, {y}) of {corners:?}");
+            assert_eq!(over, squares.filled(x, y) as usize, "cover at ({x}, {y}) of {drawing:?}");
         }
     }
     let sliver: u64 = shots.iter().map(|s| squares.sliver([s[0], s[1], s[2], s[3]], rule.0) as u64).sum();
@@ -199,12 +304,11 @@ fn length(s: &mut Seeded, enough: usize, most: usize) -> usize {
     }
 }
 
-/// Many seeded outlines, sound and bad, each in the buffers that the last one left.
+/// Many seeded outlines and figures, sound and bad, each in the buffers that the last one left.
 pub fn outlines(plan: &Plan, progress: &Progress) {
     let next = AtomicUsize::new(0);
     let refused = Mutex::new([0usize; 16]);
-    let sorts = outlines::SORTS.len() + 3;
-    let (squares, shots) = (AtomicUsize::new(0), AtomicUsize::new(0));
+    let (squares, shots, ringed) = (AtomicUsize::new(0), AtomicUsize::new(0), AtomicUsize::new(0));
     std::thread::scope(|scope| {
         for _ in 0..plan.threads {
             scope.spawn(|| {
@@ -217,30 +321,32 @@ pub fn outlines(plan: &Plan, progress: &Progress) {
                     }
                     for seed in from..(from + 64).min(plan.outlines) {
                         let mut s = Seeded::new(plan.seed << 32 | 0x0071 << 24 | seed as u64);
-                        let sort = seed % sorts;
-                        let corners = if sort < outlines::SORTS.len() {
-                            outlines::of_sort(&mut s, sort)
-                        } else {
-                            outlines::bad(&mut s)
+                        let sort = seed % (SORTS + 7);
+                        let drawing = match sort.checked_sub(SORTS) {
+                            None => of_sort(&mut s, sort),
+                            Some(0..=2) => outlines::bad(&mut s),
+                            Some(_) => figures::bad(&mut s),
                         };
-                        let rule = outlines::rule(&mut s, &corners);
-                        let drawn = figure(&corners).ok();
+                        let rule = outlines::rule(&mut s, &drawing);
+                        let drawn = figure(&drawing).ok();
+                        assert!(drawn.is_some() || sort >= SORTS, "drawing, seed {seed}, sort {sort}: not sound");
                         let pieces = drawn.as_ref().map_or(100, |f| f.pieces());
                         let cells = drawn.as_ref().map_or(3, |f| (f.xs.len() - 1) * (f.ys.len() - 1));
                         let (entries, numbers) = (length(&mut s, pieces, 14_400), length(&mut s, cells, 900));
                         let default = s.once_in(8);
                         let case = Case {
-                            corners: &corners,
+                            drawing: &drawing,
                             rule: if default { None } else { Some(rule) },
                             table: &table[..entries],
                             list: &list[..numbers],
                         };
                         let (told, its_table, its_list) =
-                            case.compare(plan, progress, &|| format!("outline, seed {seed}, sort {sort}"));
+                            case.compare(plan, progress, &|| format!("drawing, seed {seed}, sort {sort}"));
                         tally[told.number as usize] += 1;
-                        if told.number == 0 && corners.iter().all(|&place| place < 200) {
+                        ringed.fetch_add((told.number == 0 && drawing.rings.len() > 1) as usize, Ordering::Relaxed);
+                        if told.number == 0 && drawing.corners.iter().all(|&place| place < 200) {
                             let rule = if default { law::call::PRESETS[0] } else { rule };
-                            covers(&corners, rule, told, its_list.held());
+                            covers(&drawing, rule, told, its_list.held());
                             squares.fetch_add(1, Ordering::Relaxed);
                         }
                         shots.fetch_add(told.numbers[0] as usize, Ordering::Relaxed);
@@ -248,7 +354,7 @@ pub fn outlines(plan: &Plan, progress: &Progress) {
                         table[..entries].copy_from_slice(its_table.held());
                         list[..numbers].copy_from_slice(its_list.held());
                     }
-                    progress.at("outlines", from, plan.outlines);
+                    progress.at("drawings", from, plan.outlines);
                 }
                 let mut all = refused.lock().unwrap();
                 all.iter_mut().zip(tally).for_each(|(sum, mine)| *sum += mine);
@@ -256,12 +362,16 @@ pub fn outlines(plan: &Plan, progress: &Progress) {
         }
     });
     let refused = refused.into_inner().unwrap();
+    if plan.outlines >= 10_000 {
+        assert!(refused[..8].iter().all(|&count| count > 0), "a refusal of 1 to 7 did not show: {refused:?}");
+    }
     let numbers: Vec<String> = (1..8).map(|n| format!("{n}: {}", refused[n])).collect();
     progress.done(format!(
-        "outlines, seeds 0 to {} under {}: {} fractured ({} shots, {} figures held to their unit squares), refused {}",
+        "drawings, seeds 0 to {} under {}: {} fractured ({} of several rings; {} shots; {} held to their unit squares), refused {}",
         plan.outlines - 1,
         plan.seed,
         refused[0],
+        ringed.into_inner(),
         shots.into_inner(),
         squares.into_inner(),
         numbers.join(", ")

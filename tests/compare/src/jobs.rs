@@ -1,14 +1,16 @@
-//! The job calls compared: every string of three bytes as a number, the writers with buffers of
-//! every length, jobs at the limits, and jobs damaged at every byte.
+//! The job calls compared: every string of three bytes as a number, the documents' rows about rings,
+//! the writers and unpacking with buffers of every length, jobs at the limits, jobs with rings with
+//! every byte set to every value, and jobs damaged at every byte.
 
 use crate::progress::Progress;
 use crate::room::Room;
 use crate::Plan;
-use drawings::document::JOB;
-use drawings::jobs::{coordinates, damaged as damage, small, sound, DAMAGES};
+use drawings::document::{ring_faults, FRAMED, FRAMED_JOB, JOB, L};
+use drawings::figures;
+use drawings::jobs::{damaged as damage, outline, small, sound, DAMAGES};
 use drawings::seeded::Seeded;
 use law::bytes::{header, job, written_outline};
-use law::{Calls, Law, Told};
+use law::{Calls, Drawing, Law, Told};
 use std::sync::atomic::{AtomicUsize, Ordering};
 use std::sync::Mutex;
 
@@ -52,6 +54,71 @@ pub fn numbers(plan: &Plan, progress: &Progress) {
     progress.done("numbers: every string of one, two and three bytes".into());
 }
 
+/// Item 1's rows about bytes: the law against the document, and the library against the law.
+pub fn ring_rows(plan: &Plan, progress: &Progress) {
+    let Some(library) = plan.library else { return };
+    let mut s = Seeded::new(plan.seed << 32 | 0x4146);
+    let faults = ring_faults();
+    for (name, behind, number, at) in &faults {
+        let bytes = [&JOB[..3], behind].concat();
+        let told = ask(library, &bytes, &mut s, progress);
+        assert_eq!((told.number, told.numbers), (*number, [0, 0, 0, *at as u64]), "{name}: {bytes:x?}");
+        // the same from the part alone
+        let told = unpack(library, behind, (64, 8), 1, progress);
+        assert_eq!((told.number, told.numbers), (*number, [0, 0, *at as u64 - 3, 0]), "{name}: {behind:x?}");
+    }
+    // the worked example of document 01 with a byte damaged: a V of 0 is no fault any more, R is
+    for (at, byte, fault) in [(1, 0x80, 5), (1, 0xff, 5), (3, 0x00, 4)] {
+        let mut bytes = JOB;
+        bytes[at] = byte;
+        let told = ask(library, &bytes, &mut s, progress);
+        assert_eq!((told.number, told.numbers[3]), (10, fault), "byte {at} set to {byte:x}");
+    }
+    framed_row(library, &mut s, progress);
+    longest_row(library, progress);
+    zeros_row(library, &mut s, progress);
+    progress.done(format!("jobs with rings: {} faults, and the worked parts", faults.len()));
+}
+
+/// The frame with a window: its part lies from the 0 on, and unpacks to both lists or to none.
+fn framed_row(library: Library, s: &mut Seeded, progress: &Progress) {
+    let told = ask(library, &FRAMED_JOB, s, progress);
+    assert_eq!(told, Told::done([25, 40, 1, 0]));
+    assert_eq!(library.job_outline(&FRAMED_JOB, 0), Told::done([3, 20, 0, 0]));
+    let part = &FRAMED_JOB[3..];
+    assert_eq!(written_outline(&Drawing { corners: FRAMED.to_vec(), rings: vec![4, 4] }), part);
+    for rooms in [(16, 2), (64, 8)] {
+        assert_eq!(unpack(library, part, rooms, 2, progress), Told::done([8, 2, 0, 0]), "the frame's part to {rooms:?}");
+    }
+    for rooms in [(15, 8), (16, 1), (0, 0)] {
+        assert_eq!(unpack(library, part, rooms, 2, progress), Told::refused(14), "the frame's part to {rooms:?}");
+    }
+    let (mut list, mut rings) = ([7; 17], [9; 3]);
+    library.unpack(part, &mut list, &mut rings);
+    assert_eq!((&list[..16], list[16], rings), (&FRAMED[..], 7, [4, 4, 9]));
+    // drawing L is one ring of 6
+    let mut rings = [9; 2];
+    assert_eq!(library.unpack(&JOB[3..], &mut list[..12], &mut rings), Told::done([6, 1, 0, 0]));
+    assert_eq!((&list[..12], rings), (&L[..], [6, 9]));
+}
+
+/// The longest outline there is: eight rings of 4 corners, every number of three bytes.
+fn longest_row(library: Library, progress: &Progress) {
+    let longest = Drawing { corners: vec![65_535; 64], rings: vec![4; 8] };
+    let mut out = [0; 202];
+    assert_eq!(library.write_outline(&longest, &mut out[..201]), Told::refused(14));
+    assert_eq!(library.write_outline(&longest, &mut out), Told::done([202, 0, 0, 0]));
+    assert_eq!(unpack(library, &out, (64, 8), 3, progress), Told::done([32, 8, 0, 0]));
+}
+
+/// Rings of 28 and 4 corners that are all at (0, 0): read as a job, refused by 4 as a figure.
+fn zeros_row(library: Library, s: &mut Seeded, progress: &Progress) {
+    let bytes = [&JOB[..3], &[0x00, 0x02, 0x1C], &[0; 56], &[0x04], &[0; 8]].concat();
+    assert_eq!(ask(library, &bytes, s, progress), Told::done([25, 40, 1, 0]));
+    let drawing = &job(&bytes).unwrap().outlines[0].1;
+    assert_eq!(library.fracture(drawing, 25, 40, &mut [0; 1], &mut [0; 1]), Told::refused(4));
+}
+
 /// The writers with buffers of every length.
 pub fn writers(plan: &Plan, progress: &Progress) {
     let Some(library) = plan.library else { return };
@@ -70,21 +137,37 @@ pub fn writers(plan: &Plan, progress: &Progress) {
     }
     for length in 0..=70 {
         let list: Vec<u16> = (0..length as u16).map(|n| n.wrapping_mul(9973)).collect();
-        write(library, &marks, progress, &|calls, out| calls.write_outline(&list, out));
-        count += 1;
-    }
-    for seed in 0..400 {
-        let mut s = Seeded::new(plan.seed << 32 | 0x3717 << 16 | seed);
-        let list = coordinates(&mut s);
-        let enough = written_outline(&list).len();
-        for length in (0..=enough + 2).rev() {
-            write(library, &marks[..length], progress, &|calls, out| calls.write_outline(&list, out));
+        // as one ring, as two, as rings of 4, and with no length at all
+        let (half, one, fours) = (length as u16 / 4, length as u16 / 2, length / 8);
+        for rings in [vec![one], vec![half, one - half], vec![4; fours], vec![]] {
+            let drawing = Drawing { corners: list.clone(), rings };
+            write(library, &marks, progress, &|calls, out| calls.write_outline(&drawing, out));
             count += 1;
         }
-        // and back, into lists of every length
-        let part = written_outline(&list);
-        for length in 0..=list.len() + 2 {
-            unpack(library, &part, length, seed, progress);
+    }
+    for seed in 0..2000 {
+        let mut s = Seeded::new(plan.seed << 32 | 0xbad << 16 | seed);
+        let drawing = figures::bad(&mut s);
+        let room = s.pick(&[0, 8, 202, 260]);
+        write(library, &marks[..room], progress, &|calls, out| calls.write_outline(&drawing, out));
+        count += 1;
+    }
+    for seed in 0..300 {
+        let mut s = Seeded::new(plan.seed << 32 | 0x3717 << 16 | seed);
+        let drawing = outline(&mut s);
+        let part = written_outline(&drawing);
+        for length in (0..=part.len() + 2).rev() {
+            write(library, &marks[..length], progress, &|calls, out| calls.write_outline(&drawing, out));
+            count += 1;
+        }
+        // and back, into lists of every length; both around their limits at once
+        let (numbers, rings) = (drawing.corners.len(), drawing.rings.len());
+        let lists = (0..=numbers + 2).map(|length| (length, rings));
+        let ring_lists = (0..=rings + 2).map(|length| (numbers, length));
+        let around = (numbers - 2..=numbers + 2).flat_map(|n| (0..=rings + 2).map(move |r| (n, r)));
+        for rooms in lists.chain(ring_lists).chain(around) {
+            let told = unpack(library, &part, rooms, seed, progress);
+            assert_eq!(told.number, if rooms.0 < numbers || rooms.1 < rings { 14 } else { 0 }, "{drawing:?} to {rooms:?}");
             count += 1;
         }
     }
@@ -99,13 +182,27 @@ fn write(library: Library, marks: &[u8], progress: &Progress, call: &dyn Fn(&dyn
     progress.same();
 }
 
-fn unpack(library: Library, part: &[u8], length: usize, seed: u64, progress: &Progress) {
-    let marks: Vec<u16> = (0..length).map(|n| (n as u16).wrapping_mul(257) ^ seed as u16).collect();
-    let (mut right, mut list) = (Room::new(&marks), Room::new(&marks));
-    let (wanted, told) = (Law.unpack(part, right.lent()), library.unpack(part, list.lent()));
-    assert!(told == wanted, "unpacking {part:x?} to {length}: {told:?} and not {wanted:?}");
-    assert!(right.differs(&list).is_none(), "unpacking {part:x?} to {length} left {:?}, not {:?}", list.held(), right.held());
+/// Unpacks a part to lists of these lengths, for corners and for rings; gives the answer.
+fn unpack(library: Library, part: &[u8], lengths: (usize, usize), seed: u64, progress: &Progress) -> Told {
+    let marks = |length: usize, step: u16| -> Vec<u16> {
+        (0..length).map(|n| (n as u16).wrapping_mul(step) ^ seed as u16).collect()
+    };
+    let (mut right, mut list) = (Room::new(&marks(lengths.0, 257)), Room::new(&marks(lengths.0, 257)));
+    let (mut right_rings, mut rings) = (Room::new(&marks(lengths.1, 771)), Room::new(&marks(lengths.1, 771)));
+    let wanted = Law.unpack(part, right.lent(), right_rings.lent());
+    let told = library.unpack(part, list.lent(), rings.lent());
+    let said = || format!("unpacking {part:x?} to {lengths:?}");
+    assert!(told == wanted, "{}: {told:?} and not {wanted:?}", said());
+    assert!(right.differs(&list).is_none(), "{} left {:?}, not {:?}", said(), list.held(), right.held());
+    assert!(
+        right_rings.differs(&rings).is_none(),
+        "{} left ring lengths {:?}, not {:?}",
+        said(),
+        rings.held(),
+        right_rings.held()
+    );
     progress.same();
+    told
 }
 
 /// All that can be asked of the bytes of a job.
@@ -122,8 +219,8 @@ fn ask(library: Library, bytes: &[u8], s: &mut Seeded, progress: &Progress) -> T
         progress.same();
         if right.number == 0 {
             let part = right.numbers[0] as usize..(right.numbers[0] + right.numbers[1]) as usize;
-            let room = s.pick(&[64, 64, 64, 66, 7]);
-            unpack(library, &bytes[part], room, k as u64, progress);
+            let rooms = s.pick(&[(64, 8), (64, 8), (64, 8), (66, 9), (7, 8), (64, 1)]);
+            unpack(library, &bytes[part], rooms, k as u64, progress);
         }
     }
     for _ in 0..2 {
@@ -132,7 +229,7 @@ fn ask(library: Library, bytes: &[u8], s: &mut Seeded, progress: &Progress) -> T
         assert!(told == right, "number at {at} of {bytes:x?}: {told:?} and not {right:?}");
         progress.same();
         let (from, to) = (s.within(0, bytes.len()), s.within(0, bytes.len()));
-        unpack(library, &bytes[from.min(to)..from.max(to)], 64, 5, progress);
+        unpack(library, &bytes[from.min(to)..from.max(to)], (64, 8), 5, progress);
     }
     progress.same();
     right
@@ -147,14 +244,16 @@ fn round_trip(library: Library, bytes: &[u8]) {
         told.numbers[0] as usize
     };
     let mut at = written(library.write_header(read.threshold, read.weight, read.outlines.len() as u32, &mut again));
-    for (k, (_, list)) in read.outlines.iter().enumerate() {
+    for (k, (_, drawing)) in read.outlines.iter().enumerate() {
         let told = library.job_outline(bytes, k);
         assert_eq!(told.number, 0);
         let part = told.numbers[0] as usize..(told.numbers[0] + told.numbers[1]) as usize;
-        let mut corners = [0u16; 64];
-        let count = 2 * library.unpack(&bytes[part], &mut corners).numbers[0] as usize;
-        assert_eq!(&corners[..count], &list[..]);
-        at += written(library.write_outline(&corners[..count], &mut again[at..]));
+        let (mut corners, mut rings) = ([0u16; 64], [0u16; 8]);
+        let [count, ring_count, ..] = library.unpack(&bytes[part], &mut corners, &mut rings).numbers;
+        let unpacked =
+            Drawing { corners: corners[..2 * count as usize].to_vec(), rings: rings[..ring_count as usize].to_vec() };
+        assert_eq!(&unpacked, drawing);
+        at += written(library.write_outline(&unpacked, &mut again[at..]));
     }
     assert_eq!(&again[..at], bytes);
 }
@@ -165,19 +264,19 @@ fn job_of(total: usize, s: &mut Seeded) -> Vec<u8> {
     let mut job = header(0, 0, 255);
     let mut more = total - job.len() - 255 * 9;
     for _ in 0..255 {
-        let mut corners = small(s);
-        for corner in corners.iter_mut() {
+        let mut drawing = small(s);
+        for place in drawing.corners.iter_mut() {
             let extra = more.min(2);
-            *corner = [*corner, 300, 60_000][extra];
+            *place = [*place, 300, 60_000][extra];
             more -= extra;
         }
-        job.extend(written_outline(&corners));
+        job.extend(written_outline(&drawing));
     }
     assert_eq!(job.len(), total);
     job
 }
 
-/// Jobs of 4,090 to 4,100 bytes, and of up to 255 outlines.
+/// Jobs of 4,090 to 4,100 bytes, and of up to 255 outlines, with rings up to 204.
 pub fn limits(plan: &Plan, progress: &Progress) {
     let Some(library) = plan.library else { return };
     let mut s = Seeded::new(plan.seed << 32 | 0x1141);
@@ -193,10 +292,91 @@ pub fn limits(plan: &Plan, progress: &Progress) {
         assert_eq!(ask(library, &job, &mut s, progress).number, 0);
         round_trip(library, &job);
     }
+    // K counts figures, not rings: frames with windows as far as they fit, and one too many
+    for count in [1, 127, 128, 204] {
+        let job = [header(25, 40, count), FRAMED_JOB[3..].repeat(count as usize)].concat();
+        assert_eq!(ask(library, &job, &mut s, progress), Told::done([25, 40, count as u64, 0]));
+        round_trip(library, &job);
+    }
+    let long = [header(25, 40, 205), FRAMED_JOB[3..].repeat(205)].concat();
+    assert_eq!(ask(library, &long, &mut s, progress), Told::refused(12));
     for bytes in [vec![], vec![0; 4096], vec![0; 4097], vec![0x80; 5000], vec![0xff; 70_000], JOB.to_vec()] {
         ask(library, &bytes, &mut s, progress);
     }
-    progress.done("jobs of 4,090 to 4,100 bytes, and of up to 255 outlines".into());
+    progress.done("jobs of 4,090 to 4,100 bytes, of up to 255 outlines, and of up to 204 with rings".into());
+}
+
+/// Outlines to damage at every byte: two rings and eight, numbers of one byte and of three, all 32
+/// corners and an odd V.
+fn ringed_parts(s: &mut Seeded) -> Vec<Drawing> {
+    let framed = Drawing { corners: FRAMED.to_vec(), rings: vec![4, 4] };
+    let wide = Drawing { corners: (0..64).map(|n| 65_535 - n * 300).collect(), rings: vec![4; 8] };
+    let uneven = Drawing { corners: (0..58).map(|n| n * 5).collect(), rings: vec![5, 7, 4, 13] };
+    let full = Drawing { corners: vec![0; 64], rings: vec![28, 4] };
+    vec![framed, wide, uneven, full, figures::of_sort(s, figures::LAYOUT_LIKE)]
+}
+
+/// Jobs of one outline with rings: every byte set to every value, ended at every length, and with
+/// every byte behind; each read as a job, and its outline unpacked as a part.
+pub fn every_byte(plan: &Plan, progress: &Progress) {
+    let Some(library) = plan.library else { return };
+    let mut s = Seeded::new(plan.seed << 32 | 0xeb17);
+    let head = header(25, 40, 1);
+    let mut jobs: Vec<Vec<u8>> = Vec::new();
+    for drawing in ringed_parts(&mut s) {
+        let job = [&head[..], &written_outline(&drawing)].concat();
+        assert_eq!(ask(library, &job, &mut s, progress).number, 0);
+        round_trip(library, &job);
+        jobs.push(job);
+    }
+    // two outlines, the second of one ring
+    jobs.push([header(25, 40, 2), FRAMED_JOB[3..].to_vec(), written_outline(&Drawing::outline(&L))].concat());
+    let damages: Vec<(usize, usize)> = jobs
+        .iter()
+        .enumerate()
+        .flat_map(|(which, job)| (0..=job.len()).map(move |at| (which, at)))
+        .collect();
+    let next = AtomicUsize::new(0);
+    let tally = Mutex::new([0usize; 16]);
+    std::thread::scope(|scope| {
+        for _ in 0..plan.threads {
+            scope.spawn(|| {
+                let mut mine = [0usize; 16];
+                while let Some(&(which, at)) = damages.get(next.fetch_add(1, Ordering::Relaxed)) {
+                    let job = &jobs[which];
+                    let mut s = Seeded::new(plan.seed << 32 | 0xeb18 << 16 | (which << 10 | at) as u64);
+                    let mut all_of = |bytes: &[u8]| {
+                        let told = ask(library, bytes, &mut s, progress);
+                        mine[told.number as usize] += 1;
+                        // one byte form: what is still sound is written back to the same bytes
+                        if told.number == 0 {
+                            round_trip(library, bytes);
+                        }
+                        let part = bytes.get(head.len()..).unwrap_or(&[]);
+                        unpack(library, part, (64, 8), at as u64, progress);
+                    };
+                    all_of(&job[..at]);
+                    for byte in 0..=255 {
+                        // at the end of the job this is a byte behind it
+                        let rest = job.get(at + 1..).unwrap_or(&[]);
+                        all_of(&[&job[..at], &[byte], rest].concat());
+                    }
+                    progress.at("every byte", which, jobs.len());
+                }
+                tally.lock().unwrap().iter_mut().zip(mine).for_each(|(sum, mine)| *sum += mine);
+            });
+        }
+    });
+    let tally = tally.into_inner().unwrap();
+    assert!(tally[0] > 0 && (8..12).all(|n| tally[n] > 0), "a refusal of 8 to 11 did not show: {tally:?}");
+    let numbers: Vec<String> = (8..12).map(|n| format!("{n}: {}", tally[n])).collect();
+    progress.done(format!(
+        "{} jobs with rings, every byte set to every value: {} jobs, {} sound, refused {}",
+        jobs.len(),
+        tally.iter().sum::<usize>(),
+        tally[0],
+        numbers.join(", ")
+    ));
 }
 
 /// Sound jobs, and each of them damaged at every byte in one way after the other.
@@ -212,10 +392,14 @@ pub fn damaged(plan: &Plan, progress: &Progress) {
                 while done.load(Ordering::Relaxed) < plan.jobs {
                     let seed = next.fetch_add(1, Ordering::Relaxed) as u64;
                     let mut s = Seeded::new(plan.seed << 32 | 0x1051 << 16 | seed);
-                    let bytes = if seed == 0 { JOB.to_vec() } else { sound(&mut s) };
+                    let bytes = match seed {
+                        0 => JOB.to_vec(),
+                        1 => FRAMED_JOB.to_vec(),
+                        _ => sound(&mut s),
+                    };
                     assert_eq!(ask(library, &bytes, &mut s, progress).number, 0, "sound job, seed {seed}");
                     round_trip(library, &bytes);
-                    // the worked example in every way at every byte, the others in one way each
+                    // the worked examples in every way at every byte, the others in one way each
                     let ways = if bytes.len() < 60 { DAMAGES } else { 1 };
                     let step = 1 + bytes.len() / 400;
                     for at in (0..=bytes.len()).step_by(step) {

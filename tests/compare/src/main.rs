@@ -1,5 +1,5 @@
 //! The comparison that the gate runs: the proved library, through its C interface, and the C++
-//! baselines against document 01 in plain Rust (`law`), answer by answer and buffer by buffer.
+//! baselines against the documents in plain Rust (`law`), answer by answer and buffer by buffer.
 //!
 //!     compare [--outlines N] [--jobs N] [--seed S] [--threads T] [--record FILE] [--without-library]
 //!
@@ -59,19 +59,23 @@ fn main() {
     let plan = plan();
     let progress = Progress::new();
     println!(
-        "comparing {} with document 01 in plain Rust: seed {}, {} threads",
+        "comparing {} with documents 01 and 02 in plain Rust: seed {}, {} threads",
         if plan.library.is_some() { "the library and the C++ baselines" } else { "the C++ baselines alone" },
         plan.seed,
         plan.threads
     );
     fractures::rows(&plan, &progress);
     fractures::presets(&plan, &progress);
+    fractures::every_ring_length(&plan, &progress);
+    fractures::every_order(&plan, &progress);
     fractures::every_length(&plan, &progress);
     fractures::every_cutting(&plan, &progress);
     fractures::outlines(&plan, &progress);
     jobs::numbers(&plan, &progress);
+    jobs::ring_rows(&plan, &progress);
     jobs::writers(&plan, &progress);
     jobs::limits(&plan, &progress);
+    jobs::every_byte(&plan, &progress);
     jobs::damaged(&plan, &progress);
     if let Some(file) = &plan.record {
         record::write(file, plan.seed, &progress);

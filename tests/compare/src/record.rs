@@ -2,17 +2,18 @@
 //!
 //! The record is a run of 32-bit words, low byte first. A call is its number below and its
 //! arguments: lengths, other numbers and the mark of the lent buffers, then bytes (four to a word)
-//! or corners (one to a word); a size that is the largest there is stands as 0xffffffff. Then its
-//! outcome, two words for each: the number, the single numbers, a hash over each lent buffer with
-//! 16 elements before and beyond it. Calls: 1 preset, 2 fracture, 3 fracture by the default rule,
-//! 4 number, 5 job check, 6 job outline, 7 unpack, 8 write header, 9 write outline, 10 the end.
+//! or a drawing (its coordinates and then its ring lengths, one to a word); a size that is the
+//! largest there is stands as 0xffffffff. Then its outcome, two words for each: the number, the single
+//! numbers, a hash over each lent buffer with 16 elements before and beyond it. Calls: 1 preset,
+//! 2 fracture, 3 fracture by the default rule, 4 number, 5 job check, 6 job outline, 7 unpack, 8 write
+//! header, 9 write outline, 10 the end.
 
 use crate::progress::Progress;
-use drawings::jobs::{damaged, sound, DAMAGES};
-use drawings::outlines;
+use drawings::jobs::{damaged, outline, sound, DAMAGES};
 use drawings::seeded::Seeded;
+use drawings::{figures, outlines};
 use law::figure::figure;
-use law::{Calls, Law, Told};
+use law::{Calls, Drawing, Law, Told};
 use std::io::Write;
 
 const MARGIN: usize = 16;
@@ -48,8 +49,13 @@ impl Record {
         }
     }
 
-    fn corners(&mut self, corners: &[u16]) {
-        self.words.extend(corners.iter().map(|&place| place as u32));
+    fn drawing_lengths(&mut self, drawing: &Drawing) {
+        self.size(drawing.corners.len());
+        self.size(drawing.rings.len());
+    }
+
+    fn drawing(&mut self, drawing: &Drawing) {
+        self.words.extend(drawing.corners.iter().chain(&drawing.rings).map(|&number| number as u32));
     }
 
     fn outcome(&mut self, told: Told, numbers: usize, hashes: &[u64]) {
@@ -60,25 +66,25 @@ impl Record {
         self.calls += 1;
     }
 
-    fn fracture(&mut self, corners: &[u16], rule: Option<(u32, u32)>, entries: usize, numbers: usize, mark: u32) {
+    fn fracture(&mut self, drawing: &Drawing, rule: Option<(u32, u32)>, entries: usize, numbers: usize, mark: u32) {
         let mut table = lend(entries, mark, 32, |x| x);
         let mut list = lend(numbers, mark, 16, |x| x as u16);
         let (inner_table, inner_list) = (&mut table[MARGIN..MARGIN + entries], &mut list[MARGIN..MARGIN + numbers]);
         let told = match rule {
             Some((threshold, weight)) => {
                 self.words.extend([2, threshold, weight]);
-                Law.fracture(corners, threshold, weight, inner_table, inner_list)
+                Law.fracture(drawing, threshold, weight, inner_table, inner_list)
             }
             None => {
                 self.words.push(3);
-                Law.fracture_default(corners, inner_table, inner_list)
+                Law.fracture_default(drawing, inner_table, inner_list)
             }
         };
-        self.size(corners.len());
+        self.drawing_lengths(drawing);
         self.size(entries);
         self.size(numbers);
         self.words.push(mark);
-        self.corners(corners);
+        self.drawing(drawing);
         self.outcome(told, 3, &[hash(table.into_iter()), hash(list.into_iter().map(u32::from))]);
     }
 
@@ -98,8 +104,10 @@ impl Record {
             self.outcome(told, 3, &[]);
             if told.number == 0 {
                 let part = told.numbers[0] as usize..(told.numbers[0] + told.numbers[1]) as usize;
-                let room = s.pick(&[64, 64, 9, 70]);
-                self.unpack(&job[part], room, k as u32);
+                let rooms = s.pick(&[(64, 8), (64, 8), (9, 8), (70, 10), (64, 1), (24, 2)]);
+                self.unpack(&job[part.clone()], rooms, k as u32);
+                let (at, way) = (s.within(0, part.len()), s.below(DAMAGES));
+                self.unpack(&damaged(s, &job[part], at, way), (64, 8), k as u32);
             }
         }
         let any = s.within(0, job.len() + 2);
@@ -111,15 +119,18 @@ impl Record {
         self.outcome(Law.number(job, at), 3, &[]);
     }
 
-    fn unpack(&mut self, part: &[u8], numbers: usize, mark: u32) {
+    fn unpack(&mut self, part: &[u8], (numbers, lengths): (usize, usize), mark: u32) {
         self.words.push(7);
         self.size(part.len());
         self.size(numbers);
+        self.size(lengths);
         self.words.push(mark);
         self.bytes(part);
         let mut list = lend(numbers, mark, 16, |x| x as u16);
-        let told = Law.unpack(part, &mut list[MARGIN..MARGIN + numbers]);
-        self.outcome(told, 2, &[hash(list.into_iter().map(u32::from))]);
+        let mut rings = lend(lengths, mark, 16, |x| x as u16);
+        let told = Law.unpack(part, &mut list[MARGIN..MARGIN + numbers], &mut rings[MARGIN..MARGIN + lengths]);
+        let hashes = [list, rings].map(|buffer| hash(buffer.into_iter().map(u32::from)));
+        self.outcome(told, 3, &hashes);
     }
 
     fn writers(&mut self, s: &mut Seeded) {
@@ -133,19 +144,42 @@ impl Record {
         let told = Law.write_header(threshold, weight, outlines, &mut out[MARGIN..MARGIN + room]);
         self.outcome(told, 1, &[hash(out.into_iter().map(u32::from))]);
 
-        let length = s.within(0, 70);
-        let top = s.pick(&[2, 128, 129, 16_385, 65_536]);
-        let corners: Vec<u16> = (0..length).map(|_| s.below(top) as u16).collect();
-        let any = s.within(0, 200);
-        let room = s.pick(&[200, any]);
+        let drawing = any_drawing(s);
+        let any = s.within(0, 210);
+        let room = s.pick(&[210, any]);
         self.words.push(9);
-        self.size(length);
+        self.drawing_lengths(&drawing);
         self.size(room);
         self.words.push(mark);
-        self.corners(&corners);
+        self.drawing(&drawing);
         let mut out = lend(room, mark, 8, |x| x as u8);
-        let told = Law.write_outline(&corners, &mut out[MARGIN..MARGIN + room]);
+        let told = Law.write_outline(&drawing, &mut out[MARGIN..MARGIN + room]);
         self.outcome(told, 1, &[hash(out.into_iter().map(u32::from))]);
+    }
+}
+
+/// A drawing for the writer, which looks at lengths alone: one ring of any numbers; rings as a job
+/// may have them, or as it may not.
+fn any_drawing(s: &mut Seeded) -> Drawing {
+    match s.below(3) {
+        0 => {
+            let length = s.within(0, 70);
+            let top = s.pick(&[2, 128, 129, 16_385, 65_536]);
+            Drawing::outline(&(0..length).map(|_| s.below(top) as u16).collect::<Vec<_>>())
+        }
+        1 => outline(s),
+        _ => figures::bad(s),
+    }
+}
+
+/// A drawing to fracture: of one ring or of several, now and then a bad one.
+fn any_figure(s: &mut Seeded) -> Drawing {
+    let (outline_sort, figure_sort) = (s.below(outlines::SORTS.len()), s.below(figures::SORTS.len()));
+    match s.below(12) {
+        0 => outlines::bad(s),
+        1 => figures::bad(s),
+        2..=6 => outlines::of_sort(s, outline_sort),
+        _ => figures::of_sort(s, figure_sort),
     }
 }
 
@@ -157,16 +191,14 @@ pub fn write(file: &str, seed: u64, progress: &Progress) {
     }
     for turn in 0..OUTLINES {
         let mut s = Seeded::new(seed << 32 | 0x4ec0 << 16 | turn);
-        let sort = s.below(outlines::SORTS.len() + 2);
-        let corners =
-            if sort < outlines::SORTS.len() { outlines::of_sort(&mut s, sort) } else { outlines::bad(&mut s) };
-        let pieces = figure(&corners).map_or(50, |f| f.pieces());
+        let drawing = any_figure(&mut s);
+        let pieces = figure(&drawing).map_or(50, |f| f.pieces());
         let entries = s.pick(&[pieces, pieces, pieces + 3, pieces - 1]);
         let few = s.within(0, 60);
         let numbers = s.pick(&[900, 900, 901, few]);
-        let rule = if s.once_in(8) { None } else { Some(outlines::rule(&mut s, &corners)) };
+        let rule = if s.once_in(8) { None } else { Some(outlines::rule(&mut s, &drawing)) };
         let mark = s.any() as u32;
-        record.fracture(&corners, rule, entries, numbers, mark);
+        record.fracture(&drawing, rule, entries, numbers, mark);
         progress.at("recording", turn as usize, OUTLINES as usize);
     }
     for turn in 0..JOBS {

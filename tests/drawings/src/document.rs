@@ -1,4 +1,7 @@
-//! The drawings of document 01's table with their outcomes, and the worked example.
+//! The drawings of document 01's table with their outcomes, and the worked example; the same for
+//! windows (document 02, Item 1).
+
+use law::Drawing;
 
 pub const L: [u16; 12] = [0, 0, 100, 0, 100, 20, 60, 20, 60, 80, 0, 80];
 pub const B: [u16; 16] = [0, 0, 200, 0, 200, 50, 210, 50, 210, 150, 200, 150, 200, 200, 0, 200];
@@ -9,15 +12,38 @@ pub const JOB: [u8; 16] = [
 ];
 pub const PRINTED: &str = "job 1\noutline 0 shots 2 cost 5200 sliver 80\n0 0 60 80\n60 0 100 20\n";
 
-/// A row: the outline, threshold and weight, table and list lent, and the outcome: number, shots,
+/// A frame with a window: corners of both, and their job with what is printed of it.
+pub const FRAMED: [u16; 16] = [0, 0, 100, 0, 100, 100, 0, 100, 30, 30, 70, 30, 70, 70, 30, 70];
+pub const FRAMED_JOB: [u8; 23] = [
+    0x19, 0x28, 0x01, 0x00, 0x02, 0x04, 0x00, 0x00, 0x64, 0x00, 0x64, 0x64, 0x00, 0x64, 0x04, 0x1E, 0x1E, 0x46, 0x1E,
+    0x46, 0x46, 0x1E, 0x46,
+];
+pub const FRAMED_PRINTED: &str =
+    "job 1\noutline 0 shots 4 cost 4000 sliver 0\n0 0 30 100\n30 0 70 30\n30 70 70 100\n70 0 100 100\n";
+/// With a threshold of 40 all four shots are slivers.
+pub const FRAMED_PRINTED_AT_40: &str =
+    "job 1\noutline 0 shots 4 cost 21600 sliver 440\n0 0 30 100\n30 0 70 30\n30 70 70 100\n70 0 100 100\n";
+
+/// A row: the drawing, threshold and weight, table and list lent, and the outcome: number, shots,
 /// cost, sliver, and the shot list where the document gives it (else empty).
 pub struct Row {
     pub name: &'static str,
     pub corners: &'static [u16],
+    /// ring lengths; none are named for an outline, which is one ring
+    pub rings: Option<&'static [u16]>,
     pub rule: (u32, u32),
     pub room: (usize, usize),
     pub outcome: (u32, [u64; 3]),
     pub list: &'static [u16],
+}
+
+impl Row {
+    pub fn drawing(&self) -> Drawing {
+        match self.rings {
+            Some(rings) => Drawing { corners: self.corners.to_vec(), rings: rings.to_vec() },
+            None => Drawing::outline(self.corners),
+        }
+    }
 }
 
 const fn row(
@@ -27,7 +53,18 @@ const fn row(
     outcome: (u32, [u64; 3]),
     list: &'static [u16],
 ) -> Row {
-    Row { name, corners, rule, room: (14_400, 900), outcome, list }
+    Row { name, corners, rings: None, rule, room: (14_400, 900), outcome, list }
+}
+
+/// A row of Item 1, by the rule 25, 40.
+const fn ringed(
+    name: &'static str,
+    corners: &'static [u16],
+    rings: &'static [u16],
+    outcome: (u32, [u64; 3]),
+    list: &'static [u16],
+) -> Row {
+    Row { name, corners, rings: Some(rings), rule: (25, 40), room: (14_400, 900), outcome, list }
 }
 
 pub const ROWS: [Row; 20] = [
@@ -53,19 +90,21 @@ pub const ROWS: [Row; 20] = [
     row("slanted at 1000, 1000", &[0, 0, 10, 0, 10, 10, 5, 5], (1000, 1000), (3, [0; 3]), &[]),
     row("straight on at 25, 40", &[0, 0, 10, 0, 20, 0, 20, 10, 0, 10], (25, 40), (4, [0; 3]), &[]),
     row("straight on at 0, 1000", &[0, 0, 10, 0, 20, 0, 20, 10, 0, 10], (0, 1000), (4, [0; 3]), &[]),
-    Row { name: "L with a table of 8", corners: &L, rule: (25, 40), room: (8, 900), outcome: (6, [0; 3]), list: &[] },
+    Row { name: "L with a table of 8", corners: &L, rings: None, rule: (25, 40), room: (8, 900), outcome: (6, [0; 3]), list: &[] },
     Row {
         name: "L with a table of 9",
         corners: &L,
+        rings: None,
         rule: (25, 40),
         room: (9, 900),
         outcome: (0, [2, 5200, 80]),
         list: &[0, 0, 60, 80, 60, 0, 100, 20],
     },
-    Row { name: "L with a list of 7", corners: &L, rule: (25, 40), room: (14_400, 7), outcome: (7, [2, 0, 0]), list: &[] },
+    Row { name: "L with a list of 7", corners: &L, rings: None, rule: (25, 40), room: (14_400, 7), outcome: (7, [2, 0, 0]), list: &[] },
     Row {
         name: "L with a list of 8",
         corners: &L,
+        rings: None,
         rule: (25, 40),
         room: (14_400, 8),
         outcome: (0, [2, 5200, 80]),
@@ -73,5 +112,133 @@ pub const ROWS: [Row; 20] = [
     },
 ];
 
-/// The last row: numbers that are refused.
+const SQUARE: [u16; 8] = [0, 0, 100, 0, 100, 100, 0, 100];
+const SHOTS_OF_FRAMED: [u16; 16] = [0, 0, 30, 100, 30, 0, 70, 30, 30, 70, 70, 100, 70, 0, 100, 100];
+
+/// Squares of 5 at (10 k, 0), k below 8.
+pub const EIGHT: [u16; 64] = {
+    let mut corners = [0; 64];
+    let mut k = 0;
+    while k < 8 {
+        let (left, right) = (10 * k as u16, 10 * k as u16 + 5);
+        let square = [left, 0, right, 0, right, 5, left, 5];
+        let mut at = 0;
+        while at < 8 {
+            corners[8 * k + at] = square[at];
+            at += 1;
+        }
+        k += 1;
+    }
+    corners
+};
+
+/// Item 1: figures of several rings, and refusals 2 to 5 over them.
+pub const RINGS: [Row; 23] = [
+    ringed("frame with a window", &FRAMED, &[4, 4], (0, [4, 4000, 0]), &SHOTS_OF_FRAMED),
+    Row {
+        rule: (40, 40),
+        ..ringed("frame with a window at 40, 40", &FRAMED, &[4, 4], (0, [4, 21_600, 440]), &SHOTS_OF_FRAMED)
+    },
+    ringed(
+        "window and frame exchanged",
+        &[30, 30, 70, 30, 70, 70, 30, 70, 0, 0, 100, 0, 100, 100, 0, 100],
+        &[4, 4],
+        (0, [4, 4000, 0]),
+        &SHOTS_OF_FRAMED,
+    ),
+    // 4 by 4 lines: 6 x 6 pieces
+    Row { room: (35, 900), ..ringed("frame with a window, table of 35", &FRAMED, &[4, 4], (6, [0; 3]), &[]) },
+    Row {
+        room: (36, 16),
+        ..ringed("frame with a window, table of 36, list of 16", &FRAMED, &[4, 4], (0, [4, 4000, 0]), &SHOTS_OF_FRAMED)
+    },
+    Row { room: (36, 15), ..ringed("frame with a window, list of 15", &FRAMED, &[4, 4], (7, [4, 0, 0]), &[]) },
+    ringed(
+        "two squares that touch",
+        &[0, 0, 10, 0, 10, 10, 0, 10, 10, 0, 20, 0, 20, 10, 10, 10],
+        &[4, 4],
+        (0, [1, 3400, 60]),
+        &[0, 0, 20, 10],
+    ),
+    ringed(
+        "eight squares",
+        &EIGHT,
+        &[4; 8],
+        (0, [8, 14_400, 160]),
+        &[
+            0, 0, 5, 5, 10, 0, 15, 5, 20, 0, 25, 5, 30, 0, 35, 5, 40, 0, 45, 5, 50, 0, 55, 5, 60, 0, 65, 5, 70, 0, 75, 5,
+        ],
+    ),
+    ringed("no ring", &SQUARE, &[], (2, [0; 3]), &[]),
+    ringed("no ring, no corners", &[], &[], (2, [0; 3]), &[]),
+    ringed("a square as a ring of 3", &SQUARE, &[3], (2, [0; 3]), &[]),
+    ringed("a square as a ring of 5", &SQUARE, &[5], (2, [0; 3]), &[]),
+    ringed("a square as a ring of 8: numbers counted", &SQUARE, &[8], (2, [0; 3]), &[]),
+    ringed("lengths whose sum would wrap", &SQUARE, &[65_535, 5], (2, [0; 3]), &[]),
+    ringed("a square and a ring of none", &SQUARE, &[4, 0], (2, [0; 3]), &[]),
+    ringed("eight squares and a ring of none", &EIGHT, &[4, 4, 4, 4, 4, 4, 4, 4, 0], (2, [0; 3]), &[]),
+    ringed("eight squares less a number", EIGHT.split_at(63).0, &[4; 8], (2, [0; 3]), &[]),
+    ringed(
+        "a square twice",
+        &[0, 0, 100, 0, 100, 100, 0, 100, 0, 0, 100, 0, 100, 100, 0, 100],
+        &[4, 4],
+        (5, [0; 3]),
+        &[],
+    ),
+    ringed("frame and window as one ring", &FRAMED, &[8], (3, [0; 3]), &[]),
+    ringed(
+        "a 4 in ring 1, a 3 in ring 2",
+        &[0, 0, 10, 0, 20, 0, 20, 10, 0, 10, 0, 0, 10, 0, 10, 10, 5, 5],
+        &[5, 4],
+        (3, [0; 3]),
+        &[],
+    ),
+    ringed(
+        "a 3 in ring 1, three corners in ring 2",
+        &[0, 0, 10, 0, 10, 10, 5, 5, 0, 0, 10, 0, 10, 10],
+        &[4, 3],
+        (2, [0; 3]),
+        &[],
+    ),
+    ringed(
+        "a sound ring 1, a 4 in ring 2",
+        &[0, 0, 100, 0, 100, 100, 0, 100, 0, 0, 10, 0, 20, 0, 20, 10, 0, 10],
+        &[4, 5],
+        (4, [0; 3]),
+        &[],
+    ),
+    // only the rule is looked at before the rings
+    Row { rule: (1001, 40), ..ringed("no ring at 1001, 40", &SQUARE, &[], (1, [0; 3]), &[]) },
+];
+
+/// Item 1: what stands in a job behind `19 28 01`, and the refusal with its offset.
+pub fn ring_faults() -> Vec<(&'static str, Vec<u8>, u32, usize)> {
+    // an announced figure of two rings: V of the first, all its coordinates 0, and what follows
+    let two = |first: u8, behind: &[u8]| {
+        let coordinates = vec![0; 2 * first as usize];
+        [&[0x00, 0x02, first][..], &coordinates, behind].concat()
+    };
+    let square: &[u8] = &[4, 0, 0, 1, 0, 1, 1, 0, 1];
+    vec![
+        ("one-ring-announced", [&[0x00, 0x01][..], square].concat(), 10, 4),
+        ("no-ring-announced", vec![0x00, 0x00], 10, 4),
+        ("nine-rings-announced", [&[0x00, 0x09][..], &square.repeat(9)].concat(), 10, 4),
+        ("ring-of-0-corners", vec![0x00, 0x02, 0x00], 10, 5),
+        ("ring-of-3-corners", vec![0x00, 0x02, 0x03], 10, 5),
+        ("ring-of-33-corners", two(33, square), 10, 5),
+        ("rings-of-28-and-5-corners", two(28, &[0x05]), 10, 62),
+        ("rings-of-29-and-4-corners", two(29, &[0x04]), 10, 64),
+        ("second-ring-of-0-corners", two(4, &[0x00]), 10, 14),
+        ("ends-after-0", vec![0x00], 8, 4),
+        ("ends-after-r", vec![0x00, 0x02], 8, 5),
+        ("ends-before-second-ring", two(4, &[]), 8, 14),
+        ("ends-in-second-ring", two(4, &square[..8]), 8, 22),
+        ("0-not-shortest", vec![0x80, 0x00], 9, 3),
+        ("r-not-shortest", vec![0x00, 0x82, 0x00], 9, 4),
+        ("byte-behind-second-ring", [&two(4, square)[..], &[0]].concat(), 11, 23),
+        ("third-ring-behind-two", [&two(4, square)[..], square].concat(), 11, 23),
+    ]
+}
+
+/// The last row of document 01: numbers that are refused.
 pub const NUMBERS: [(&[u8], u32); 2] = [(&[0x80, 0x00], 9), (&[0x80, 0x80, 0x80, 0x00], 10)];

@@ -1,13 +1,16 @@
-//! Outlines, rules and jobs to compare on, made from seeds: the same seed gives the same drawing.
+//! Outlines, figures, rules and jobs to compare on, made from seeds: the same seed gives the same
+//! drawing.
 //!
 //! | Module | Makes |
 //! |---|---|
 //! | `seeded` | numbers from a seed |
-//! | `outlines` | outlines of every sort, sound and bad |
+//! | `outlines` | outlines of every sort, which have one ring, sound and bad |
+//! | `figures` | figures of several rings, sound and bad |
 //! | `jobs` | jobs, sound and damaged |
-//! | `document` | the drawings of document 01 with their outcomes |
+//! | `document` | the drawings of document 01, and those of windows, with their outcomes |
 
 pub mod document;
+pub mod figures;
 pub mod jobs;
 pub mod outlines;
 pub mod seeded;

@@ -2,8 +2,9 @@
 //! that every shape comes in every size; it may then be turned, mirrored and started elsewhere.
 
 use crate::seeded::Seeded;
+use law::Drawing;
 
-/// Corners on whole numbers that need not be places yet.
+/// Corners of a ring on whole numbers that need not be places yet.
 pub type Shape = Vec<(i32, i32)>;
 
 /// The sorts of outline, with their names for a report.
@@ -154,14 +155,14 @@ fn staircase(s: &mut Seeded) -> Shape {
     shape
 }
 
-/// A closed walk with `count` vertical edges over the lines given, one x and one y each turn.
-fn walk(xs: &[i32], ys: &[i32]) -> Shape {
+/// A closed walk with a vertical edge for each x given, one x and one y each turn.
+pub fn walk(xs: &[i32], ys: &[i32]) -> Shape {
     let count = xs.len();
     (0..count).flat_map(|i| [(xs[i], ys[i]), (xs[(i + 1) % count], ys[i])]).collect()
 }
 
 /// So many numbers below `lines`, neighbours (last and first too) different.
-fn alternating(s: &mut Seeded, count: usize, lines: usize) -> Vec<i32> {
+pub fn alternating(s: &mut Seeded, count: usize, lines: usize) -> Vec<i32> {
     loop {
         let list: Vec<i32> = (0..count).map(|_| s.below(lines) as i32).collect();
         if (0..count).all(|i| list[i] != list[(i + 1) % count]) {
@@ -239,16 +240,17 @@ pub fn places(s: &mut Seeded, count: usize) -> Vec<u16> {
     list.into_iter().map(|place| place as u16).collect()
 }
 
-/// The shape at places, as a list of corners: turned, mirrored, started anywhere.
-pub fn placed(s: &mut Seeded, shape: &Shape) -> Vec<u16> {
+/// The shapes at places, each a ring of one figure: all stretched, turned and mirrored together; each
+/// started anywhere, in either direction; in any order.
+pub fn placed(s: &mut Seeded, shapes: &[Shape]) -> Drawing {
     let lines = |values: Vec<i32>| {
         let mut sorted = values;
         sorted.sort();
         sorted.dedup();
         sorted
     };
-    let xs = lines(shape.iter().map(|p| p.0).collect());
-    let ys = lines(shape.iter().map(|p| p.1).collect());
+    let xs = lines(shapes.iter().flatten().map(|p| p.0).collect());
+    let ys = lines(shapes.iter().flatten().map(|p| p.1).collect());
     let (x_places, y_places) = (places(s, xs.len()), places(s, ys.len()));
     let (flip_x, flip_y, swap) = (s.once_in(2), s.once_in(2), s.once_in(2));
     let at = |sorted: &Vec<i32>, list: &Vec<u16>, value: i32, flip: bool| {
@@ -260,36 +262,42 @@ pub fn placed(s: &mut Seeded, shape: &Shape) -> Vec<u16> {
             list[line]
         }
     };
-    let mut corners: Vec<(u16, u16)> = shape
-        .iter()
-        .map(|p| (at(&xs, &x_places, p.0, flip_x), at(&ys, &y_places, p.1, flip_y)))
-        .map(|(x, y)| if swap { (y, x) } else { (x, y) })
-        .collect();
-    let start = s.below(corners.len());
-    corners.rotate_left(start);
-    if s.once_in(2) {
-        corners.reverse();
+    let mut rings: Vec<Vec<u16>> = Vec::new();
+    for shape in shapes {
+        let mut corners: Vec<(u16, u16)> = shape
+            .iter()
+            .map(|p| (at(&xs, &x_places, p.0, flip_x), at(&ys, &y_places, p.1, flip_y)))
+            .map(|(x, y)| if swap { (y, x) } else { (x, y) })
+            .collect();
+        let start = s.below(corners.len());
+        corners.rotate_left(start);
+        if s.once_in(2) {
+            corners.reverse();
+        }
+        rings.push(corners.into_iter().flat_map(|(x, y)| [x, y]).collect());
     }
-    corners.into_iter().flat_map(|(x, y)| [x, y]).collect()
+    s.shuffle(&mut rings);
+    Drawing::of(&rings)
 }
 
 /// An outline of a sort (its place in `SORTS`).
-pub fn of_sort(s: &mut Seeded, sort: usize) -> Vec<u16> {
+pub fn of_sort(s: &mut Seeded, sort: usize) -> Drawing {
     let shape = SORTS[sort].1(s);
-    placed(s, &shape)
+    placed(s, &[shape])
 }
 
 /// A sound outline turned bad in one way or two, or a list of any length.
-pub fn bad(s: &mut Seeded) -> Vec<u16> {
+pub fn bad(s: &mut Seeded) -> Drawing {
     let sort = s.below(SORTS.len());
-    let mut list = of_sort(s, sort);
+    let mut list = of_sort(s, sort).corners;
     for _ in 0..s.pick(&[1, 1, 2]) {
         damage(s, &mut list);
     }
-    list
+    Drawing::outline(&list)
 }
 
-fn damage(s: &mut Seeded, list: &mut Vec<u16>) {
+/// The corners of one ring turned bad in one way.
+pub fn damage(s: &mut Seeded, list: &mut Vec<u16>) {
     let count = list.len() / 2;
     let corner = if count > 0 { s.below(count) } else { 0 };
     match s.below(10) {
@@ -344,8 +352,9 @@ fn damage(s: &mut Seeded, list: &mut Vec<u16>) {
     }
 }
 
-/// A rule for an outline: often at or beside a width that the outline has, sometimes out of range.
-pub fn rule(s: &mut Seeded, corners: &[u16]) -> (u32, u32) {
+/// A rule for a drawing: often at or beside a width that it has, sometimes out of range.
+pub fn rule(s: &mut Seeded, drawing: &Drawing) -> (u32, u32) {
+    let corners = &drawing.corners;
     let threshold = match s.below(8) {
         0 => 0,
         1 => s.pick(&[25, 10, 5, 50]),
@@ -353,7 +362,7 @@ pub fn rule(s: &mut Seeded, corners: &[u16]) -> (u32, u32) {
         3 => 1000,
         4 if s.once_in(6) => s.pick(&[1001, 65_536, 1 << 20, u32::MAX]),
         _ if corners.len() >= 4 => {
-            // the width between two places of the outline, or one to either side of it
+            // the width between two places of the drawing, or one to either side of it
             let way = s.below(2);
             let count = corners.len() / 2;
             let (i, j) = (s.below(count), s.below(count));

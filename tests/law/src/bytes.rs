@@ -1,5 +1,6 @@
 //! The job bytes: numbers, a whole job, its parts, and the writers.
 
+use crate::drawing::Drawing;
 use crate::Told;
 
 /// A fault of bytes that were read: its number, and where the faulty number starts.
@@ -40,9 +41,9 @@ fn ranged(bytes: &[u8], at: usize, low: u32, high: u32) -> Result<(u32, usize), 
     Ok((value, next))
 }
 
-/// One outline from a place on: its coordinates, and the place behind it.
-fn outline(bytes: &[u8], at: usize) -> Result<(Vec<u16>, usize), Fault> {
-    let (corners, mut place) = ranged(bytes, at, 4, 32)?;
+/// One ring from a place on, V to be at most so many: its coordinates, and the place behind it.
+fn ring(bytes: &[u8], at: usize, most: u32) -> Result<(Vec<u16>, usize), Fault> {
+    let (corners, mut place) = ranged(bytes, at, 4, most)?;
     let mut list = Vec::new();
     for _ in 0..2 * corners {
         let (value, next) = ranged(bytes, place, 0, 65_535)?;
@@ -52,12 +53,32 @@ fn outline(bytes: &[u8], at: usize) -> Result<(Vec<u16>, usize), Fault> {
     Ok((list, place))
 }
 
-/// A job that was read: its rule, and of each outline its place in the bytes and its coordinates.
+/// One outline from a place on, and the place behind it. A V of 0 announces rings: then come their
+/// number, 2 to 8, and V and corners of each; no V may take the figure past 32 corners.
+fn outline(bytes: &[u8], at: usize) -> Result<(Drawing, usize), Fault> {
+    let (first, behind) = number(bytes, at)?;
+    if first != 0 {
+        let (list, next) = ring(bytes, at, 32)?;
+        return Ok((Drawing::outline(&list), next));
+    }
+    let (count, mut place) = ranged(bytes, behind, 2, 8)?;
+    let mut rings: Vec<Vec<u16>> = Vec::new();
+    let mut left = 32;
+    for _ in 0..count {
+        let (list, next) = ring(bytes, place, left)?;
+        left -= list.len() as u32 / 2;
+        rings.push(list);
+        place = next;
+    }
+    Ok((Drawing::of(&rings), place))
+}
+
+/// A job that was read: its rule, and of each outline its place in the bytes and what it draws.
 #[derive(Clone, PartialEq, Eq, Debug)]
 pub struct Job {
     pub threshold: u32,
     pub weight: u32,
-    pub outlines: Vec<(std::ops::Range<usize>, Vec<u16>)>,
+    pub outlines: Vec<(std::ops::Range<usize>, Drawing)>,
 }
 
 pub fn job(bytes: &[u8]) -> Result<Job, Fault> {
@@ -69,8 +90,8 @@ pub fn job(bytes: &[u8]) -> Result<Job, Fault> {
     let (count, mut at) = ranged(bytes, at, 0, 255)?;
     let mut outlines = Vec::new();
     for _ in 0..count {
-        let (list, next) = outline(bytes, at)?;
-        outlines.push((at..next, list));
+        let (drawing, next) = outline(bytes, at)?;
+        outlines.push((at..next, drawing));
         at = next;
     }
     if at < bytes.len() {
@@ -96,11 +117,20 @@ pub fn header(threshold: u32, weight: u32, outlines: u32) -> Vec<u8> {
     out
 }
 
-pub fn written_outline(corners: &[u16]) -> Vec<u8> {
+/// The bytes of a drawing that 2 does not refuse: one ring in document 01's form, more after a 0 and
+/// their number.
+pub fn written_outline(drawing: &Drawing) -> Vec<u8> {
+    let rings = drawing.apart().expect("a drawing to write");
     let mut out = Vec::new();
-    push(&mut out, corners.len() as u32 / 2);
-    for &value in corners {
-        push(&mut out, value as u32);
+    if rings.len() > 1 {
+        push(&mut out, 0);
+        push(&mut out, rings.len() as u32);
+    }
+    for ring in rings {
+        push(&mut out, ring.len() as u32 / 2);
+        for &value in ring {
+            push(&mut out, value as u32);
+        }
     }
     out
 }
@@ -129,21 +159,24 @@ pub fn told_outline(bytes: &[u8], k: usize) -> Told {
     }
 }
 
-pub fn told_unpack(part: &[u8], list: &mut [u16]) -> Told {
-    let read = outline(part, 0).and_then(|(values, at)| {
+/// Corners in all and number of rings, the coordinates and ring lengths in the fronts of what is
+/// lent; or 8 to 11; or 14 where either is too short for them.
+pub fn told_unpack(part: &[u8], list: &mut [u16], rings: &mut [u16]) -> Told {
+    let read = outline(part, 0).and_then(|(drawing, at)| {
         if at < part.len() {
             Err(Fault { number: 11, at })
         } else {
-            Ok(values)
+            Ok(drawing)
         }
     });
     match read {
-        Ok(values) if list.len() < values.len() => Told::refused(14),
-        Ok(values) => {
-            list[..values.len()].copy_from_slice(&values);
-            Told::done([values.len() as u64 / 2, 0, 0, 0])
+        Ok(drawing) if list.len() < drawing.corners.len() || rings.len() < drawing.rings.len() => Told::refused(14),
+        Ok(drawing) => {
+            list[..drawing.corners.len()].copy_from_slice(&drawing.corners);
+            rings[..drawing.rings.len()].copy_from_slice(&drawing.rings);
+            Told::done([drawing.corners.len() as u64 / 2, drawing.rings.len() as u64, 0, 0])
         }
-        Err(fault) => Told { number: fault.number, numbers: [0, fault.told(), 0, 0] },
+        Err(fault) => Told { number: fault.number, numbers: [0, 0, fault.told(), 0] },
     }
 }
 
@@ -166,9 +199,9 @@ pub fn told_header(threshold: u32, weight: u32, outlines: u32, out: &mut [u8]) -
     put(&header(threshold, weight, outlines), out)
 }
 
-pub fn told_written_outline(corners: &[u16], out: &mut [u8]) -> Told {
-    if corners.len() % 2 == 1 || corners.len() < 8 || corners.len() > 64 {
-        return Told::refused(2);
+pub fn told_written_outline(drawing: &Drawing, out: &mut [u8]) -> Told {
+    match drawing.apart() {
+        Ok(_) => put(&written_outline(drawing), out),
+        Err(number) => Told::refused(number),
     }
-    put(&written_outline(corners), out)
 }

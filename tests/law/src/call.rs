@@ -1,6 +1,7 @@
 //! The fracture calls and the presets.
 
 use crate::cutting::Fracture;
+use crate::drawing::Drawing;
 use crate::figure::figure;
 use crate::Told;
 
@@ -15,11 +16,11 @@ pub fn preset(number: u32) -> Told {
 }
 
 /// Shots, cost and sliver length, the table and the list filled from the front; or 1 to 7.
-pub fn fracture(corners: &[u16], threshold: u32, weight: u32, table: &mut [u32], list: &mut [u16]) -> Told {
+pub fn fracture(drawing: &Drawing, threshold: u32, weight: u32, table: &mut [u32], list: &mut [u16]) -> Told {
     if threshold > 1000 || weight > 1000 {
         return Told::refused(1);
     }
-    let figure = match figure(corners) {
+    let figure = match figure(drawing) {
         Ok(figure) => figure,
         Err(number) => return Told::refused(number),
     };

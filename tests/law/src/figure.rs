@@ -1,6 +1,21 @@
-//! From a list of corners to a figure: refusals 2 to 4, the lines, and which cells are inside.
+//! From a drawing to a figure: refusals 2 to 4, the lines, and which cells are inside.
 
+use crate::drawing::Drawing;
 use std::collections::BTreeSet;
+
+/// An edge of a ring, from a corner to the next.
+#[derive(Clone, Copy, Debug)]
+struct Edge {
+    from: (u16, u16),
+    to: (u16, u16),
+}
+
+impl Edge {
+    /// Which of its coordinates it changes.
+    fn changes(self) -> (bool, bool) {
+        (self.from.0 != self.to.0, self.from.1 != self.to.1)
+    }
+}
 
 /// A vertical edge: its x, and its span in y.
 #[derive(Clone, Copy, Debug)]
@@ -10,7 +25,7 @@ struct Wall {
     high: u16,
 }
 
-/// An outline whose edges are sound: its lines in rising order, and its vertical edges.
+/// A drawing whose edges are sound: its lines in rising order, and the vertical edges of all rings.
 pub struct Figure {
     pub xs: Vec<u16>,
     pub ys: Vec<u16>,
@@ -19,35 +34,39 @@ pub struct Figure {
     columns: Vec<u32>,
 }
 
-/// Which of its coordinates an edge changes.
-fn changes(from: (u16, u16), to: (u16, u16)) -> (bool, bool) {
-    (from.0 != to.0, from.1 != to.1)
+/// The edges of a ring; the last corner joins the first.
+fn edges(ring: &[u16]) -> Vec<Edge> {
+    let points: Vec<(u16, u16)> = ring.chunks(2).map(|p| (p[0], p[1])).collect();
+    points.iter().zip(points.iter().cycle().skip(1)).map(|(&from, &to)| Edge { from, to }).collect()
 }
 
-/// The figure of a list of corners, or the refusal 2, 3 or 4, each over the whole list.
-pub fn figure(corners: &[u16]) -> Result<Figure, u32> {
-    if corners.len() % 2 == 1 || corners.len() < 8 || corners.len() > 64 {
-        return Err(2);
-    }
-    let points: Vec<(u16, u16)> = corners.chunks(2).map(|p| (p[0], p[1])).collect();
-    let next: Vec<(u16, u16)> = points.iter().cycle().skip(1).take(points.len()).copied().collect();
-    let edges: Vec<(bool, bool)> = points.iter().zip(&next).map(|(&p, &q)| changes(p, q)).collect();
-    if edges.iter().any(|&e| e == (true, true)) {
+/// 3 of one ring: an edge changes both coordinates.
+fn slanted(ring: &[Edge]) -> bool {
+    ring.iter().any(|edge| edge.changes() == (true, true))
+}
+
+/// 4 of one ring: an edge changes neither, or two neighbours (last and first too) the same one.
+fn unturned(ring: &[Edge]) -> bool {
+    ring.iter().any(|edge| edge.changes() == (false, false))
+        || ring.iter().zip(ring.iter().cycle().skip(1)).any(|(edge, next)| edge.changes() == next.changes())
+}
+
+/// The figure of a drawing, or the refusal 2, 3 or 4, each over all rings before the next.
+pub fn figure(drawing: &Drawing) -> Result<Figure, u32> {
+    let rings: Vec<Vec<Edge>> = drawing.apart()?.into_iter().map(edges).collect();
+    if rings.iter().any(|ring| slanted(ring)) {
         return Err(3);
     }
-    if edges.iter().any(|&e| e == (false, false)) {
+    if rings.iter().any(|ring| unturned(ring)) {
         return Err(4);
     }
-    if edges.iter().zip(edges.iter().cycle().skip(1)).any(|(e, f)| e == f) {
-        return Err(4);
-    }
-    let xs: BTreeSet<u16> = points.iter().map(|p| p.0).collect();
-    let ys: BTreeSet<u16> = points.iter().map(|p| p.1).collect();
-    let walls = points
+    let edges = rings.concat();
+    let xs: BTreeSet<u16> = edges.iter().map(|edge| edge.from.0).collect();
+    let ys: BTreeSet<u16> = edges.iter().map(|edge| edge.from.1).collect();
+    let walls = edges
         .iter()
-        .zip(&next)
-        .filter(|(p, q)| p.0 == q.0)
-        .map(|(p, q)| Wall { x: p.0, low: p.1.min(q.1), high: p.1.max(q.1) })
+        .filter(|edge| edge.from.0 == edge.to.0)
+        .map(|&Edge { from, to }| Wall { x: from.0, low: from.1.min(to.1), high: from.1.max(to.1) })
         .collect();
     let mut made = Figure {
         xs: xs.into_iter().collect(),
@@ -68,7 +87,7 @@ pub fn figure(corners: &[u16]) -> Result<Figure, u32> {
 
 impl Figure {
     /// Whether the unit square with its low corner at (x, y) is inside: a ray to the left from it
-    /// meets an odd number of vertical edges.
+    /// meets an odd number of vertical edges, whatever rings they are of.
     pub fn covers(&self, x: u16, y: u16) -> bool {
         self.walls.iter().filter(|w| w.x <= x && w.low <= y && y < w.high).count() % 2 == 1
     }

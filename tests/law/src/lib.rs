@@ -1,13 +1,15 @@
-//! Document 01 in plain Rust: what every call answers and what it leaves in lent memory.
+//! Document 01, with windows (document 02, Item 1), in plain Rust: what every call answers and what
+//! it leaves in lent memory.
 //!
-//! Written from the document alone, and built otherwise than the proved library, so that the two
+//! Written from the documents alone, and built otherwise than the proved library, so that the two
 //! can be held against each other: cells are judged by a ray at a unit square, kinds and exposed
 //! sides by scanning cells, costs by a memoised recursion from the frame down that keeps a tree of
 //! verdicts, and a job is read into a list of parts in one pass.
 //!
 //! | Module | Holds |
 //! |---|---|
-//! | `figure` | an outline's faults, its lines, which unit squares are inside |
+//! | `drawing` | corners and ring lengths as a call is handed them |
+//! | `figure` | a drawing's faults, its lines, which unit squares are inside |
 //! | `cutting` | costs, verdicts and shots of a figure |
 //! | `call` | the fracture calls, with lent memory |
 //! | `bytes` | numbers, jobs, unpacking, the writers |
@@ -18,10 +20,13 @@
 pub mod bytes;
 pub mod call;
 pub mod cutting;
+pub mod drawing;
 pub mod every;
 pub mod figure;
 pub mod nano;
 pub mod program;
+
+pub use drawing::Drawing;
 
 /// What a call of the C interface gives back: the refusal's number (0 on success) and the single
 /// numbers that it was lent, in the order of the header, zeros behind them.
@@ -44,28 +49,28 @@ impl Told {
 /// The calls of the C interface, as safe functions. Two implementations are compared through this.
 pub trait Calls {
     fn preset(&self, number: u32) -> Told;
-    fn fracture(&self, corners: &[u16], threshold: u32, weight: u32, table: &mut [u32], list: &mut [u16]) -> Told;
-    fn fracture_default(&self, corners: &[u16], table: &mut [u32], list: &mut [u16]) -> Told;
+    fn fracture(&self, drawing: &Drawing, threshold: u32, weight: u32, table: &mut [u32], list: &mut [u16]) -> Told;
+    fn fracture_default(&self, drawing: &Drawing, table: &mut [u32], list: &mut [u16]) -> Told;
     fn number(&self, bytes: &[u8], at: usize) -> Told;
     fn job_check(&self, job: &[u8]) -> Told;
     fn job_outline(&self, job: &[u8], k: usize) -> Told;
-    fn unpack(&self, part: &[u8], list: &mut [u16]) -> Told;
+    fn unpack(&self, part: &[u8], list: &mut [u16], rings: &mut [u16]) -> Told;
     fn write_header(&self, threshold: u32, weight: u32, outlines: u32, out: &mut [u8]) -> Told;
-    fn write_outline(&self, corners: &[u16], out: &mut [u8]) -> Told;
+    fn write_outline(&self, drawing: &Drawing, out: &mut [u8]) -> Told;
 }
 
-/// Document 01 itself.
+/// The documents themselves.
 pub struct Law;
 
 impl Calls for Law {
     fn preset(&self, number: u32) -> Told {
         call::preset(number)
     }
-    fn fracture(&self, corners: &[u16], threshold: u32, weight: u32, table: &mut [u32], list: &mut [u16]) -> Told {
-        call::fracture(corners, threshold, weight, table, list)
+    fn fracture(&self, drawing: &Drawing, threshold: u32, weight: u32, table: &mut [u32], list: &mut [u16]) -> Told {
+        call::fracture(drawing, threshold, weight, table, list)
     }
-    fn fracture_default(&self, corners: &[u16], table: &mut [u32], list: &mut [u16]) -> Told {
-        call::fracture(corners, call::PRESETS[0].0, call::PRESETS[0].1, table, list)
+    fn fracture_default(&self, drawing: &Drawing, table: &mut [u32], list: &mut [u16]) -> Told {
+        call::fracture(drawing, call::PRESETS[0].0, call::PRESETS[0].1, table, list)
     }
     fn number(&self, bytes: &[u8], at: usize) -> Told {
         bytes::told_number(bytes, at)
@@ -76,13 +81,13 @@ impl Calls for Law {
     fn job_outline(&self, job: &[u8], k: usize) -> Told {
         bytes::told_outline(job, k)
     }
-    fn unpack(&self, part: &[u8], list: &mut [u16]) -> Told {
-        bytes::told_unpack(part, list)
+    fn unpack(&self, part: &[u8], list: &mut [u16], rings: &mut [u16]) -> Told {
+        bytes::told_unpack(part, list, rings)
     }
     fn write_header(&self, threshold: u32, weight: u32, outlines: u32, out: &mut [u8]) -> Told {
         bytes::told_header(threshold, weight, outlines, out)
     }
-    fn write_outline(&self, corners: &[u16], out: &mut [u8]) -> Told {
-        bytes::told_written_outline(corners, out)
+    fn write_outline(&self, drawing: &Drawing, out: &mut [u8]) -> Told {
+        bytes::told_written_outline(drawing, out)
     }
 }

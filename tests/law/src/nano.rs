@@ -1,12 +1,13 @@
-//! The cost of a figure once more, nanometre by nanometre: a figure is a set of unit squares, a
-//! piece four places, an exposed stretch a unit edge. Only for small figures; it holds `cutting`
-//! to account.
+//! The cost of a figure once more, nanometre by nanometre: a ring holds a set of unit squares, a
+//! figure has those that an odd number of its rings hold, a piece is four places, an exposed stretch
+//! a unit edge. Only for small figures; it holds `cutting` to account.
 
+use crate::drawing::Drawing;
 use std::collections::HashMap;
 
 pub type Place = u16;
 
-/// The unit squares of an outline, by the odd count, from the raw corners.
+/// The unit squares of a figure, from the raw corners.
 pub struct Squares {
     side: usize,
     filled: Vec<bool>,
@@ -17,27 +18,41 @@ pub struct Squares {
 /// A piece by its places: x low, y low, x high, y high.
 pub type Span = [Place; 4];
 
-impl Squares {
-    /// Of an outline whose edges are sound.
-    pub fn new(corners: &[u16]) -> Squares {
-        let side = *corners.iter().max().unwrap() as usize + 1;
-        let mut filled = vec![false; side * side];
-        let count = corners.len() / 2;
-        for edge in 0..count {
-            let (x, y) = (corners[2 * edge], corners[2 * edge + 1]);
-            let next = (edge + 1) % count;
-            let (x_next, y_next) = (corners[2 * next], corners[2 * next + 1]);
-            if x == x_next {
-                // a vertical edge turns over every unit square to its right
-                for v in y.min(y_next)..y.max(y_next) {
-                    for u in x as usize..side {
-                        filled[u * side + v as usize] ^= true;
-                    }
+/// The unit squares that one ring holds by itself, of side x side: square (u, v) at u * side + v.
+fn held(ring: &[u16], side: usize) -> Vec<bool> {
+    let mut held = vec![false; side * side];
+    let count = ring.len() / 2;
+    for edge in 0..count {
+        let (x, y) = (ring[2 * edge], ring[2 * edge + 1]);
+        let next = (edge + 1) % count;
+        let (x_next, y_next) = (ring[2 * next], ring[2 * next + 1]);
+        if x == x_next {
+            // a vertical edge turns over every unit square to its right
+            for v in y.min(y_next)..y.max(y_next) {
+                for u in x as usize..side {
+                    held[u * side + v as usize] ^= true;
                 }
             }
         }
+    }
+    held
+}
+
+impl Squares {
+    /// Of a drawing whose edges are sound.
+    pub fn new(drawing: &Drawing) -> Squares {
+        let side = *drawing.corners.iter().max().unwrap() as usize + 1;
+        let mut holders = vec![0; side * side];
+        let mut from = 0;
+        for &length in &drawing.rings {
+            let to = from + 2 * length as usize;
+            let ring = held(&drawing.corners[from..to], side);
+            holders.iter_mut().zip(ring).for_each(|(count, held)| *count += held as usize);
+            from = to;
+        }
+        let filled = holders.into_iter().map(|count| count % 2 == 1).collect();
         let every = |from: usize| {
-            let mut places: Vec<Place> = corners.iter().skip(from).step_by(2).copied().collect();
+            let mut places: Vec<Place> = drawing.corners.iter().skip(from).step_by(2).copied().collect();
             places.sort();
             places.dedup();
             places

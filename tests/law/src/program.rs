@@ -15,8 +15,8 @@ pub fn printed(input: &[u8]) -> String {
     };
     writeln!(text, "job {}", job.outlines.len()).unwrap();
     let (mut table, mut list) = (vec![0; 14_400], vec![0; 4 * 225]);
-    for (k, (_, corners)) in job.outlines.iter().enumerate() {
-        let told = fracture(corners, job.threshold, job.weight, &mut table, &mut list);
+    for (k, (_, drawing)) in job.outlines.iter().enumerate() {
+        let told = fracture(drawing, job.threshold, job.weight, &mut table, &mut list);
         if told.number != 0 {
             writeln!(text, "outline {k} refused {}", told.number).unwrap();
             continue;

@@ -5,20 +5,20 @@
 
 #![allow(clippy::too_many_arguments)]
 
-use law::{Calls, Told};
+use law::{Calls, Drawing, Told};
 
 type Fractures = unsafe extern "C" fn(
-    *const u16, usize, u32, u32, *mut u32, usize, *mut u16, usize, *mut u32, *mut u32, *mut u32,
+    *const u16, usize, *const u16, usize, u32, u32, *mut u32, usize, *mut u16, usize, *mut u32, *mut u32, *mut u32,
 ) -> u32;
 
 extern "C" {
     fn baseline_fracture(
-        corners: *const u16, corners_len: usize, threshold: u32, weight: u32,
+        corners: *const u16, corners_len: usize, rings: *const u16, rings_len: usize, threshold: u32, weight: u32,
         table: *mut u32, table_len: usize, list: *mut u16, list_len: usize,
         shots: *mut u32, cost: *mut u32, sliver: *mut u32,
     ) -> u32;
     fn baseline_rows_fracture(
-        corners: *const u16, corners_len: usize, threshold: u32, weight: u32,
+        corners: *const u16, corners_len: usize, rings: *const u16, rings_len: usize, threshold: u32, weight: u32,
         table: *mut u32, table_len: usize, list: *mut u16, list_len: usize,
         shots: *mut u32, cost: *mut u32, sliver: *mut u32,
     ) -> u32;
@@ -29,12 +29,12 @@ mod pw {
     extern "C" {
         pub fn pw_preset(number: u32, threshold: *mut u32, weight: *mut u32) -> u32;
         pub fn pw_fracture(
-            corners: *const u16, corners_len: usize, threshold: u32, weight: u32,
+            corners: *const u16, corners_len: usize, rings: *const u16, rings_len: usize, threshold: u32, weight: u32,
             table: *mut u32, table_len: usize, list: *mut u16, list_len: usize,
             shots: *mut u32, cost: *mut u32, sliver: *mut u32,
         ) -> u32;
         pub fn pw_fracture_default(
-            corners: *const u16, corners_len: usize,
+            corners: *const u16, corners_len: usize, rings: *const u16, rings_len: usize,
             table: *mut u32, table_len: usize, list: *mut u16, list_len: usize,
             shots: *mut u32, cost: *mut u32, sliver: *mut u32,
         ) -> u32;
@@ -46,13 +46,15 @@ mod pw {
             job: *const u8, len: usize, k: usize, start: *mut usize, length: *mut usize, offset: *mut usize,
         ) -> u32;
         pub fn pw_unpack(
-            part: *const u8, len: usize, list: *mut u16, list_len: usize, corners: *mut u32, offset: *mut usize,
+            part: *const u8, len: usize, list: *mut u16, list_len: usize, rings: *mut u16, rings_len: usize,
+            corners: *mut u32, ring_count: *mut u32, offset: *mut usize,
         ) -> u32;
         pub fn pw_write_header(
             threshold: u32, weight: u32, outlines: u32, out: *mut u8, out_len: usize, written: *mut usize,
         ) -> u32;
         pub fn pw_write_outline(
-            corners: *const u16, corners_len: usize, out: *mut u8, out_len: usize, written: *mut usize,
+            corners: *const u16, corners_len: usize, rings: *const u16, rings_len: usize,
+            out: *mut u8, out_len: usize, written: *mut usize,
         ) -> u32;
     }
 }
@@ -62,13 +64,14 @@ const MARK: u32 = 0xdead_beef;
 const MARK_SIZE: usize = 0xdead_beef_dead_beef;
 
 fn fracture_by(
-    call: Fractures, corners: &[u16], threshold: u32, weight: u32, table: &mut [u32], list: &mut [u16],
+    call: Fractures, drawing: &Drawing, threshold: u32, weight: u32, table: &mut [u32], list: &mut [u16],
 ) -> Told {
     let (mut shots, mut cost, mut sliver) = (MARK, MARK, MARK);
     // The slices are valid for their lengths, and exclusive where they are written.
     let number = unsafe {
         call(
-            corners.as_ptr(), corners.len(), threshold, weight,
+            drawing.corners.as_ptr(), drawing.corners.len(), drawing.rings.as_ptr(), drawing.rings.len(),
+            threshold, weight,
             table.as_mut_ptr(), table.len(), list.as_mut_ptr(), list.len(),
             &mut shots, &mut cost, &mut sliver,
         )
@@ -77,13 +80,13 @@ fn fracture_by(
 }
 
 /// One fracture by the baseline that weighs horizontal cuts from each settled piece on.
-pub fn baseline_rows(corners: &[u16], threshold: u32, weight: u32, table: &mut [u32], list: &mut [u16]) -> Told {
-    fracture_by(baseline_rows_fracture, corners, threshold, weight, table, list)
+pub fn baseline_rows(drawing: &Drawing, threshold: u32, weight: u32, table: &mut [u32], list: &mut [u16]) -> Told {
+    fracture_by(baseline_rows_fracture, drawing, threshold, weight, table, list)
 }
 
 /// One fracture by the baseline that weighs them height by height.
-pub fn baseline(corners: &[u16], threshold: u32, weight: u32, table: &mut [u32], list: &mut [u16]) -> Told {
-    fracture_by(baseline_fracture, corners, threshold, weight, table, list)
+pub fn baseline(drawing: &Drawing, threshold: u32, weight: u32, table: &mut [u32], list: &mut [u16]) -> Told {
+    fracture_by(baseline_fracture, drawing, threshold, weight, table, list)
 }
 
 /// The proved library, if it is linked.
@@ -110,15 +113,15 @@ impl Calls for Library {
         Told { number, numbers: [threshold as u64, weight as u64, 0, 0] }
     }
 
-    fn fracture(&self, corners: &[u16], threshold: u32, weight: u32, table: &mut [u32], list: &mut [u16]) -> Told {
-        fracture_by(pw::pw_fracture, corners, threshold, weight, table, list)
+    fn fracture(&self, drawing: &Drawing, threshold: u32, weight: u32, table: &mut [u32], list: &mut [u16]) -> Told {
+        fracture_by(pw::pw_fracture, drawing, threshold, weight, table, list)
     }
 
-    fn fracture_default(&self, corners: &[u16], table: &mut [u32], list: &mut [u16]) -> Told {
+    fn fracture_default(&self, drawing: &Drawing, table: &mut [u32], list: &mut [u16]) -> Told {
         let (mut shots, mut cost, mut sliver) = (MARK, MARK, MARK);
         let number = unsafe {
             pw::pw_fracture_default(
-                corners.as_ptr(), corners.len(),
+                drawing.corners.as_ptr(), drawing.corners.len(), drawing.rings.as_ptr(), drawing.rings.len(),
                 table.as_mut_ptr(), table.len(), list.as_mut_ptr(), list.len(),
                 &mut shots, &mut cost, &mut sliver,
             )
@@ -145,12 +148,15 @@ impl Calls for Library {
         Told { number, numbers: [start as u64, length as u64, offset as u64, 0] }
     }
 
-    fn unpack(&self, part: &[u8], list: &mut [u16]) -> Told {
-        let (mut corners, mut offset) = (MARK, MARK_SIZE);
+    fn unpack(&self, part: &[u8], list: &mut [u16], rings: &mut [u16]) -> Told {
+        let (mut corners, mut ring_count, mut offset) = (MARK, MARK, MARK_SIZE);
         let number = unsafe {
-            pw::pw_unpack(part.as_ptr(), part.len(), list.as_mut_ptr(), list.len(), &mut corners, &mut offset)
+            pw::pw_unpack(
+                part.as_ptr(), part.len(), list.as_mut_ptr(), list.len(), rings.as_mut_ptr(), rings.len(),
+                &mut corners, &mut ring_count, &mut offset,
+            )
         };
-        Told { number, numbers: [corners as u64, offset as u64, 0, 0] }
+        Told { number, numbers: [corners as u64, ring_count as u64, offset as u64, 0] }
     }
 
     fn write_header(&self, threshold: u32, weight: u32, outlines: u32, out: &mut [u8]) -> Told {
@@ -160,10 +166,13 @@ impl Calls for Library {
         Told { number, numbers: [written as u64, 0, 0, 0] }
     }
 
-    fn write_outline(&self, corners: &[u16], out: &mut [u8]) -> Told {
+    fn write_outline(&self, drawing: &Drawing, out: &mut [u8]) -> Told {
         let mut written = MARK_SIZE;
         let number = unsafe {
-            pw::pw_write_outline(corners.as_ptr(), corners.len(), out.as_mut_ptr(), out.len(), &mut written)
+            pw::pw_write_outline(
+                drawing.corners.as_ptr(), drawing.corners.len(), drawing.rings.as_ptr(), drawing.rings.len(),
+                out.as_mut_ptr(), out.len(), &mut written,
+            )
         };
         Told { number, numbers: [written as u64, 0, 0, 0] }
     }

@@ -22,14 +22,26 @@ refusal-no-requires c κs = search needs
 same-length : tie.Need-same-length
 same-length c = search needs
 
-returns : tie.Need-returns
-returns c = told-as (λ u. unpackTold u (c .before .before .before .before .before .unpack .last .1 .0)) (c .before .v .given .1) (c .before .before .before .before .before .unpack .ensures)
-
 same-length-2 : tie.Need-same-length-2
 same-length-2 c = search needs
 
+returns : tie.Need-returns
+returns c =
+    let u = c .before .before .before .before .before .before .before in
+    told-as (λ t. unpackTold t (u .unpack .last .1 .0) (u .unpack .last .1 .1 .0)) (c .before .v .given .1) (u .unpack .ensures)
+
+same-length-3 : tie.Need-same-length-3
+same-length-3 c = search needs
+
+same-length-4 : tie.Need-same-length-4
+same-length-4 c = search needs
+
 returns-2 : tie.Need-returns-2
-returns-2 c = renumbered (λ n. unpackLent n 0 (c .before .before .r .given .0 .1 .0) (c .before .before .before .before .before .before .unpack .last .1 .0)) (c .refusal-no .ensures) (told-as (λ u. unpackTold u (c .before .before .before .before .before .before .unpack .last .1 .0)) (c .before .before .r .given .1) (c .before .before .before .before .before .before .unpack .ensures))
+returns-2 c =
+    let r = c .before .before in
+    let u = r .before .before .before .before .before .before in
+    renumbered (λ n. unpackLent n 0 0 (r .r .given .0 .1 .0) (u .unpack .last .1 .0) (u .unpack .last .1 .1 .0)) (c .refusal-no .ensures)
+    (told-as (λ t. unpackTold t (u .unpack .last .1 .0) (u .unpack .last .1 .1 .0)) (r .r .given .1) (u .unpack .ensures))
 
 pub pw-unpack-spec : {M : Type 1} → statement M
 pw-unpack-spec =
@@ -40,6 +52,8 @@ pw-unpack-spec =
     enum-known-r
     refusal-no-requires
     same-length
-    returns
     same-length-2
+    returns
+    same-length-3
+    same-length-4
     returns-2)

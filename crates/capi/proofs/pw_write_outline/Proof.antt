@@ -23,13 +23,13 @@ same-length : tie.Need-same-length
 same-length c = search needs
 
 returns : tie.Need-returns
-returns c = told-as (λ u. writeTold u (c .before .before .before .before .before .write-outline .last .1 .0)) (c .before .size .given .1) (c .before .before .before .before .before .write-outline .ensures)
+returns c = told-as (λ u. writeTold u (c .before .before .before .before .before .write-outline .last .1 .1 .0)) (c .before .size .given .1) (c .before .before .before .before .before .write-outline .ensures)
 
 same-length-2 : tie.Need-same-length-2
 same-length-2 c = search needs
 
 returns-2 : tie.Need-returns-2
-returns-2 c = renumbered (λ n. writeLent n 0 (c .before .before .before .before .before .before .write-outline .last .1 .0)) (c .refusal-no .ensures) (told-as (λ u. writeTold u (c .before .before .before .before .before .before .write-outline .last .1 .0)) (c .before .before .why .given .1) (c .before .before .before .before .before .before .write-outline .ensures))
+returns-2 c = renumbered (λ n. writeLent n 0 (c .before .before .before .before .before .before .write-outline .last .1 .1 .0)) (c .refusal-no .ensures) (told-as (λ u. writeTold u (c .before .before .before .before .before .before .write-outline .last .1 .1 .0)) (c .before .before .why .given .1) (c .before .before .before .before .before .before .write-outline .ensures))
 
 pub pw-write-outline-spec : {M : Type 1} → statement M
 pw-write-outline-spec =

@@ -8,7 +8,7 @@ use Rattle.fracture.proofs.fracture.Statement.{statement}
 use Rattle.fracture.proofs.fracture.Tie as tie
 
 -- the rule that was made is that of the two numbers
-made : (c : tie.After-rule) → given (c .rule .given .0 .0) ≡ ruleTold (c .before .before .before .before .before .before .args .threshold) (c .before .before .before .before .before .before .args .weight)
+made : (c : tie.After-rule) → given (c .rule .given .0 .0) ≡ ruleTold (c .before .before .before .before .before .before .before .args .threshold) (c .before .before .before .before .before .before .before .args .weight)
 made c = sym (ap madeTold (c .rule .given .1)) ∙ c .before .before .new .ensures
 
 new-requires : tie.Need-new-requires
@@ -30,10 +30,10 @@ same-length-2 : tie.Need-same-length-2
 same-length-2 c = search needs
 
 returns : tie.Need-returns
-returns c = c .before .before .before .before .fracture-by .ensures ∙ rule-outcome (asked _ _ _ _ _) (made (c .before .before .before .before .before .before .before .before))
+returns c = c .before .before .before .before .fracture-by .ensures ∙ rule-outcome (asked _ _ _ _ _ _) (made (c .before .before .before .before .before .before .before .before))
 
 returns-2 : tie.Need-returns-2
-returns-2 c = told-rule (asked _ _ _ _ _) (c .before .why .given .0 .0) (sym (ap madeTold (c .before .why .given .1)) ∙ c .before .before .before .new .ensures)
+returns-2 c = told-rule (asked _ _ _ _ _ _) (c .before .why .given .0 .0) (sym (ap madeTold (c .before .why .given .1)) ∙ c .before .before .before .new .ensures)
 
 pub fracture-spec : {M : Type 1} → statement M
 fracture-spec =

@@ -11,7 +11,7 @@ use Rattle.fracture.proofs.fracture_by.Tie as tie
 
 -- the drawing is accepted, so there is no refusal
 accepted : (c : tie.After-enum-told)
-    → refusal (figure (c .before .before .before .before .before .before .before .before .before .args .corners .now)) ≡ 0
+    → (let s = c .before .before .before .before .before .before .before .before .before .before in refusal (figure (s .args .corners .now) (s .args .lengths .now)) ≡ 0)
 unfolding sheet
 accepted c = answered _ (sheet _ _ _ _) (c .before .before .draw .ensures) _ (c .enum-told .given .1)
 
@@ -38,7 +38,7 @@ unfolding sheet
 fracture-grid-requires c κs =
     let t = c .before .before .before .before .before in
     let d = t .before .before in
-    let s = d .before .before .before .before .before .before .before in
+    let s = d .before .before .before .before .before .before .before .before in
     record {
       grid = _;
       laid = laid-drawing _ (sheet _ _ _ _) (d .draw .ensures) (accepted t);
@@ -60,10 +60,10 @@ returns c =
     let f = c .before .before .before .before in
     let t = f .before .before .before .before .before .before in
     let d = t .before .before in
-    let s = d .before .before .before .before .before .before .before in
+    let s = d .before .before .before .before .before .before .before .before in
     let h = accepted t in
     f .fracture-grid .ensures _ (laid-drawing _ (sheet _ _ _ _) (d .draw .ensures) h)
-    ∙ told-grid (figure (s .args .corners .now)) (s .args .rule) (s .args .table .now) (s .args .list .now) h
+    ∙ told-grid (figure (s .args .corners .now) (s .args .lengths .now)) (s .args .rule) (s .args .table .now) (s .args .list .now) h
 
 returns-2 : tie.Need-returns-2
 unfolding sheet

@@ -24,7 +24,7 @@ unfolding sheet
 returns c =
     let d = c .before .before .before .before .before in
     let t = d .before .before .before in
-    let s = t .before .before .before .before .before .before .before .before in
+    let s = t .before .before .before .before .before .before .before .before .before in
     promise-empty _ (s .before .pre) (λ i. omega (arith, s .shared-slice-known .given i)) (sheet _ _ _ _) (t .trace .ensures) _ (d .any-inside .ensures)
     (not-true _ (c .before .before .before .before .if1 .taken))
     _
@@ -34,7 +34,7 @@ returns-2 : tie.Need-returns-2
 unfolding sheet
 returns-2 c =
     let t = c .before .before .before .before in
-    let s = t .before .before .before .before .before .before .before .before in
+    let s = t .before .before .before .before .before .before .before .before .before in
     promise-accepted _ (s .before .pre) (λ i. omega (arith, s .shared-slice-known .given i)) (sheet _ _ _ _) (t .trace .ensures) _ (c .before .any-inside .ensures)
     (not-false _ (c .if1 .left))
 

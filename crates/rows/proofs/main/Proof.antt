@@ -1,41 +1,34 @@
--- `main` is safe. Assumes nothing.
+-- `main` is safe and ends: the measure is what is left of its range. Assumes nothing.
 use borrow.Author.Needs.{needs}
+use Prim.Native.Nat.{_-_}
 use Rattle.rows.proofs.main.Statement.{statement}
 use Rattle.rows.proofs.main.Tie as tie
 
-report-requires : tie.Need-report-requires
+abbrev Inv-loop : tie.InvT-loop
+Inv-loop sort₀ sort = Unit {0}
+
+abbrev μ-loop : tie.MeasureT-loop
+μ-loop sort₀ sort = 13 - sort
+
+loop-holds : tie.Need-loop-holds Inv-loop μ-loop
+loop-holds c = search needs
+
+report-requires : tie.Need-report-requires Inv-loop μ-loop
 report-requires c κs = search needs
 
-report-requires-2 : tie.Need-report-requires-2
-report-requires-2 c κs = search needs
+add-sort : tie.Need-add-sort Inv-loop μ-loop
+add-sort c = search needs
 
-report-requires-3 : tie.Need-report-requires-3
-report-requires-3 c κs = search needs
+loop-less : tie.Need-loop-less Inv-loop μ-loop
+loop-less c = search needs
 
-report-requires-4 : tie.Need-report-requires-4
-report-requires-4 c κs = search needs
+loop-again : tie.Need-loop-again Inv-loop μ-loop
+loop-again c = search needs
 
-report-requires-5 : tie.Need-report-requires-5
-report-requires-5 c κs = search needs
-
-report-requires-6 : tie.Need-report-requires-6
-report-requires-6 c κs = search needs
-
-report-requires-7 : tie.Need-report-requires-7
-report-requires-7 c κs = search needs
-
-returns : tie.Need-returns
+returns : tie.Need-returns Inv-loop μ-loop
 returns c = search needs
 
 pub main-spec : {M : Type 1} → statement M
 main-spec =
     tie.close
-    (tie.spec
-    report-requires
-    report-requires-2
-    report-requires-3
-    report-requires-4
-    report-requires-5
-    report-requires-6
-    report-requires-7
-    returns)
+    (tie.spec Inv-loop μ-loop loop-holds report-requires add-sort loop-less loop-again returns)

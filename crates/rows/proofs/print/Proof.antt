@@ -8,7 +8,7 @@ abbrev Inv-loop : tie.InvT-loop
 Inv-loop line numbers here₀ next₀ i₀ here next i = Unit {0}
 
 abbrev μ-loop : tie.MeasureT-loop
-μ-loop line numbers here₀ next₀ i₀ here next i = 600 - i
+μ-loop line numbers here₀ next₀ i₀ here next i = 1000 - i
 
 loop-holds : tie.Need-loop-holds Inv-loop μ-loop
 loop-holds c = search needs

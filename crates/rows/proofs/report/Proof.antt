@@ -5,10 +5,16 @@ use Rattle.rows.proofs.report.Statement.{statement}
 use Rattle.rows.proofs.report.Tie as tie
 
 abbrev Inv-loop : tie.InvT-loop
-Inv-loop sort count fractured₀ shots₀ different₀ k₀ fractured shots different k = Unit {0}
+Inv-loop sort first past fractured₀ shots₀ different₀ k₀ fractured shots different k = Unit {0}
 
 abbrev μ-loop : tie.MeasureT-loop
-μ-loop sort count fractured₀ shots₀ different₀ k₀ fractured shots different k = count - k
+μ-loop sort first past fractured₀ shots₀ different₀ k₀ fractured shots different k = past - k
+
+first-requires : tie.Need-first-requires Inv-loop μ-loop
+first-requires c κs = search needs
+
+past-requires : tie.Need-past-requires Inv-loop μ-loop
+past-requires c κs = search needs
 
 loop-holds : tie.Need-loop-holds Inv-loop μ-loop
 loop-holds c = search needs
@@ -40,6 +46,9 @@ loop-less c = search needs
 loop-again : tie.Need-loop-again Inv-loop μ-loop
 loop-again c = search needs
 
+gap-requires : tie.Need-gap-requires Inv-loop μ-loop
+gap-requires c κs = search needs
+
 sum-requires-4 : tie.Need-sum-requires-4 Inv-loop μ-loop
 sum-requires-4 c κs = search needs
 
@@ -55,6 +64,8 @@ report-spec =
     (tie.spec
     Inv-loop
     μ-loop
+    first-requires
+    past-requires
     loop-holds
     run-requires
     cast-sum
@@ -65,6 +76,7 @@ report-spec =
     add-k
     loop-less
     loop-again
+    gap-requires
     sum-requires-4
     print-requires
     returns)

@@ -12,17 +12,8 @@ slice-aggregate-text c = search needs
 text-requires : tie.Need-text-requires
 text-requires c κs = search needs
 
-slice-aggregate-numbers : tie.Need-slice-aggregate-numbers
-slice-aggregate-numbers c = search needs
-
 numbers-requires : tie.Need-numbers-requires
 numbers-requires c κs = search needs
-
-slice-aggregate-draw : tie.Need-slice-aggregate-draw
-slice-aggregate-draw c = search needs
-
-draw-requires : tie.Need-draw-requires
-draw-requires c κs = search needs
 
 slice-aggregate-text-2 : tie.Need-slice-aggregate-text-2
 slice-aggregate-text-2 c = search needs
@@ -30,15 +21,11 @@ slice-aggregate-text-2 c = search needs
 text-requires-2 : tie.Need-text-requires-2
 text-requires-2 c κs = search needs
 
-slice-aggregate-numbers-2 : tie.Need-slice-aggregate-numbers-2
-unfolding sheet
-slice-aggregate-numbers-2 c = sym (drawing-lengths _ (sheet _ _ _ _) (c .before .before .before .before .before .draw .ensures) .xs-length)
-
-add-numbers : tie.Need-add-numbers
-add-numbers c = search needs
-
 numbers-requires-2 : tie.Need-numbers-requires-2
 numbers-requires-2 c κs = search needs
+
+draw-requires : tie.Need-draw-requires
+draw-requires c κs = search needs
 
 slice-aggregate-text-3 : tie.Need-slice-aggregate-text-3
 slice-aggregate-text-3 c = search needs
@@ -46,15 +33,31 @@ slice-aggregate-text-3 c = search needs
 text-requires-3 : tie.Need-text-requires-3
 text-requires-3 c κs = search needs
 
-slice-aggregate-numbers-3 : tie.Need-slice-aggregate-numbers-3
+slice-aggregate-numbers : tie.Need-slice-aggregate-numbers
 unfolding sheet
-slice-aggregate-numbers-3 c = sym (drawing-lengths _ (sheet _ _ _ _) (c .before .before .before .before .before .before .before .draw .ensures) .ys-length)
+slice-aggregate-numbers c = sym (drawing-lengths _ (sheet _ _ _ _) (c .before .before .before .before .before .draw .ensures) .xs-length)
+
+add-numbers : tie.Need-add-numbers
+add-numbers c = search needs
+
+numbers-requires-3 : tie.Need-numbers-requires-3
+numbers-requires-3 c κs = search needs
+
+slice-aggregate-text-4 : tie.Need-slice-aggregate-text-4
+slice-aggregate-text-4 c = search needs
+
+text-requires-4 : tie.Need-text-requires-4
+text-requires-4 c κs = search needs
+
+slice-aggregate-numbers-2 : tie.Need-slice-aggregate-numbers-2
+unfolding sheet
+slice-aggregate-numbers-2 c = sym (drawing-lengths _ (sheet _ _ _ _) (c .before .before .before .before .before .before .before .draw .ensures) .ys-length)
 
 add-numbers-2 : tie.Need-add-numbers-2
 add-numbers-2 c = search needs
 
-numbers-requires-3 : tie.Need-numbers-requires-3
-numbers-requires-3 c κs = search needs
+numbers-requires-4 : tie.Need-numbers-requires-4
+numbers-requires-4 c κs = search needs
 
 slice-aggregate-rows : tie.Need-slice-aggregate-rows
 unfolding sheet
@@ -72,20 +75,21 @@ grid-spec =
     (tie.spec
     slice-aggregate-text
     text-requires
-    slice-aggregate-numbers
     numbers-requires
-    slice-aggregate-draw
-    draw-requires
     slice-aggregate-text-2
     text-requires-2
-    slice-aggregate-numbers-2
-    add-numbers
     numbers-requires-2
+    draw-requires
     slice-aggregate-text-3
     text-requires-3
-    slice-aggregate-numbers-3
-    add-numbers-2
+    slice-aggregate-numbers
+    add-numbers
     numbers-requires-3
+    slice-aggregate-text-4
+    text-requires-4
+    slice-aggregate-numbers-2
+    add-numbers-2
+    numbers-requires-4
     slice-aggregate-rows
     rows-requires
     returns)

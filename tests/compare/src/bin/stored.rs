@@ -1,20 +1,26 @@
 //! Writes the stored runs of the job program: for each a file NAME.in with its standard input, and
-//! NAME.out with what document 01 has it print. The runs are kept in tests/stored, and the gate holds
+//! NAME.out with what the documents have it print. The runs are kept in tests/stored, and the gate holds
 //! those files to what this program writes, and the job program to them.
 //!
 //!     stored DIR
 
-use drawings::document::{B, JOB, L, PRINTED};
+use drawings::document::{
+    ring_faults, B, EIGHT, FRAMED, FRAMED_JOB, FRAMED_PRINTED, FRAMED_PRINTED_AT_40, JOB, L, PRINTED,
+};
 use drawings::jobs::small;
-use drawings::outlines;
 use drawings::seeded::Seeded;
+use drawings::{figures, outlines};
 use law::bytes::{header, written_outline};
 use law::program::printed;
+use law::Drawing;
 
-fn job(threshold: u32, weight: u32, outlines: &[Vec<u16>]) -> Vec<u8> {
+/// A stored run: its name and its standard input.
+type Run = (String, Vec<u8>);
+
+fn job(threshold: u32, weight: u32, outlines: &[Drawing]) -> Vec<u8> {
     let mut bytes = header(threshold, weight, outlines.len() as u32);
-    for corners in outlines {
-        bytes.extend(written_outline(corners));
+    for drawing in outlines {
+        bytes.extend(written_outline(drawing));
     }
     bytes
 }
@@ -24,16 +30,16 @@ fn job(threshold: u32, weight: u32, outlines: &[Vec<u16>]) -> Vec<u8> {
 /// is refused.
 fn sized(total: usize) -> Vec<u8> {
     let mut s = Seeded::new(4096);
-    let mut list: Vec<Vec<u16>> = (0..250).map(|_| small(&mut s)).collect();
+    let mut list: Vec<Drawing> = (0..250).map(|_| small(&mut s)).collect();
     let mut more = total - job(25, 40, &list).len();
-    for corners in list.iter_mut().skip(1) {
+    for drawing in list.iter_mut().skip(1) {
         let bytes = if more >= 8 { 2 } else { more / 4 };
         let wide = |place: u16| [place, place + 1000, place + 20_000][bytes];
-        let (x, y) = (wide(corners[2]), wide(corners[5]));
-        *corners = vec![0, 0, x, 0, x, y, 0, y];
+        let (x, y) = (wide(drawing.corners[2]), wide(drawing.corners[5]));
+        *drawing = Drawing::outline(&[0, 0, x, 0, x, y, 0, y]);
         more -= 4 * bytes;
     }
-    for place in list[0].iter_mut().rev().take(more) {
+    for place in list[0].corners.iter_mut().rev().take(more) {
         *place += 300;
     }
     let bytes = job(25, 40, &list);
@@ -41,23 +47,25 @@ fn sized(total: usize) -> Vec<u8> {
     bytes
 }
 
-fn main() {
-    let folder = std::env::args().nth(1).expect("stored DIR");
-    std::fs::create_dir_all(&folder).unwrap();
+const SLANTED: [u16; 8] = [0, 0, 10, 0, 10, 10, 5, 5];
+const STRAIGHT: [u16; 10] = [0, 0, 10, 0, 20, 0, 20, 10, 0, 10];
+
+/// Runs of outlines: document 01.
+fn outline_runs() -> Vec<Run> {
     let mut s = Seeded::new(7);
-    let many: Vec<Vec<u16>> = (0..255).map(|_| small(&mut s)).collect();
-    let sorts: Vec<Vec<u16>> = (0..10).map(|sort| outlines::of_sort(&mut s, sort)).collect();
+    let many: Vec<Drawing> = (0..255).map(|_| small(&mut s)).collect();
+    let sorts: Vec<Drawing> = (0..10).map(|sort| outlines::of_sort(&mut s, sort)).collect();
     let mut long = sized(4096);
     long.push(0);
-    let slanted = vec![0, 0, 10, 0, 10, 10, 5, 5];
-    let straight = vec![0, 0, 10, 0, 20, 0, 20, 10, 0, 10];
-    let twice = vec![0, 0, 1, 0, 1, 1, 0, 1, 0, 0, 1, 0, 1, 1, 0, 1];
-    let runs: Vec<(&str, Vec<u8>)> = vec![
+    let (l, b) = (Drawing::outline(&L), Drawing::outline(&B));
+    let (slanted, straight) = (Drawing::outline(&SLANTED), Drawing::outline(&STRAIGHT));
+    let twice = Drawing::outline(&[0, 0, 1, 0, 1, 1, 0, 1, 0, 0, 1, 0, 1, 1, 0, 1]);
+    let runs = vec![
         ("worked", JOB.to_vec()),
         ("no-outlines", job(25, 40, &[])),
-        ("refused-outlines", job(25, 40, &[L.to_vec(), slanted, straight, twice, B.to_vec()])),
+        ("refused-outlines", job(25, 40, &[l.clone(), slanted, straight, twice, b.clone()])),
         ("sorts", job(30, 100, &sorts)),
-        ("limits-of-the-rule", job(1000, 1000, &[L.to_vec(), B.to_vec()])),
+        ("limits-of-the-rule", job(1000, 1000, &[l, b])),
         ("255-outlines", job(50, 20, &many)),
         ("4096-bytes", sized(4096)),
         ("4097-bytes-refused-12", long),
@@ -72,10 +80,61 @@ fn main() {
         ("coordinate-65536-refused-10", vec![0x19, 0x28, 0x01, 0x04, 0x80, 0x80, 0x04, 0, 1, 0, 1, 1, 0, 1]),
         ("byte-behind-refused-11", [&JOB[..], &[0]].concat()),
     ];
+    runs.into_iter().map(|(name, input)| (name.to_string(), input)).collect()
+}
+
+/// Runs of figures with several rings: document 02, Item 1.
+fn ring_runs() -> Vec<Run> {
+    let mut s = Seeded::new(8);
+    let sorts: Vec<Drawing> = (0..figures::SORTS.len()).map(|sort| figures::of_sort(&mut s, sort)).collect();
+    let (frame, window) = FRAMED.split_at(8);
+    let at_40 = [&[0x28][..], &FRAMED_JOB[1..]].concat();
+    let touching = Drawing::of(&[[0, 0, 10, 0, 10, 10, 0, 10], [10, 0, 20, 0, 20, 10, 10, 10]]);
+    let eight = Drawing { corners: EIGHT.to_vec(), rings: vec![4; 8] };
+    let refused = [
+        Drawing::of(&[frame, frame]),
+        Drawing::of(&[&STRAIGHT[..], &SLANTED]),
+        Drawing::of(&[&SLANTED[..], &STRAIGHT]),
+        Drawing::of(&[frame, &STRAIGHT]),
+        Drawing { corners: vec![0; 64], rings: vec![28, 4] },
+        Drawing { corners: (0..32).collect(), rings: vec![7, 9] },
+        Drawing::of(&[frame, window]),
+    ];
+    let mut runs = vec![
+        ("frame-with-a-window".to_string(), FRAMED_JOB.to_vec()),
+        ("frame-with-a-window-at-40".to_string(), at_40),
+        ("window-and-frame".to_string(), job(25, 40, &[Drawing::of(&[window, frame])])),
+        ("touching-squares".to_string(), job(25, 40, &[touching])),
+        ("eight-squares".to_string(), job(25, 40, &[eight])),
+        ("refused-rings".to_string(), job(25, 40, &refused)),
+        ("sorts-of-rings".to_string(), job(30, 100, &sorts)),
+    ];
+    for (name, behind, number, _) in ring_faults() {
+        runs.push((format!("{name}-refused-{number}"), [&JOB[..3], &behind].concat()));
+    }
+    runs
+}
+
+/// What is printed of the worked examples, word for word: none of it comes from `law`.
+fn worked(name: &str) -> Option<&'static str> {
+    match name {
+        "worked" => Some(PRINTED),
+        "frame-with-a-window" | "window-and-frame" => Some(FRAMED_PRINTED),
+        "frame-with-a-window-at-40" => Some(FRAMED_PRINTED_AT_40),
+        // one shot of 20 by 10, below 25 both ways: 10 + 10 + 20 + 20 nm of sliver
+        "touching-squares" => Some("job 1\noutline 0 shots 1 cost 3400 sliver 60\n0 0 20 10\n"),
+        _ => None,
+    }
+}
+
+fn main() {
+    let folder = std::env::args().nth(1).expect("stored DIR");
+    std::fs::create_dir_all(&folder).unwrap();
+    let runs = [outline_runs(), ring_runs()].concat();
     for (name, input) in &runs {
         let text = printed(input);
-        if *name == "worked" {
-            assert_eq!(text, PRINTED);
+        if let Some(right) = worked(name) {
+            assert_eq!(text, right, "{name}");
         }
         std::fs::write(format!("{folder}/{name}.in"), input).unwrap();
         std::fs::write(format!("{folder}/{name}.out"), text).unwrap();

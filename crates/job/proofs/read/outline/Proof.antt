@@ -1,49 +1,61 @@
--- `outline` meets its contract: by its V, and then by its coordinates. Assumes nothing.
-use mathlib.Core.Path.{_∙_, sym, ap}
-use native.Mathlib.Omega.{arith}
+-- `outline` meets its contract: by how many rings it has, and then by the rings. Assumes nothing.
+use mathlib.Core.Path.{ap}
+use borrow.Author.Needs.{needs}
 use Rattle.number.specs.Number.{readTold}
 use Rattle.number.specs.Reading.{past}
-use Rattle.figure.specs.Figure.{mostCorners}
 use Rattle.refusal.proofs.Refusals.{told-as}
-use Rattle.job.proofs.Job.{value-read, outline-fault, outline-go}
-use borrow.Author.Needs.{needs}
+use Rattle.job.proofs.Job.{outline-fault, outline-rings, outline-past}
 use Rattle.job.proofs.read.outline.Statement.{statement}
 use Rattle.job.proofs.read.outline.Tie as tie
 
-value-requires : tie.Need-value-requires
-value-requires c κs = search needs
+begin-requires : tie.Need-begin-requires
+begin-requires c κs = search needs
 
 enum-known-r : tie.Need-enum-known-r
 enum-known-r c = search needs
 
-enum-known-v : tie.Need-enum-known-v
-enum-known-v c = search needs
+enum-known-count : tie.Need-enum-known-count
+enum-known-count c = search needs
 
-mul-coordinates : tie.Need-mul-coordinates
-mul-coordinates c =
-    let m = c .before in
-    omega (arith, value-read _ 4 mostCorners _ (sym (told-as readTold (m .v .given .1) (m .before .before .value .ensures))) .2)
+rings-requires : tie.Need-rings-requires
+rings-requires c κs = search needs
 
-coordinates-requires : tie.Need-coordinates-requires
-coordinates-requires c κs = search needs
+enum-known-r-2 : tie.Need-enum-known-r-2
+enum-known-r-2 c = search needs
+
+enum-known-end : tie.Need-enum-known-end
+enum-known-end c = search needs
 
 returns : tie.Need-returns
-returns c =
-    let m = c .before in ap past (outline-fault _ _ (told-as readTold (m .r .given .1) (m .before .before .value .ensures)))
+returns c = let m = c .before in ap past (outline-fault _ _ (told-as readTold (m .r .given .1) (m .before .before .begin .ensures)))
 
 returns-2 : tie.Need-returns-2
 returns-2 c =
-    let m = c .before .before in
-    c .coordinates .ensures ∙ ap past (outline-go _ _ (told-as readTold (m .v .given .1) (m .before .before .value .ensures)))
+    let e = c .before in
+    let m = e .before .before .before .before in
+    ap past
+    (outline-rings _ _
+    (told-as readTold (m .count .given .1) (m .before .before .begin .ensures))
+    (told-as readTold (e .r2 .given .1) (e .before .before .rings .ensures)))
+
+returns-3 : tie.Need-returns-3
+returns-3 c =
+    let e = c .before in
+    let m = e .before .before .before .before in
+    outline-past _ _
+    (told-as readTold (m .count .given .1) (m .before .before .begin .ensures))
+    (told-as readTold (e .end .given .1) (e .before .before .rings .ensures))
 
 pub outline-spec : {M : Type 1} → statement M
 outline-spec =
     tie.close
     (tie.spec
-    value-requires
+    begin-requires
     enum-known-r
-    enum-known-v
-    mul-coordinates
-    coordinates-requires
+    enum-known-count
+    rings-requires
+    enum-known-r-2
+    enum-known-end
     returns
-    returns-2)
+    returns-2
+    returns-3)

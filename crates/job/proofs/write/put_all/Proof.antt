@@ -7,7 +7,7 @@ use borrow.Author.Needs.{needs}
 use lib.ListN.{length, drop}
 use lib.Seq.{sets, length-sets}
 use Rattle.job.specs.Bytes.{coordinateBytes}
-use Rattle.job.proofs.Writing.{put-more, put-room, put-done}
+use Rattle.job.proofs.Writing.{coordinates-done, put-more, put-room, put-done}
 use Rattle.job.proofs.write.put_all.Statement.{statement}
 use Rattle.job.proofs.write.put_all.Tie as tie
 
@@ -63,7 +63,11 @@ same-length c = search needs
 
 returns : tie.Need-returns Inv-loop μ-loop
 returns c =
-    let l = c .before in put-done (l .before .before .before .args .corners .now) _ (l .loop .i) _ _ (l .loop .inv .3) (omega arith)
+    let l = c .before in
+    let corners : List ℕ = l .before .before .before .args .corners .now in (
+      omega (arith, l .loop .inv .2, ap length (coordinates-done corners (l .loop .i) (omega arith))),
+      put-done corners _ (l .loop .i) _ _ (l .loop .inv .3) (omega arith),
+    )
 
 pub put-all-spec : {M : Type 1} → statement M
 put-all-spec =

@@ -1,4 +1,4 @@
--- `sizes` meets its contract: the bytes counted and those of the coordinates still to come are all. Assumes nothing.
+-- `sizes` meets its contract: the bytes counted and those of the numbers still to come are all. Assumes nothing.
 use Prim.Native.Nat.{ℕ, _+_, _-_, _*_, _≤_}
 use mathlib.Core.Path.{_≡_, ap}
 use mathlib.Core.List.{List}
@@ -11,13 +11,13 @@ use Rattle.job.proofs.write.sizes.Statement.{statement}
 use Rattle.job.proofs.write.sizes.Tie as tie
 
 abbrev Inv-loop : tie.InvT-loop
-Inv-loop corners total₀ i₀ total i =
-    (i ≤ length corners)
-    × (total + length (coordinateBytes (drop i corners)) ≡ length (coordinateBytes corners))
+Inv-loop numbers total₀ i₀ total i =
+    (i ≤ length numbers)
+    × (total + length (coordinateBytes (drop i numbers)) ≡ length (coordinateBytes numbers))
     × (total ≤ 3 * i)
 
 abbrev μ-loop : tie.MeasureT-loop
-μ-loop corners total₀ i₀ total i = length corners - i
+μ-loop numbers total₀ i₀ total i = length numbers - i
 
 loop-holds : tie.Need-loop-holds Inv-loop μ-loop
 loop-holds c = (omega arith, omega arith, omega arith)
@@ -46,14 +46,14 @@ loop-less c = search needs
 loop-again : tie.Need-loop-again Inv-loop μ-loop
 loop-again c =
     let l = c .before .before .before .before in
-    let corners : List ℕ = l .before .before .args .corners .now in (
+    let numbers : List ℕ = l .before .before .args .numbers .now in (
       omega arith,
-      sizes-more corners (l .loop .i) _ _ _ _ (c .before .wide .ensures) (c .size .ensures .0) (l .loop .inv .1) (omega arith),
+      sizes-more numbers (l .loop .i) _ _ _ _ (c .before .wide .ensures) (c .size .ensures .0) (l .loop .inv .1) (omega arith),
       omega arith,
     )
 
 returns : tie.Need-returns Inv-loop μ-loop
-returns c = omega (arith, ap length (coordinates-done (c .before .before .before .args .corners .now) (c .before .loop .i) (omega arith)))
+returns c = omega (arith, ap length (coordinates-done (c .before .before .before .args .numbers .now) (c .before .loop .i) (omega arith)))
 
 pub sizes-spec : {M : Type 1} → statement M
 sizes-spec =

@@ -1,72 +1,98 @@
 -- `write_outline` meets its contract: each exit is a case of `outlineWritten`. Assumes nothing.
-use mathlib.Core.Path.{sym, _∙_}
+use mathlib.Core.Path.{sym, _∙_, ap}
 use native.Mathlib.Omega.{arith}
-use Rattle.figure.proofs.Fault.{length-good}
-use Rattle.job.proofs.Writing.{outline-bad, outline-room, outline-fits, outline-put}
+use lib.ListN.{length}
+use lib.Seq.{length-sets}
 use borrow.Author.Needs.{needs}
+use Rattle.figure.proofs.Fault.{rings-good}
+use Rattle.job.proofs.Writing.{rings-length, outline-bad, outline-room, outline-fits}
 use Rattle.job.proofs.write.write_outline.Statement.{statement}
 use Rattle.job.proofs.write.write_outline.Tie as tie
 
-bad-length-requires : tie.Need-bad-length-requires
-bad-length-requires c κs = search needs
+bad-figure-requires : tie.Need-bad-figure-requires
+bad-figure-requires c κs = search needs
 
 returns : tie.Need-returns
-returns c = outline-bad _ _ (sym (c .before .bad-length .ensures) ∙ c .if1 .taken)
+returns c = outline-bad _ _ (sym (c .before .bad-figure .ensures) ∙ c .if1 .taken)
 
-cast-v : tie.Need-cast-v
-cast-v c = omega (arith, length-good _ (sym (c .before .bad-length .ensures) ∙ c .if1 .left))
+cast-count : tie.Need-cast-count
+cast-count c = omega (arith, rings-good _ (sym (c .before .bad-figure .ensures) ∙ c .if1 .left) .few)
 
-size-requires : tie.Need-size-requires
-size-requires c κs = search needs
+announcement-requires : tie.Need-announcement-requires
+announcement-requires c κs = search needs
 
 sizes-requires : tie.Need-sizes-requires
 sizes-requires c κs =
-    let l = c .before in omega (arith, length-good _ (sym (l .before .bad-length .ensures) ∙ l .if1 .left))
+    let l = c .before in omega (arith, rings-good _ (sym (l .before .bad-figure .ensures) ∙ l .if1 .left) .few)
 
 add-need : tie.Need-add-need
 add-need c = search needs
 
+sizes-requires-2 : tie.Need-sizes-requires-2
+sizes-requires-2 c κs =
+    let l = c .before .before in
+    let g = rings-good _ (sym (l .before .bad-figure .ensures) ∙ l .if1 .left) in omega (arith, g .numbers, g .most)
+
+add-need-2 : tie.Need-add-need-2
+add-need-2 c = search needs
+
 returns-2 : tie.Need-returns-2
 returns-2 c =
     let s = c .before in
-    let l = s .before .before in
-    let good = sym (l .before .bad-length .ensures) ∙ l .if1 .left in
-    outline-room _ _ _ (s .before .size .ensures .0) (s .sizes .ensures .0) (omega arith) good (omega arith)
+    let a = s .before .before in
+    let l = a .before in
+    let good = sym (l .before .bad-figure .ensures) ∙ l .if1 .left in
+    outline-room _ _ good (a .announcement .ensures .0) (s .before .sizes .ensures .0) (s .sizes2 .ensures .0) (omega arith)
 
-put-requires : tie.Need-put-requires
-put-requires c κs =
-    let l = c .before .before .before .before in
-    omega (arith, length-good _ (sym (l .before .bad-length .ensures) ∙ l .if1 .left))
+put-announcement-requires : tie.Need-put-announcement-requires
+put-announcement-requires c κs =
+    let a = c .before .before .before .before in
+    let l = a .before in
+    let g = rings-good _ (sym (l .before .bad-figure .ensures) ∙ l .if1 .left) in
+    (omega (arith, g .few), omega (arith, a .announcement .ensures .0))
 
-put-all-requires : tie.Need-put-all-requires
-put-all-requires c κs = search needs
+put-rings-requires : tie.Need-put-rings-requires
+put-rings-requires c κs =
+    let p = c .before .before .before in
+    let s = p .before .before .before in
+    let a = s .before .before in
+    let l = a .before in
+    let good = sym (l .before .bad-figure .ensures) ∙ l .if1 .left in
+    let rings = rings-length _ good (s .before .sizes .ensures .0) (s .sizes2 .ensures .0) in
+    let same = simp length-sets at (ap length (p .put-announcement .ensures .1)) in
+    (good, omega (arith, a .announcement .ensures .0, p .put-announcement .ensures .0, rings, same))
 
 same-length : tie.Need-same-length
 same-length c = search needs
 
 returns-3 : tie.Need-returns-3
 returns-3 c =
-    let all = c .before .before in
-    let p = all .before .before .before .before in
+    let r = c .before .before in
+    let p = r .before .before .before .before in
     let s = p .before .before .before in
-    let l = s .before .before in
-    let good = sym (l .before .bad-length .ensures) ∙ l .if1 .left in
-    outline-fits _ _ _ (s .before .size .ensures .0) (s .sizes .ensures .0) (omega arith) good _
-    (outline-put _ _ _ _ _ _ (p .put .ensures .0) (p .put .ensures .1) (all .put-all .ensures) (omega arith))
+    let a = s .before .before in
+    let l = a .before in
+    let good = sym (l .before .bad-figure .ensures) ∙ l .if1 .left in
+    outline-fits _ _ good (a .announcement .ensures .0) (s .before .sizes .ensures .0) (s .sizes2 .ensures .0) _ _ _
+    (p .put-announcement .ensures .0)
+    (p .put-announcement .ensures .1)
+    (r .put-rings .ensures)
     (omega arith)
 
 pub write-outline-spec : {M : Type 1} → statement M
 write-outline-spec =
     tie.close
     (tie.spec
-    bad-length-requires
+    bad-figure-requires
     returns
-    cast-v
-    size-requires
+    cast-count
+    announcement-requires
     sizes-requires
     add-need
+    sizes-requires-2
+    add-need-2
     returns-2
-    put-requires
-    put-all-requires
+    put-announcement-requires
+    put-rings-requires
     same-length
     returns-3)

@@ -10,7 +10,7 @@ changes-requires c κs = search needs
 returns : tie.Need-returns
 returns c =
     let s = c .before .before .before .before .before .before in
-    marked-flat _ _ _ _ (s .pre .0) (s .pre .1 .1) (c .before .changes .ensures) (c .if1 .taken)
+    marked-flat _ _ _ _ _ _ (s .pre .1 .1) (c .before .changes .ensures) (c .if1 .taken)
 
 before-requires : tie.Need-before-requires
 before-requires c κs = search needs

@@ -7,16 +7,16 @@ use Rattle.rows.proofs.drawings.draw.Statement.{statement}
 use Rattle.rows.proofs.drawings.draw.Tie as tie
 
 abbrev Inv-loop : tie.InvT-loop
-Inv-loop corners₀ sort k shape numbers i₀ corners i = length corners ≡ 128
+Inv-loop corners₀ sort k is-row slip numbers i₀ corners i = length corners ≡ 128
 
 abbrev μ-loop : tie.MeasureT-loop
-μ-loop corners₀ sort k shape numbers i₀ corners i = numbers - i
+μ-loop corners₀ sort k is-row slip numbers i₀ corners i = numbers - i
 
-add-pick : tie.Need-add-pick Inv-loop μ-loop
-add-pick c = search needs
+is-row-requires : tie.Need-is-row-requires Inv-loop μ-loop
+is-row-requires c κs = search needs
 
-pick-requires : tie.Need-pick-requires Inv-loop μ-loop
-pick-requires c κs = search needs
+slip-requires : tie.Need-slip-requires Inv-loop μ-loop
+slip-requires c κs = search needs
 
 size-requires : tie.Need-size-requires Inv-loop μ-loop
 size-requires c κs = search needs
@@ -30,11 +30,11 @@ row-requires c κs = search needs
 list-requires : tie.Need-list-requires Inv-loop μ-loop
 list-requires c κs = search needs
 
-made-requires : tie.Need-made-requires Inv-loop μ-loop
-made-requires c κs = search needs
+number-requires : tie.Need-number-requires Inv-loop μ-loop
+number-requires c κs = search needs
 
-pick-requires-2 : tie.Need-pick-requires-2 Inv-loop μ-loop
-pick-requires-2 c κs = search needs
+pick-requires : tie.Need-pick-requires Inv-loop μ-loop
+pick-requires c κs = search needs
 
 cast-corners : tie.Need-cast-corners Inv-loop μ-loop
 cast-corners c = search needs
@@ -54,41 +54,17 @@ loop-less c = search needs
 loop-again : tie.Need-loop-again Inv-loop μ-loop
 loop-again c = search needs
 
-drawn-requires : tie.Need-drawn-requires Inv-loop μ-loop
-drawn-requires c κs = search needs
+cast-sum : tie.Need-cast-sum Inv-loop μ-loop
+cast-sum c = search needs
 
-pick-requires-3 : tie.Need-pick-requires-3 Inv-loop μ-loop
-pick-requires-3 c κs = search needs
+sum-requires : tie.Need-sum-requires Inv-loop μ-loop
+sum-requires c κs = search needs
 
-add-result : tie.Need-add-result Inv-loop μ-loop
-add-result c = search needs
-
-drawn-requires-2 : tie.Need-drawn-requires-2 Inv-loop μ-loop
-drawn-requires-2 c κs = search needs
-
-cast-corners-2 : tie.Need-cast-corners-2 Inv-loop μ-loop
-cast-corners-2 c = search needs
-
-drawn-requires-3 : tie.Need-drawn-requires-3 Inv-loop μ-loop
-drawn-requires-3 c κs = search needs
-
-mul-corners-2 : tie.Need-mul-corners-2 Inv-loop μ-loop
-mul-corners-2 c = search needs
-
-element-write-corners-2 : tie.Need-element-write-corners-2 Inv-loop μ-loop
-element-write-corners-2 c = search needs
+pick-requires-2 : tie.Need-pick-requires-2 Inv-loop μ-loop
+pick-requires-2 c κs = search needs
 
 returns : tie.Need-returns Inv-loop μ-loop
 returns c = search needs
-
-returns-2 : tie.Need-returns-2 Inv-loop μ-loop
-returns-2 c = search needs
-
-returns-3 : tie.Need-returns-3 Inv-loop μ-loop
-returns-3 c = search needs
-
-returns-4 : tie.Need-returns-4 Inv-loop μ-loop
-returns-4 c = search needs
 
 pub draw-spec : {M : Type 1} → statement M
 draw-spec =
@@ -96,29 +72,21 @@ draw-spec =
     (tie.spec
     Inv-loop
     μ-loop
-    add-pick
-    pick-requires
+    is-row-requires
+    slip-requires
     size-requires
     loop-holds
     row-requires
     list-requires
-    made-requires
-    pick-requires-2
+    number-requires
+    pick-requires
     cast-corners
     mul-corners
     element-write-corners
     add-i
     loop-less
     loop-again
-    drawn-requires
-    pick-requires-3
-    add-result
-    drawn-requires-2
-    cast-corners-2
-    drawn-requires-3
-    mul-corners-2
-    element-write-corners-2
-    returns
-    returns-2
-    returns-3
-    returns-4)
+    cast-sum
+    sum-requires
+    pick-requires-2
+    returns)
