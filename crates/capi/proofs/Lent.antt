@@ -17,7 +17,7 @@ use Rattle.job.specs.Job.{Header, Job, job}
 use Rattle.job.specs.Steps.{whole, located}
 use Rattle.job.specs.Calls.{noPart}
 use Rattle.job.proofs.Calls.{fault-whole, read-whole, job-said, located-nth}
-use Rattle.capi.specs.Lent.{OutlineSaid, outlineLent, jobPart, partSaid, outlineSaid}
+use Rattle.capi.specs.Lent.{outlineLent, jobPart, partSaid, outlineSaid}
 
 pub renumbered : {A : Type 0} (said : ℕ → A) {n m : ℕ} {b : A} → n ≡ m → said m ≡ b → said n ≡ b
 renumbered said e f = ap said e ∙ f

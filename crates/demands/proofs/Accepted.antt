@@ -5,46 +5,66 @@
 --   filled-table, front-table, table-room, entry-at   == the table begins with the costs; what it has for a piece is the piece's cost
 --   measured, sliver-at, charge-at   == measures at unit squares and measures of pieces agree
 --   lined, framed        == the grid's lines are the corners' coordinates, and its frame is the corners' frame
+--   chosen-first         == at every mixed piece a cut is made that costs least, and the first such in the tie order
 --   recurrent            == the recurrence of the costs holds of the table
-use Prim.Native.Nat.{ℕ, _+_, _≤_, _<_}
-use mathlib.Core.Path.{_≡_, refl, sym, _∙_, ap, ap₂, subst}
+use Prim.Native.Nat.{ℕ, suc, _+_, _≤_, _<_}
+use mathlib.Core.Path.{_≡_, refl, sym, _∙_, ap, ap₂}
 use mathlib.Core.Bool.{Bool, true, false, not, _&&_, true≢false}
 use mathlib.Core.Logic.{inl, inr}
-use mathlib.Core.List.{List, [], _∷_, map}
+use mathlib.Core.List.{List, map}
 use native.Mathlib.Omega.{arith}
 use lib.Dec.{leb}
 use borrow.Author.Tests.{leb-true, ltb-false}
 use lib.ListN.{length, take, getD}
-use Rattle.sum.specs.Sum.{sumOf, All, Some, join}
+use Rattle.sum.specs.Sum.{sumOf, All}
+use Rattle.sum.proofs.Sum.{le-or}
 use Rattle.sum.proofs.Lists.{sumOf-same, sumOf-map, All-imp}
-use Rattle.recurrence.specs.Choice.{least}
 use Rattle.recurrence.specs.Scheme.{outside, full, mixed}
-use Rattle.recurrence.proofs.Choice.{least-one, least-same}
 use Rattle.refusal.specs.declared.Refusal.{Refusal}
 use Rattle.refusal.specs.declared.Refusal.the-variants as because
 use Rattle.refusal.specs.Refusals.{refusalNo}
+use Rattle.rule.specs.declared.Rule.{Rule}
 use Rattle.rule.specs.Rules.{inRange}
 use Rattle.shot.specs.Shot.{Shot}
 use Rattle.figure.specs.declared.Axis.the-variants.{X, Y}
 use Rattle.figure.specs.Figure.{cornersOf}
 use Rattle.figure.specs.Inside.{insideAt}
 use Rattle.figure.specs.Steps.{Right}
-use Rattle.outline.specs.Grid.{Sound}
+use Rattle.outline.specs.Grid.{Grid, Sound}
 use Rattle.piece.specs.Piece.{Piece, rectangle, leftPart, rightPart, lowerPart, upperPart, frame, kind, sliver, charge}
-use Rattle.piece.specs.Straight.{Cut, cuts, parts, shots, cost, choice}
-use Rattle.piece.proofs.Straight.{ends, cuts-all, shots-outside, shots-full, cost-outside, cost-full, shots-part}
-use Rattle.piece.proofs.Choice.{choice-cost, choice-least, shots-choice}
+use Rattle.piece.specs.Straight.{Cut, vertical, horizontal, cuts, parts, shots, cost, choice}
+use Rattle.piece.proofs.Straight.{cuts-all, cuts-at, shots-outside, shots-full, cost-outside, cost-full, cost-cuts, across-vertical, across-horizontal, shots-part}
+use Rattle.piece.proofs.Choice.{InPiece, choice-in, choice-cost, passed-vertical, passed-horizontal, shots-choice}
 use Rattle.table.specs.Entry.{entryCount, entryOf, costs}
 use Rattle.table.proofs.Entry.{entry-below, costs-length, costs-at}
 use Rattle.demands.specs.Promise.{Asked, drawn, ruleOf, Outcome, written, outcome}
 use Rattle.demands.specs.Square.{shotSliver, shotCharge}
 use Rattle.demands.specs.Ways.{On, frameOf}
-use Rattle.demands.specs.Demands.{Words, PieceOf, entry, Filled, partsCost, Recurrence}
+use Rattle.demands.specs.Demands.{Words, PieceOf, entry, Filled, partsCost, CutOf, Before, Chosen, Recurrence}
 use Rattle.demands.proofs.Outcome.{accepted, short, written-front, written-at, outcome-zero, outcome-seven}
 use Rattle.demands.proofs.Refusals.{test, outcome-number, test-true, number-first, number-none}
 use Rattle.demands.proofs.Square.{Shows, sliver-squares, charge-squares}
 use Rattle.demands.proofs.Ways as ways
 use Rattle.demands.proofs.Figure.{figure-sound, figure-shows, figure-lined, figure-frame}
+
+-- what holds of all cuts of a piece holds of each
+at-cut : (Q : Cut → Type 0) (p : Piece) → All Q (cuts p) → (k : Cut) → CutOf p k → Q k
+at-cut Q p h (vertical j) w = cuts-at Q p h .0 j (w .0) (w .1)
+at-cut Q p h (horizontal j) w = cuts-at Q p h .1 j (w .0) (w .1)
+
+in-piece : (p : Piece) (k : Cut) → InPiece p k → CutOf p k
+in-piece p (vertical j) w = w
+in-piece p (horizontal j) w = w
+
+-- no cut before the choice costs what the piece costs
+passed-over : (g : Grid) (r : Rule) (p : Piece) (k : Cut) → choice g r p ≡ k → (i : Cut) → CutOf p i → Before i k
+    → sumOf (cost g r) (parts p i) ≡ cost g r p
+    → ⊥
+passed-over g r p (vertical j) e (vertical i) w h m = passed-vertical g r p j e i (w .0) (w .1) (omega arith) (sym (across-vertical g r p i) ∙ m)
+passed-over g r p (vertical j) e (horizontal i) w h m = h
+passed-over g r p (horizontal j) e (vertical i) w h m = passed-horizontal g r p j e .0 i (w .0) (w .1) (sym (across-vertical g r p i) ∙ m)
+passed-over g r p (horizontal j) e (horizontal i) w h m =
+    passed-horizontal g r p j e .1 i (w .0) (w .1) (omega arith) (sym (across-horizontal g r p i) ∙ m)
 
 module _ (ask : Asked) where
   abbrev o : Outcome
@@ -161,36 +181,50 @@ module _ (ask : Asked) where
       ap₂ (λ m n. m + (n + 0)) (entry-at f (lowerPart p j) (record { ac = v .ac; cx = v .cx; bd = h; dy = omega (arith, v .dy) }))
       (entry-at f (upperPart p j) (record { ac = v .ac; cx = v .cx; bd = k; dy = v .dy })))
 
+  pub chosen-first : Filled o → (p : Piece) → PieceOf (drawn ask) p → kind (drawn ask) p ≡ mixed
+      → (k : Cut) × Chosen (drawn ask) (ruleOf ask) E p k
+  chosen-first f p v e = (
+    k,
+    record {
+      lies = lies;
+      shots-of = shots-choice g r p e;
+      cost-of = entry-at f p v ∙ choice-cost g r p e ∙ sym (same k lies);
+      no-less = no-less;
+      earlier-dearer = dearer;
+    },
+  )
+    where
+      g : Grid
+      g = drawn ask
+
+      r : Rule
+      r = ruleOf ask
+
+      k : Cut
+      k = choice g r p
+
+      lies : CutOf p k
+      lies = in-piece p k (choice-in g r p e)
+
+      same : (i : Cut) → CutOf p i → partsCost E p i ≡ sumOf (cost g r) (parts p i)
+      same = at-cut _ p (parts-cost f p v)
+
+      no-less : (i : Cut) → CutOf p i → E p ≤ partsCost E p i
+      no-less i w = omega (arith, entry-at f p v, same i w, at-cut _ p (cost-cuts g r p e) i w)
+
+      dearer : (i : Cut) → CutOf p i → Before i k → E p < partsCost E p i
+      dearer i w h = elim (le-or (suc (E p)) (partsCost E p i)) [
+        | inl q ↦ q
+        | inr q ↦ absurd (passed-over g r p k refl i w h (omega (arith, entry-at f p v, same i w, no-less i w)))
+      ]
+
   pub recurrent : Filled o → (p : Piece) → PieceOf (drawn ask) p → Recurrence (drawn ask) (ruleOf ask) E p
   recurrent f p v =
       record {
         outside = λ e. (entry-at f p v ∙ cost-outside (drawn ask) (ruleOf ask) p e, shots-outside (drawn ask) (ruleOf ask) p e);
         full = λ e. (entry-at f p v ∙ cost-full (drawn ask) (ruleOf ask) p e, shots-full (drawn ask) (ruleOf ask) p e);
-        mixed = λ e. go e (cuts p) refl (ends (drawn ask) (ruleOf ask) .some p e);
+        mixed = chosen-first f p v;
       }
-    where
-      value : Cut → ℕ
-      value k = sumOf (cost (drawn ask) (ruleOf ask)) (parts p k)
-
-      go : kind (drawn ask) p ≡ mixed → (m : List Cut) → cuts p ≡ m → Some m
-          → (k : Cut) × (ks : List Cut) × (cuts p ≡ k ∷ ks)
-          × (E p ≡ partsCost E p (least (partsCost E p) k ks))
-          × (shots (drawn ask) (ruleOf ask) p ≡ join (shots (drawn ask) (ruleOf ask)) (parts p (least (partsCost E p) k ks)))
-      go e [] q s = absurd s
-      go e (k ∷ ks) q s = (k, ks, q, costs-so, shots-choice (drawn ask) (ruleOf ask) p e ∙ ap (λ c. join (shots (drawn ask) (ruleOf ask)) (parts p c)) chosen)
-        where
-          same : All (λ k. partsCost E p k ≡ value k) (k ∷ ks)
-          same = subst (All (λ k. partsCost E p k ≡ value k)) q (parts-cost f p v)
-
-          chosen : choice (drawn ask) (ruleOf ask) p ≡ least (partsCost E p) k ks
-          chosen = choice-least (drawn ask) (ruleOf ask) p e k ks q ∙ sym (least-same (partsCost E p) value k ks (same .0) (same .1))
-
-          costs-so : E p ≡ partsCost E p (least (partsCost E p) k ks)
-          costs-so =
-              entry-at f p v
-              ∙ choice-cost (drawn ask) (ruleOf ask) p e
-              ∙ ap value chosen
-              ∙ sym (least-one (partsCost E p) (λ c. partsCost E p c ≡ value c) k ks (same .0) (same .1))
 
   -- Lines and frame
 

@@ -3,6 +3,8 @@
 -- For all that a fracture can be asked (ask: a figure, threshold and weight, and the lent table and list); o is the outcome, E p its
 -- table's entry for the piece p, and F the figure at the nanometre: inside at the unit square by the odd count on the raw corners.
 -- Words says that the figure is given by 16-bit numbers, as every figure is; Filled o that the table was filled, on success and beside 7.
+-- Of the call itself, with no premise but its contract and the type of its corners, demands 2 and 3 stand in fracture/proofs/Demands.antt.
+--   words-typed          == every list of numbers of the type u16 makes a figure of which Words holds
 --
 -- Demand 1: what is bad is refused by number, exactly when document 01's list says so, and the list fixes what stays in each buffer
 --   refused-exactly      == the number of the refusal c is given exactly when c's condition is the first in the order that holds
@@ -13,6 +15,10 @@
 --   short-keeps          == beside 7: the shots needed, zeros, the list as it came in, the table as on success
 --   accepted-fills       == on success: the costs at the front of the table, the shots at the front of the list, the rest as it came in
 --   lengths-kept         == both buffers keep their lengths, whatever the outcome (proofs/Room.antt)
+--   written-beyond       == behind what is written every number of both buffers is as it came in, and every number of a buffer that is
+--                           not written (proofs/Room.antt)
+--   entries-closed       == how many entries there are, by a formula: m (m + 1) / 2 x n (n + 1) / 2 of m columns and n rows
+--                           (proofs/Room.antt)
 --   ample                == with 14,400 entries and room for 225 shots neither 6 nor 7 is given (proofs/Room.antt)
 --   no-influence         == what the buffers held before has no influence: with others of the same lengths the answer is the same, and
 --                           so is what is written
@@ -23,27 +29,38 @@
 --   shots-inside, shots-apart, shots-cover   == so shots lie inside, no two hold the same square, and each inside square is held
 --   these-shots          == count, sliver length and cost, worked out anew from the four numbers of each shot, at unit squares
 --   entry-cost, frame-entry   == each table entry is its piece's cost, and the frame's is the reported cost
+--   entry-place          == the entry of the piece between the x lines a < c and the y lines b < d stands, of m columns and n rows, at the
+--                           number of its x pair times n (n + 1) / 2 plus the number of its y pair
 --   reported-is          == the reported shots are those of the frame, in its list order
 --   recurrence           == the paper's equation (2), with document 01's tie order and order of the list, holds of the table
+--   tie-order            == the cut made at a mixed piece: of those that cost least it is vertical if any is, and no lower line of its
+--                           direction costs the same
 -- Demand 3: no way to cut is cheaper
 --   never-cheaper        == no way to cut the frame at the nanometre, each cut at a corner's coordinate and right across, good shots cut
 --                           again or not, totals less than the reported cost
+--   recut                == among the ways: a rectangle that is all inside, cut again at any corner's coordinate into two shots
+--                           (proofs/Ways.antt)
+--   recut-dearer         == so a piece that is all inside has an entry of no more than what its two parts cost, cut again
 --   attained             == one such way has the reported shots, and totals the reported cost
 --   entry-never-cheaper, entry-attained == so is each table entry for its piece: the least total of any way to cut it
 --   never-cheaper-grid, attained-grid   == the same of cuttings of the grid by its lines
 -- Bound and rows
 --   bound, bound-cost    == no table entry, and no reported cost, exceeds 2,097,345,000
---   rows-hold            == the proved rows of document 01, and those with rings (proofs/Rows.antt)
-use Prim.Native.Nat.{ℕ, _≤_, _<_}
+--   rows-hold            == the proved rows of document 01, those with rings, and one that only the order of lines decides (proofs/Rows.antt)
+--   entries-of-L         == the whole table of one of them (proofs/Rows.antt)
+use Prim.Native.Nat.{ℕ, suc, _+_, _*_, _/_, _≤_, _<_}
 use mathlib.Core.Path.{_≡_, refl, sym, _∙_, ap, subst}
 use mathlib.Core.Bool.{Bool, true, false}
 use mathlib.Core.Logic.{_⊎_, inl, inr, ⊎-elim}
-use mathlib.Core.List.{List, map, List·Memᴰ as Member}
+use mathlib.Core.List.{List, [], _∷_, map, List·Memᴰ as Member}
 use native.Mathlib.Omega.{arith}
+use mir.Syntax.{w16}
+use mir.Val.{Fits}
 use lib.ListN.{length, take, getD, length-map}
 use Rattle.sum.specs.Sum.{only, sumOf}
 use Rattle.sum.proofs.Sum.{only-most}
 use Rattle.sum.proofs.Lists.{sumOf-member, sumOf-two, sumOf-some}
+use Rattle.recurrence.specs.Scheme.{mixed}
 use Rattle.recurrence.specs.Cutting.{Cutting, shotsIn as shotsOfCutting, price}
 use Rattle.refusal.specs.declared.Refusal.{Refusal}
 use Rattle.refusal.specs.declared.Refusal.the-variants as because
@@ -51,26 +68,31 @@ use Rattle.refusal.specs.Refusals.{refusalNo}
 use Rattle.refusal.proofs.Refusals.{refusal-some}
 use Rattle.shot.specs.Shot.{Shot, holds, shotsIn}
 use Rattle.figure.specs.declared.Axis.the-variants.{X, Y}
-use Rattle.figure.specs.Figure.{cornersOf}
+use Rattle.figure.specs.Figure.{figure, cornersOf}
 use Rattle.figure.specs.Inside.{insideAt}
 use Rattle.figure.specs.Steps.{Right}
-use Rattle.piece.specs.Piece.{Piece, rectangle, frame, sliver, charge}
-use Rattle.piece.specs.Straight.{straight, shots, cost}
+use Rattle.piece.specs.Piece.{Piece, box, rectangle, frame, kind, sliver, charge}
+use Rattle.piece.specs.Straight.{Cut, straight, shots, cost}
 use Rattle.piece.proofs.Straight.{no-cheaper, attained as attained-by}
 use Rattle.piece.proofs.Choice.{numbers-length, numbers-shots}
 use Rattle.piece.proofs.Bound.{cost-most}
 use Rattle.table.specs.Entry.{costs}
+use Rattle.table.proofs.Entry.{pair-closed, count-closed, entry-join}
 use Rattle.demands.specs.Promise.{Asked, drawn, ruleOf, frameShots, frameCost, frameSliver, frameNumbers, Outcome, written, refused, outcome}
 use Rattle.demands.specs.Refusals.{Condition, First}
 use Rattle.demands.specs.Square.{shotSliver, shotCharge}
-use Rattle.demands.specs.Ways.{Way, shotsOf, total, On, frameOf}
-use Rattle.demands.specs.Demands.{Words, PieceOf, reported, entry, answer, Filled, Recurrence}
+use Rattle.demands.specs.Ways.{westOf, eastOf, southOf, northOf, Way, shotsOf, total, On, frameOf}
+use Rattle.demands.specs.Demands.{Words, PieceOf, reported, entry, pairAt, answer, Filled, Chosen, Recurrence}
 use Rattle.demands.proofs.Outcome.{accepted, short, written-front, outcome-zero, outcome-seven, outcome-other, with-buffers, answer-same}
 use Rattle.demands.proofs.Refusals.{test, outcome-number, test-false, number-first, first-number, number-none, none-number, number-known}
 use Rattle.demands.proofs.Square.{held-one, cover-squares}
 use Rattle.demands.proofs.Ways as ways
 use Rattle.demands.proofs.Figure.{figure-sound, figure-shows}
-use Rattle.demands.proofs.Accepted.{shown, sound, light, framed-piece, entry-at, front-table, measured, sliver-at, charge-at, recurrent, lined, framed}
+use Rattle.demands.proofs.Accepted.{shown, sound, light, framed-piece, entry-at, front-table, measured, sliver-at, charge-at, chosen-first, recurrent, lined, framed}
+
+pub words-typed : (l ns : List ℕ) → ((i : ℕ) → Fits w16 (getD l i 0)) → Words (figure l ns)
+words-typed [] ns h = tt
+words-typed (v ∷ l) ns h = (omega (arith, h 0), words-typed l ns (λ i. h (suc i)))
 
 module _ (ask : Asked) where
   abbrev o : Outcome
@@ -204,6 +226,23 @@ module _ (ask : Asked) where
   pub entry-cost : Filled o → (p : Piece) → PieceOf (drawn ask) p → E p ≡ cost (drawn ask) (ruleOf ask) p
   entry-cost = entry-at ask
 
+  pub entry-place : Filled o → (a c b d : ℕ) → PieceOf (drawn ask) (box a c b d)
+      → (let m = drawn ask .columns in
+      let n = drawn ask .rows in
+      getD (o .table) (pairAt m a c * ((n * (n + 1)) / 2) + pairAt n b d) 0 ≡ cost (drawn ask) (ruleOf ask) (box a c b d))
+  unfolding entry
+  entry-place f a c b d v =
+      let m = drawn ask .columns in
+      let n = drawn ask .rows in
+      let e =
+      entry-join m n a c b d (pairAt m a c) ((n * (n + 1)) / 2) (pairAt n b d)
+      (sym (pair-closed m a c (v .ac) (v .cx)))
+      (sym (count-closed n))
+      (sym (pair-closed n b d (v .bd) (v .dy)))
+      v
+      in
+      ap (λ k. getD (o .table) k 0) (e .0) ∙ entry-cost f (box a c b d) v
+
   cost-frame : o .number ≡ 0 → o .cost ≡ cost (drawn ask) (ruleOf ask) (frame (drawn ask))
   unfolding accepted frameCost frameShots cost
   cost-frame e = ap (λ o. o .cost) (outcome-zero ask e)
@@ -213,6 +252,10 @@ module _ (ask : Asked) where
 
   pub recurrence : Filled o → (p : Piece) → PieceOf (drawn ask) p → Recurrence (drawn ask) (ruleOf ask) E p
   recurrence = recurrent ask
+
+  pub tie-order : Filled o → (p : Piece) → PieceOf (drawn ask) p → kind (drawn ask) p ≡ mixed
+      → (k : Cut) × Chosen (drawn ask) (ruleOf ask) E p k
+  tie-order = chosen-first ask
 
   -- Demand 3
 
@@ -239,6 +282,20 @@ module _ (ask : Asked) where
         ap (sumOf (shotCharge F (ruleOf ask))) (m .1)
             ∙ measured ask (shotCharge F (ruleOf ask)) (charge (drawn ask) (ruleOf ask)) c p (v .cx) (v .dy)
             ∙ sym (entry-cost f p v),
+      )
+
+  pub recut-dearer : Words (ask .figure) → Filled o → (p : Piece) → PieceOf (drawn ask) p
+      → (let s = rectangle (drawn ask) p in
+      let c = shotCharge F (ruleOf ask) in
+      ((x y : ℕ) → holds x y s ≡ true → F x y ≡ true)
+      → ((v : ℕ) → OnX v → s .xlow < v → v < s .xhigh → E p ≤ c (westOf s v) + c (eastOf s v))
+      × ((v : ℕ) → OnY v → s .ylow < v → v < s .yhigh → E p ≤ c (southOf s v) + c (northOf s v)))
+  unfolding total sumOf
+  recut-dearer words f p v good =
+      let n = entry-never-cheaper words f p v in
+      let m = ways.recut F OnX OnY (rectangle (drawn ask) p) good in (
+        λ u w h k. let q = m .0 u w h k in omega (arith, n (q .0), ap (sumOf (shotCharge F (ruleOf ask))) (q .1)),
+        λ u w h k. let q = m .1 u w h k in omega (arith, n (q .0), ap (sumOf (shotCharge F (ruleOf ask))) (q .1)),
       )
 
   pub never-cheaper : Words (ask .figure) → o .number ≡ 0 → (way : Way F OnX OnY (frameOf (cornersOf (ask .figure)))) → o .cost ≤ total F OnX OnY (ruleOf ask) way

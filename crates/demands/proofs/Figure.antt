@@ -156,4 +156,6 @@ pub figure-sound : (f : Figure) → Words f → Right f → Sound (grid f)
 figure-sound f words right =
     let n = right-length f right in
     grid-sound f right (omega arith) (omega arith)
-    (λ a. subst (All (λ c. coordinate a c ≤ 65535)) (sym (corners-whole f (right .figure-good))) (words-corners (λ v. v ≤ 65535) (f .numbers) words a))
+    (λ a.
+    subst (All (λ c. coordinate a c ≤ 65535)) (sym (corners-whole f (right .figure-good)))
+    (words-corners (λ v. v ≤ 65535) (f .numbers) (All-imp (λ v h. omega arith) (f .numbers) words) a))

@@ -1,13 +1,14 @@
 -- Laws of a buffer that was written, and of the outcome stage by stage. Assumes nothing.
 --
---   written-length, written-front, written-at   == a buffer after it was written: its length, its front, one of its numbers
+--   written-past         == a buffer after it was written: behind what is written every number is as it was
+--   written-length, written-front, written-at   == its length, its front, one of the numbers written
 --   accepted ask, short ask   == a success, and what 7 gives, with the costs in the table
 --   outcome-rule, outcome-figure, outcome-table, outcome-list, outcome-accepted   == the outcome by the first stage that ends it
 --   outcome-zero, outcome-seven, outcome-other   == the outcome by its number
 --   outcome-seen         == of a figure a fracture sees nothing but its refusal and its grid
 --   answer-same          == the answer goes by the lengths of the buffers, not by what they held
 --   outcome-unique       == two outcomes that are what was promised are equal
-use Prim.Native.Nat.{ℕ, _*_, _≤_, _<_}
+use Prim.Native.Nat.{ℕ, _+_, _*_, _-_, _≤_, _<_}
 use mathlib.Core.Path.{_≡_, refl, sym, _∙_, ap, ap₂}
 use mathlib.Core.Bool.{Bool, true, false, cond}
 use mathlib.Core.Logic.{_⊎_, inl, inr}
@@ -15,7 +16,7 @@ use mathlib.Core.List.{List, []}
 use native.Mathlib.Omega.{arith}
 use lib.Dec.{ltb, eqb}
 use lib.ListN.{length, drop, take, getD, length-append, length-drop, List·getD-append}
-use lib.Seq.{take-at}
+use lib.Seq.{take-at, getD-append-add, getD-drop}
 use borrow.Author.Tests.{lt-ltb, le-ltb, eq-eqb, ne-eqb, eqb-true, eqb-false, ltb-true, ltb-false}
 use Rattle.sum.proofs.Sum.{le-or}
 use Rattle.rule.specs.declared.Rule.{Rule}
@@ -28,6 +29,14 @@ use Rattle.outline.proofs.Promise.{refusal-most}
 use Rattle.table.specs.Entry.{entryCount, costs}
 use Rattle.demands.specs.Promise.{Asked, drawn, ruleOf, frameShots, frameCost, frameSliver, frameNumbers, Outcome, written, refused, delivered, gridded, ruled, outcome}
 use Rattle.demands.specs.Demands.{answer}
+
+pub written-past : (front old : List ℕ) (i : ℕ) → length front ≤ i → getD (written front old) i 0 ≡ getD old i 0
+unfolding written
+written-past front old i h =
+    let k : ℕ = i - length front in
+    let e : i ≡ length front + k = omega arith in
+    let behind : getD (written front old) (length front + k) 0 ≡ getD old (length front + k) 0 = simp (getD-append-add, getD-drop) in
+    ap (λ n. getD (written front old) n 0) e ∙ behind ∙ ap (λ n. getD old n 0) (sym e)
 
 pub written-length : (front old : List ℕ) → length front ≤ length old → length (written front old) ≡ length old
 unfolding written

@@ -28,13 +28,14 @@ use Rattle.rule.specs.Rules.{inRange}
 use Rattle.figure.specs.declared.Axis.{Axis}
 use Rattle.figure.specs.declared.Axis.the-variants.{X, Y}
 use Rattle.figure.specs.Corners.{Corner, Link, any, changes, both, neither, same, alike, slanted, unturned}
-use Rattle.figure.specs.Figure.{Figure, rings, edgesOf, turnsOf, total, badLength, badFigure, fault}
+use Rattle.figure.specs.Figure.{rings, edgesOf, turnsOf, badFigure, fault}
+use Rattle.figure.proofs.Fault.{bad-lengths, lengths-bad}
 use Rattle.figure.proofs.Together.{slanted-all, unturned-all}
 use Rattle.outline.specs.Grid.{Grid}
 use Rattle.outline.specs.Inside.{grid, insideCells, empty}
 use Rattle.outline.specs.Promise.{refusal}
 use Rattle.table.specs.Entry.{entryCount, costs}
-use Rattle.demands.specs.Promise.{Asked, drawn, ruleOf, frameShots, frameCost, frameSliver, frameNumbers, Outcome, written, refused, delivered, gridded, ruled, outcome}
+use Rattle.demands.specs.Promise.{Asked, drawn, ruleOf, frameShots, frameCost, frameSliver, frameNumbers, written, refused, delivered, gridded, ruled, outcome}
 use Rattle.demands.specs.Refusals.{Changes, Keeps, Condition, First}
 
 -- "A fracture checks 1 to 7 in that order"
@@ -176,34 +177,12 @@ true-keeps a e h = ap (λ b. not (not b)) (eq-eqb _ _ h)
 and-both : (a b : Bool) → a ≡ true → b ≡ true → (a && b) ≡ true
 and-both a b e f = ap (λ a. a && b) e ∙ f
 
--- each way in which a figure is bad
-length-bad : (f : Figure)
-    → (length (f .lengths) ≡ 0)
-    ⊎ ((8 < length (f .lengths))
-    ⊎ (((n : ℕ) × Member n (f .lengths) × ((n < 4) ⊎ (32 < n)))
-    ⊎ ((32 < total f) ⊎ (length (f .numbers) ≡ 2 * total f → ⊥))))
-    → badFigure f ≡ true
-unfolding badFigure badLength
-length-bad f (inl h) = or-left _ _ (or-left _ _ (eq-eqb _ _ h))
-length-bad f (inr (inl h)) = or-left _ _ (or-right (eqb (length (f .lengths)) 0) _ (lt-ltb _ _ h))
-length-bad f (inr (inr h)) = or-right (eqb (length (f .lengths)) 0 || ltb 8 (length (f .lengths))) _ (go h)
-  where
-    bad : (n : ℕ) → (n < 4) ⊎ (32 < n) → badLength n ≡ true
-    bad n (inl h) = or-left _ _ (lt-ltb _ _ h)
-    bad n (inr h) = or-right (ltb n 4) _ (lt-ltb _ _ h)
-
-    go : ((n : ℕ) × Member n (f .lengths) × ((n < 4) ⊎ (32 < n))) ⊎ ((32 < total f) ⊎ (length (f .numbers) ≡ 2 * total f → ⊥))
-        → (any badLength (f .lengths) || (ltb 32 (total f) || not (eqb (length (f .numbers)) (2 * total f)))) ≡ true
-    go (inl m) = or-left _ _ (any-of badLength (m .0) (f .lengths) (m .1) (bad (m .0) (m .2)))
-    go (inr (inl h)) = or-right (any badLength (f .lengths)) _ (or-left _ _ (lt-ltb _ _ h))
-    go (inr (inr h)) = or-right (any badLength (f .lengths)) _ (or-right (ltb 32 (total f)) _ (ap not (ne-eqb _ _ h)))
-
 module _ (ask : Asked) where
   abbrev Holds : Refusal → Type 0
   Holds c = Condition ask c
 
   pub test-true : (c : Refusal) → test ask c ≡ true → Holds c
-  unfolding test Condition inRange badFigure badLength both neither alike same empty insideCells
+  unfolding test Condition inRange both neither alike same empty insideCells
   test-true because.Rule e = high (leb (ask .threshold) 1000) refl (leb (ask .weight) 1000) refl e
     where
       high : (a : Bool) → leb (ask .threshold) 1000 ≡ a → (b : Bool) → leb (ask .weight) 1000 ≡ b → not (a && b) ≡ true
@@ -211,16 +190,7 @@ module _ (ask : Asked) where
       high false p b q h = inl (leb-false _ _ p)
       high true p false q h = inr (leb-false _ _ q)
       high true p true q h = absurd (true≢false (sym h))
-  test-true because.Length e =
-      or-elim _ _ e
-      (λ h. or-elim _ _ h (λ k. inl (eqb-true _ _ k)) (λ k. inr (inl (ltb-true _ _ k))))
-      (λ h.
-      or-elim _ _ h
-      (λ k. let m = any-some badLength (ask .figure .lengths) k in inr (inr (inl (m .0, m .1, bad (m .0) (m .2)))))
-      (λ k. inr (inr (inr (or-elim _ _ k (λ i. inl (ltb-true _ _ i)) (λ i. inr (λ z. true≢false (sym i ∙ ap not (eq-eqb _ _ z)))))))))
-    where
-      bad : (n : ℕ) → badLength n ≡ true → (n < 4) ⊎ (32 < n)
-      bad n e = unfold badLength in or-elim _ _ e (λ h. inl (ltb-true _ _ h)) (λ h. inr (ltb-true _ _ h))
+  test-true because.Length e = bad-lengths (ask .figure) e
   test-true because.Slanted e =
       let m = any-some both (edgesOf (ask .figure)) (sym (slanted-all (ask .figure)) ∙ e) in
       let k = and-true _ _ (m .2) in
@@ -260,14 +230,14 @@ module _ (ask : Asked) where
   test-true because.Preset e = absurd (true≢false (sym e))
 
   pub true-test : (c : Refusal) → Holds c → test ask c ≡ true
-  unfolding test Condition inRange badFigure badLength both neither alike same empty insideCells
+  unfolding test Condition inRange both neither alike same empty insideCells
   true-test because.Rule (inl h) = ap (λ b. not (b && leb (ask .weight) 1000)) (lt-leb (ask .threshold) 1000 h)
   true-test because.Rule (inr h) = ap (λ b. not (leb (ask .threshold) 1000 && b)) (lt-leb (ask .weight) 1000 h) ∙ none (leb (ask .threshold) 1000)
     where
       none : (b : Bool) → not (b && false) ≡ true
       none true = refl
       none false = refl
-  true-test because.Length h = length-bad (ask .figure) h
+  true-test because.Length h = lengths-bad (ask .figure) h
   true-test because.Slanted m =
       slanted-all (ask .figure)
       ∙ any-of both (m .0) (edgesOf (ask .figure)) (m .1) (and-both _ _ (true-changes X (m .0) (m .2)) (true-changes Y (m .0) (m .3)))

@@ -1,14 +1,17 @@
 -- The buffers: they keep their lengths, and what room always suffices. Assumes nothing.
 --
 --   lengths-kept         == the table and the list are as long as they were, whatever the outcome
+--   written-beyond       == number by number: the list beyond the shots of a success, and all of it beside a refusal, is as it came in;
+--                           the table beyond its entries where it was filled, and all of it beside 1 to 6, is as it came in
+--   entries-closed       == how many pieces a grid has, by a formula: m (m + 1) / 2 x n (n + 1) / 2 of m columns and n rows
 --   entries-most         == a grid of at most 15 columns and rows has at most 14,400 pieces
 --   ample                == with 14,400 entries and room for 225 shots neither 6 nor 7 is given
-use Prim.Native.Nat.{ℕ, zero, suc, _*_, _≤_, _<_}
-use mathlib.Core.Path.{_≡_, sym, _∙_, ap}
+use Prim.Native.Nat.{ℕ, zero, suc, _+_, _*_, _/_, _≤_, _<_}
+use mathlib.Core.Path.{_≡_, sym, _∙_, ap, ap₂}
 use mathlib.Core.Logic.{_⊎_, inl, inr}
 use native.Mathlib.Omega.{arith}
 use native.Mathlib.Nat.{le-trans, mul-le-mul}
-use lib.ListN.{length}
+use lib.ListN.{length, getD}
 use Rattle.sum.proofs.Sum.{le-or}
 use Rattle.outline.specs.Grid.{Sound}
 use Rattle.piece.specs.Piece.{frame}
@@ -19,11 +22,11 @@ use Rattle.refusal.specs.declared.Refusal.the-variants as because
 use Rattle.refusal.specs.Refusals.{refusalNo}
 use Rattle.refusal.proofs.Refusals.{refusal-some}
 use Rattle.table.specs.Entry.{pairsBelow, pairCount, entryCount, costs}
-use Rattle.table.proofs.Entry.{below-zero, below-suc, below-up}
+use Rattle.table.proofs.Entry.{below-zero, below-suc, below-up, count-closed, costs-length}
 use Rattle.demands.specs.Promise.{Asked, drawn, ruleOf, frameShots, frameNumbers, Outcome, refused, outcome}
 use Rattle.demands.specs.Refusals.{Condition, First}
 use Rattle.demands.specs.Demands.{Words, Filled}
-use Rattle.demands.proofs.Outcome.{accepted, short, written-length, outcome-zero, outcome-seven, outcome-other}
+use Rattle.demands.proofs.Outcome.{accepted, short, written-past, written-length, outcome-zero, outcome-seven, outcome-other}
 use Rattle.demands.proofs.Refusals.{test, numberOf, outcome-number, number-first, number-none, number-known, test-false}
 use Rattle.demands.proofs.Figure.{figure-sound}
 use Rattle.demands.proofs.Accepted.{filled-table, table-room}
@@ -43,27 +46,54 @@ module _ (ask : Asked) where
   table-length : Filled o → length (o .table) ≡ length (ask .table)
   table-length f = ap length (filled-table ask f) ∙ written-length (costs (drawn ask) (ruleOf ask)) (ask .table) (table-room ask f)
 
-  pub lengths-kept : (length (o .table) ≡ length (ask .table)) × (length (o .list) ≡ length (ask .list))
-  unfolding accepted short refused
-  lengths-kept = go (number-known ask)
+  -- an outcome is a success, or 7, or a refusal that changes nothing
+  by-number : {P : Type 0} → (o .number ≡ 0 → P) → (o .number ≡ 7 → P) → ((n : ℕ) → o ≡ refused n (ask .table) (ask .list) → P) → P
+  by-number {P} none seven other = go (number-known ask)
     where
       known : (n : ℕ) → numberOf ask ≡ n → o .number ≡ n
       known n e = outcome-number ask ∙ e
 
-      go : (numberOf ask ≡ 0) ⊎ ((c : Refusal) × (refusalNo c ≤ 7) × (numberOf ask ≡ refusalNo c))
-          → (length (o .table) ≡ length (ask .table)) × (length (o .list) ≡ length (ask .list))
-      go (inl e) = (
-        table-length (inl (known 0 e)),
-        ap (λ o. length (o .list)) (outcome-zero ask (known 0 e)) ∙ written-length (frameNumbers (drawn ask) (ruleOf ask)) (ask .list) (list-room (known 0 e)),
-      )
+      go : (numberOf ask ≡ 0) ⊎ ((c : Refusal) × (refusalNo c ≤ 7) × (numberOf ask ≡ refusalNo c)) → P
+      go (inl e) = none (known 0 e)
       go (inr c) = elim (le-or 7 (refusalNo (c .0))) [
-        | inl h ↦
-            (let e : o .number ≡ 7 = known 7 (omega (arith, c .1, c .2)) in
-            (table-length (inr e), ap (λ o. length (o .list)) (outcome-seven ask e)))
-        | inr h ↦
-            (let q = outcome-other ask (refusalNo (c .0)) (refusal-some (c .0)) h (known (refusalNo (c .0)) (c .2)) in
-            (ap (λ o. length (o .table)) q, ap (λ o. length (o .list)) q))
+        | inl h ↦ seven (known 7 (omega (arith, c .1, c .2)))
+        | inr h ↦ other (refusalNo (c .0)) (outcome-other ask (refusalNo (c .0)) (refusal-some (c .0)) h (known (refusalNo (c .0)) (c .2)))
       ]
+
+  pub lengths-kept : (length (o .table) ≡ length (ask .table)) × (length (o .list) ≡ length (ask .list))
+  unfolding accepted short refused
+  lengths-kept =
+      by-number
+      (λ e. (
+        table-length (inl e),
+        ap (λ o. length (o .list)) (outcome-zero ask e) ∙ written-length (frameNumbers (drawn ask) (ruleOf ask)) (ask .list) (list-room e),
+      ))
+      (λ e. (table-length (inr e), ap (λ o. length (o .list)) (outcome-seven ask e)))
+      (λ n q. (ap (λ o. length (o .table)) q, ap (λ o. length (o .list)) q))
+
+  -- behind the shots of a success, and behind the entries of a table that was filled
+  list-past : o .number ≡ 0 → (i : ℕ) → 4 * o .shots ≤ i → getD (o .list) i 0 ≡ getD (ask .list) i 0
+  unfolding accepted frameNumbers
+  list-past e i h =
+      let q = outcome-zero ask e in
+      ap (λ o. getD (o .list) i 0) q
+      ∙ written-past (frameNumbers (drawn ask) (ruleOf ask)) (ask .list) i
+      (omega (arith, ap (λ o. o .shots) q, numbers-length (drawn ask) (frameShots (drawn ask) (ruleOf ask))))
+
+  table-past : Filled o → (i : ℕ) → entryCount (drawn ask .columns) (drawn ask .rows) ≤ i → getD (o .table) i 0 ≡ getD (ask .table) i 0
+  table-past f i h =
+      ap (λ m. getD m i 0) (filled-table ask f)
+      ∙ written-past (costs (drawn ask) (ruleOf ask)) (ask .table) i (omega (arith, costs-length (drawn ask) (ruleOf ask)))
+
+  pub written-beyond : (i : ℕ)
+      → ((o .number ≡ 0 → 4 * o .shots ≤ i) → getD (o .list) i 0 ≡ getD (ask .list) i 0)
+      × ((Filled o → entryCount (drawn ask .columns) (drawn ask .rows) ≤ i) → getD (o .table) i 0 ≡ getD (ask .table) i 0)
+  unfolding short refused
+  written-beyond i =
+      by-number
+      (λ e. (λ h. list-past e i (h e), λ h. table-past (inl e) i (h (inl e))))
+      (λ e. (λ h. ap (λ o. getD (o .list) i 0) (outcome-seven ask e), λ h. table-past (inr e) i (h (inr e))))
+      (λ n q. (λ h. ap (λ o. getD (o .list) i 0) q, λ h. ap (λ o. getD (o .table) i 0) q))
 
 -- Room that always suffices
 
@@ -74,6 +104,10 @@ below-less m n (suc a) h = omega (arith, below-suc m a, below-suc n a, below-les
 pairs-most : (m : ℕ) → m ≤ 15 → pairCount m ≤ 120
 unfolding pairCount pairsBelow
 pairs-most m h = le-trans (below-less m 15 m h) (below-up 15 m 15 h)
+
+pub entries-closed : (m n : ℕ) → entryCount m n ≡ ((m * (m + 1)) / 2) * ((n * (n + 1)) / 2)
+unfolding entryCount
+entries-closed m n = ap₂ _*_ (count-closed m) (count-closed n)
 
 pub entries-most : (m n : ℕ) → m ≤ 15 → n ≤ 15 → entryCount m n ≤ 14400
 unfolding entryCount

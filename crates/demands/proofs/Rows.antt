@@ -2,7 +2,8 @@
 --
 --   right row      == the test of a row, which computes
 --   right-says     == a row that passes it holds
---   rows-hold    == all of them hold
+--   rows-hold      == all of them hold
+--   entries-of-L   == the nine entries of L's table by 25 nm and 40, in their order
 use Prim.Native.Nat.{ℕ, _*_, _≤_, _<_}
 use mathlib.Core.Path.{_≡_, refl, sym, _∙_, ap, ap₂, subst}
 use mathlib.Core.Bool.{Bool, true, false, _&&_, true≢false}
@@ -31,11 +32,13 @@ use Rattle.piece.specs.Piece as piece
 use Rattle.piece.specs.Piece.{frame, cells, cellSum, kindOf, kind, lowSide, highSide, width, height, left, right, bottom, top}
 use Rattle.piece.specs.Straight.{run, between, cuts, parts, shots, cost, numbersOf}
 use Rattle.piece.proofs.Choice.{numbers-length}
-use Rattle.table.specs.Entry.{pairsBelow, pairCount, entryCount}
+use Rattle.table.specs.Entry.{pairsBelow, pairCount, pairs, entryCount, costs}
 use Rattle.demands.specs.Promise.{Asked, drawn, ruleOf, frameShots, frameCost, frameSliver, frameNumbers, written, refused, outcome}
-use Rattle.demands.specs.Rows.{By, only-by, any as any-rule, Meant, Rival, Row, Says, Holds, rows}
+use Rattle.demands.specs.Demands.{Filled}
+use Rattle.demands.specs.Rows.{By, only-by, any as any-rule, Meant, Rival, Row, Says, Holds, L, entriesOfL, rows}
 use Rattle.demands.proofs.Outcome.{accepted, written-front, with-figure, outcome-seen, outcome-accepted, outcome-figure}
 use Rattle.demands.proofs.Refusals.{and-true}
+use Rattle.demands.proofs.Accepted.{front-table}
 
 -- the rule of two numbers
 abbrev rule : ℕ → ℕ → Rule
@@ -85,8 +88,8 @@ weighed-all f r (k ∷ ks) e =
     let s = and-true (eqb (sumOf (cost (grid f) r) (parts (frame (grid f)) (k .cut))) (k .cost)) (weighed f r ks) e in
     (eqb-true _ _ (s .0), weighed-all f r ks (s .1))
 
-rows-pass : right-all rows ≡ true
-unfolding right-all rightBy same weighed refusal fault frameShots frameCost frameSliver frameNumbers entryCount pairCount pairsBelow sumOf over join shotsBy cheapest least cells kind frame cellSum kindOf width height left right bottom top lowSide highSide cost shots cuts parts between run numbersOf numbers grid gridOf corners coordinate last steps around any edges turns changes odd share badLength badFigure slanted unturned both neither alike same-coordinate insert rising lines place wall walls covers count within empty inside.insideCells piece.insideCells piece.sliver piece.charge sliverOf chargeOf
+rows-pass : (right-all rows && same (costs (grid L) (rule 25 40)) entriesOfL) ≡ true
+unfolding right-all rightBy same weighed refusal fault frameShots frameCost frameSliver frameNumbers entryCount pairCount pairsBelow pairs costs sumOf over join shotsBy cheapest least cells kind frame cellSum kindOf width height left right bottom top lowSide highSide cost shots cuts parts between run numbersOf numbers grid gridOf corners coordinate last steps around any edges turns changes odd share badLength badFigure slanted unturned both neither alike same-coordinate insert rising lines place wall walls covers count within empty inside.insideCells piece.insideCells piece.sliver piece.charge sliverOf chargeOf
 rows-pass = refl
 
 list-length : (g : Grid) (r : Rule) → length (frameNumbers g r) ≡ 4 * length (frameShots g r)
@@ -176,4 +179,13 @@ all-say [] e = tt
 all-say (row ∷ l) e = let s = and-true _ _ e in (right-says (row .by) row refl (s .0), all-say l (s .1))
 
 pub rows-hold : All Holds rows
-rows-hold = all-say rows rows-pass
+rows-hold = all-say rows (and-true _ _ rows-pass .0)
+
+pub entries-of-L : (ask : Asked) → ask .figure ≡ L → ask .threshold ≡ 25 → ask .weight ≡ 40 → Filled (outcome ask)
+    → take 9 (outcome ask .table) ≡ entriesOfL
+unfolding drawn
+entries-of-L ask of t w f =
+    let e : costs (drawn ask) (ruleOf ask) ≡ entriesOfL =
+    ap₂ (λ f r. costs (grid f) r) of (ap₂ rule t w) ∙ same-is _ _ (and-true (right-all rows) _ rows-pass .1)
+    in
+    ap (λ l. take (length l) (outcome ask .table)) (sym e) ∙ front-table ask f ∙ e

@@ -5,15 +5,15 @@
 --   sliver-squares, charge-squares   == sliver length and charge of a piece, worked out anew at unit squares
 --   square-cell          == a unit square that a piece holds lies in one of its cells
 --   cover-squares        == each unit square is in one shot if it is inside, else in none
-use Prim.Native.Nat.{ℕ, zero, suc, _+_, _*_, _-_, _≤_, _<_}
+use Prim.Native.Nat.{ℕ, zero, suc, _+_, _-_, _≤_, _<_}
 use mathlib.Core.Path.{_≡_, refl, sym, _∙_, ap, ap₂}
 use mathlib.Core.Bool.{Bool, true, false, not, _&&_}
-use mathlib.Core.List.{List, [], _∷_, map}
+use mathlib.Core.List.{map}
 use mathlib.Core.Logic.{inl, inr}
 use native.Mathlib.Omega.{arith}
 use lib.Dec.{leb, ltb}
 use borrow.Author.Tests.{leb-true, leb-false, ltb-true, ltb-false}
-use Rattle.sum.specs.Sum.{over, only, sumOf, join}
+use Rattle.sum.specs.Sum.{over, only, sumOf}
 use Rattle.sum.proofs.Sum as sum
 use Rattle.sum.proofs.Lists.{sumOf-same, sumOf-map, All-imp}
 use Rattle.rule.specs.declared.Rule.{Rule}

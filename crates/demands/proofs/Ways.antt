@@ -1,5 +1,6 @@
 -- Ways to cut at the nanometre and the cost of pieces: no way is cheaper, and one attains the cost. Assumes nothing.
 --
+--   recut                == a rectangle that is all inside may be cut again, at any place that is allowed, into two shots
 --   Lined g onX onY      == the places that may be cut at are those of the grid's lines
 --   locate               == a place between two lines lies between two neighbours of them
 --   square-cell          == a unit square that a piece holds lies in one of its cells
@@ -10,7 +11,7 @@
 use Prim.Native.Nat.{ℕ, zero, suc, _≤_, _<_}
 use mathlib.Core.Path.{_≡_, refl, sym, _∙_, ap, ap₂}
 use mathlib.Core.Bool.{Bool, true, false, _&&_, true≢false}
-use mathlib.Core.List.{List, [], _++_, map, map-append, append-nil}
+use mathlib.Core.List.{List, [], _∷_, _++_, map, map-append, append-nil}
 use mathlib.Core.Logic.{inl, inr}
 use native.Mathlib.Omega.{arith}
 use lib.Dec.{leb, ltb}
@@ -72,6 +73,36 @@ held x y s = go (leb (s .xlow) x) refl (ltb x (s .xhigh)) refl (leb (s .ylow) y)
 pub holding : (x y : ℕ) (s : Shot) → s .xlow ≤ x → x < s .xhigh → s .ylow ≤ y → y < s .yhigh → holds x y s ≡ true
 unfolding holds
 holding x y s a b c d = ap₂ _&&_ (ap₂ _&&_ (le-leb _ _ a) (lt-ltb _ _ b)) (ap₂ _&&_ (le-leb _ _ c) (lt-ltb _ _ d))
+
+-- A good shot may be cut again
+
+-- what a part of a rectangle holds the rectangle holds
+held-part : (s t : Shot) → s .xlow ≤ t .xlow → t .xhigh ≤ s .xhigh → s .ylow ≤ t .ylow → t .yhigh ≤ s .yhigh
+    → (x y : ℕ) → holds x y t ≡ true → holds x y s ≡ true
+held-part s t a b c d x y q =
+    let k = held x y t q in
+    holding x y s (omega (arith, k .0)) (omega (arith, k .1)) (omega (arith, k .2)) (omega (arith, k .3))
+
+module _ (F : ℕ → ℕ → Bool) (onX onY : ℕ → Type 0) (s : Shot) (good : (x y : ℕ) → holds x y s ≡ true → F x y ≡ true) where
+  pub recut : ((v : ℕ) → onX v → s .xlow < v → v < s .xhigh
+      → (way : Way F onX onY s) × (shotsOf F onX onY way ≡ westOf s v ∷ eastOf s v ∷ []))
+      × ((v : ℕ) → onY v → s .ylow < v → v < s .yhigh
+      → (way : Way F onX onY s) × (shotsOf F onX onY way ≡ southOf s v ∷ northOf s v ∷ []))
+  unfolding shotsOf
+  recut = (
+    λ v o h k. (
+      upright {s = s} v o (omega arith) (omega arith)
+          (shoot (λ x y q. cc (good x y (held-part s (westOf s v) (omega arith) (omega arith) (omega arith) (omega arith) x y q))))
+          (shoot (λ x y q. cc (good x y (held-part s (eastOf s v) (omega arith) (omega arith) (omega arith) (omega arith) x y q)))),
+      refl,
+    ),
+    λ v o h k. (
+      level {s = s} v o (omega arith) (omega arith)
+          (shoot (λ x y q. cc (good x y (held-part s (southOf s v) (omega arith) (omega arith) (omega arith) (omega arith) x y q))))
+          (shoot (λ x y q. cc (good x y (held-part s (northOf s v) (omega arith) (omega arith) (omega arith) (omega arith) x y q)))),
+      refl,
+    ),
+  )
 
 -- the rectangles of two lists, as a join of two has them
 two : (f : Piece → Shot) (l m : List Piece) → map f l ++ map f m ≡ map f (l ++ (m ++ []))

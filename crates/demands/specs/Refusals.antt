@@ -17,7 +17,7 @@ use Rattle.rule.specs.Rules.{limit}
 use Rattle.figure.specs.declared.Axis.{Axis}
 use Rattle.figure.specs.declared.Axis.the-variants.{X, Y}
 use Rattle.figure.specs.Corners.{Corner, Link, coordinate}
-use Rattle.figure.specs.Figure.{leastCorners, mostCorners, mostRings, edgesOf, turnsOf, total}
+use Rattle.figure.specs.Figure.{BadLengths, edgesOf, turnsOf}
 use Rattle.table.specs.Entry.{entryCount}
 use Rattle.demands.specs.Promise.{Asked, drawn, ruleOf, frameShots}
 
@@ -31,12 +31,8 @@ module _ (ask : Asked) where
   unfoldable pub Condition : Refusal → Type 0
   -- threshold or weight above 1,000
   Condition because.Rule = (limit < ask .threshold) ⊎ (limit < ask .weight)
-  -- no ring or more than 8, a ring of fewer than 4 corners or of more than 32, more than 32 in all, or not two numbers for each corner
-  Condition because.Length =
-      (length (ask .figure .lengths) ≡ 0)
-      ⊎ ((mostRings < length (ask .figure .lengths))
-      ⊎ (((n : ℕ) × Member n (ask .figure .lengths) × ((n < leastCorners) ⊎ (mostCorners < n)))
-      ⊎ ((mostCorners < total (ask .figure)) ⊎ (length (ask .figure .numbers) ≡ 2 * total (ask .figure) → ⊥))))
+  -- a bad ring count, ring length or total
+  Condition because.Length = BadLengths (ask .figure)
   -- an edge changes both coordinates
   Condition because.Slanted = (e : Link Corner) × Member e (edgesOf (ask .figure)) × Changes X e × Changes Y e
   -- an edge changes neither, or two neighbours of a ring change the same one

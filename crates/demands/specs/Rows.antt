@@ -1,4 +1,4 @@
--- To believe: the ten proved rows of document 01, "Drawings to test on", and four with rings.
+-- To believe: the ten proved rows of document 01, "Drawings to test on", four with rings, and one of a tie.
 --
 --   By                 == the rule that a row is for: one of threshold and weight, or any in range
 --   Meant b t w        == the row is for the rule of threshold t and weight w
@@ -9,7 +9,9 @@
 --   Holds row          == for every rule that the row is for, and any buffers with room for 14,400 entries and 225 shots, that is the
 --                         outcome
 --   outline l          == the figure of one ring with the corners of the list l
+--   entriesOfL         == all entries of L's table by the rule of 25 nm and 40, in the order of entries
 --   L, B, framed, windowed   == the drawing of "The job program", the block with a nose, a frame with a window, the same with its window first
+--   Z                  == two blocks that share a strip, of which only the order of lines says how it is cut
 --   rows               == the table
 use Prim.Native.Nat.{ℕ, _*_, _/_, _≤_}
 use mathlib.Core.Path.{_≡_}
@@ -74,6 +76,10 @@ good f t w c s l k = record { figure = f; by = only-by t w; number = 0; cost = c
 abbrev pub L : Figure
 L = outline (0 ∷ 0 ∷ 100 ∷ 0 ∷ 100 ∷ 20 ∷ 60 ∷ 20 ∷ 60 ∷ 80 ∷ 0 ∷ 80 ∷ [])
 
+-- its nine pieces: x lines (0, 1), (0, 2), (1, 2) and for each the y lines in the same order
+abbrev pub entriesOfL : List ℕ
+entriesOfL = 3400 ∷ 1000 ∷ 1000 ∷ 6600 ∷ 5200 ∷ 1000 ∷ 4200 ∷ 4200 ∷ 0 ∷ []
+
 -- the block with a nose of 10 nm
 abbrev pub B : Figure
 B = outline (0 ∷ 0 ∷ 200 ∷ 0 ∷ 200 ∷ 50 ∷ 210 ∷ 50 ∷ 210 ∷ 150 ∷ 200 ∷ 150 ∷ 200 ∷ 200 ∷ 0 ∷ 200 ∷ [])
@@ -84,6 +90,11 @@ framed = figure (0 ∷ 0 ∷ 100 ∷ 0 ∷ 100 ∷ 100 ∷ 0 ∷ 100 ∷ 30 ∷ 
 
 abbrev pub windowed : Figure
 windowed = figure (30 ∷ 30 ∷ 70 ∷ 30 ∷ 70 ∷ 70 ∷ 30 ∷ 70 ∷ 0 ∷ 0 ∷ 100 ∷ 0 ∷ 100 ∷ 100 ∷ 0 ∷ 100 ∷ []) (4 ∷ 4 ∷ [])
+
+-- blocks of 60 by 80 nm that share 10 nm of their widths: the cuts at x = 50 and at x = 60 cost the same, and those across cost more. By
+-- the second the shots would be others
+abbrev pub Z : Figure
+Z = outline (0 ∷ 0 ∷ 60 ∷ 0 ∷ 60 ∷ 20 ∷ 110 ∷ 20 ∷ 110 ∷ 100 ∷ 50 ∷ 100 ∷ 50 ∷ 80 ∷ 0 ∷ 80 ∷ [])
 
 -- the line of y = 20 is the second y line of L
 abbrev pub rows : List Row
@@ -97,6 +108,7 @@ rows =
     ∷ good (outline (0 ∷ 0 ∷ 100 ∷ 0 ∷ 100 ∷ 24 ∷ 0 ∷ 24 ∷ [])) 24 40 1000 0 (0 ∷ 0 ∷ 100 ∷ 24 ∷ []) []
     ∷ good (outline (0 ∷ 0 ∷ 10 ∷ 0 ∷ 10 ∷ 10 ∷ 0 ∷ 10 ∷ [])) 25 40 2600 40 (0 ∷ 0 ∷ 10 ∷ 10 ∷ []) []
     ∷ good (outline (0 ∷ 0 ∷ 10 ∷ 0 ∷ 10 ∷ 20 ∷ 20 ∷ 20 ∷ 20 ∷ 10 ∷ 0 ∷ 10 ∷ [])) 0 40 2000 0 (0 ∷ 0 ∷ 10 ∷ 10 ∷ 10 ∷ 10 ∷ 20 ∷ 20 ∷ []) []
+    ∷ good Z 25 40 4200 30 (0 ∷ 0 ∷ 50 ∷ 80 ∷ 50 ∷ 0 ∷ 60 ∷ 20 ∷ 50 ∷ 20 ∷ 110 ∷ 100 ∷ []) (record { cut = vertical 1; cost = 4200 } ∷ record { cut = vertical 2; cost = 4200 } ∷ record { cut = horizontal 1; cost = 5400 } ∷ record { cut = horizontal 2; cost = 5400 } ∷ [])
     ∷ good framed 25 40 4000 0 (0 ∷ 0 ∷ 30 ∷ 100 ∷ 30 ∷ 0 ∷ 70 ∷ 30 ∷ 30 ∷ 70 ∷ 70 ∷ 100 ∷ 70 ∷ 0 ∷ 100 ∷ 100 ∷ []) []
     ∷ good framed 40 40 21600 440 (0 ∷ 0 ∷ 30 ∷ 100 ∷ 30 ∷ 0 ∷ 70 ∷ 30 ∷ 30 ∷ 70 ∷ 70 ∷ 100 ∷ 70 ∷ 0 ∷ 100 ∷ 100 ∷ []) []
     ∷ good windowed 25 40 4000 0 (0 ∷ 0 ∷ 30 ∷ 100 ∷ 30 ∷ 0 ∷ 70 ∷ 30 ∷ 30 ∷ 70 ∷ 70 ∷ 100 ∷ 70 ∷ 0 ∷ 100 ∷ 100 ∷ []) []

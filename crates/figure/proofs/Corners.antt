@@ -4,17 +4,16 @@
 --   corner-at, edge-at, turn-at                  == the corner k, the edge that ends at it, that edge with the one before
 --   around-at, length-around                     == the same of any list, once round
 --   any-at, any-none                             == a test that one member passes; one that none does
-use Prim.Native.Nat.{ℕ, zero, suc, _+_, _*_, _-_, _/_, _%_, _≤_, _<_}
+use Prim.Native.Nat.{ℕ, zero, suc, _+_, _*_, _-_, _/_, _<_}
 use mathlib.Core.Path.{_≡_, refl, sym, _∙_, ap, ap₂}
 use mathlib.Core.Bool.{Bool, true, false, not, _&&_, _||_, or-true, true≢false}
 use mathlib.Core.List.{List, [], _∷_}
 use native.Mathlib.Omega.{arith}
-use lib.Dec.{ltb, eqb}
+use lib.Dec.{eqb}
 use lib.ListN.{length, getD}
-use borrow.Author.Tests.{lt-ltb, le-ltb, eq-eqb, ne-eqb}
 use Rattle.figure.specs.declared.Axis.{Axis}
 use Rattle.figure.specs.declared.Axis.the-variants.{X, Y}
-use Rattle.figure.specs.Corners.{corners, coordinate, last, steps, around, any, edges, turns, changes, both, neither, alike, odd, slanted, unturned}
+use Rattle.figure.specs.Corners.{corners, coordinate, last, steps, around, any, edges, turns, changes, both, neither, alike, slanted, unturned}
 use Rattle.figure.specs.Steps.{origin, still, corner, edge, turn, before}
 
 pub length-corners : (l : List ℕ) → length (corners l) ≡ length l / 2

@@ -8,7 +8,7 @@
 --   walls-rings, walls-all, parity-all   == the same of all rings of a figure
 --   inside-left, inside-right, inside-below, inside-above   == beyond all corners of a figure nothing is inside
 use Prim.Native.Nat.{ℕ, suc, _+_, _%_, _≤_, _<_, min, max}
-use mathlib.Core.Path.{_≡_, refl, sym, _∙_, ap, ap₂, subst}
+use mathlib.Core.Path.{_≡_, refl, sym, _∙_, ap, subst}
 use mathlib.Core.Bool.{Bool, true, false, not, cond, _&&_, and-false}
 use mathlib.Core.List.{List, [], _∷_, _++_}
 use mathlib.Core.Logic.{_⊎_, inl, inr}

@@ -5,7 +5,7 @@
 --   corners-kept-all    == each corner's place is that of an edge that keeps it
 --   ends-all            == the ends of an edge are corners
 --   slanted-all, unturned-all   == 3 and 4 of some ring, as tests of all edges and turns
-use Prim.Native.Nat.{ℕ, _*_}
+use Prim.Native.Nat.{_*_}
 use mathlib.Core.Path.{_≡_, refl, sym, _∙_, ap, ap₂, subst}
 use mathlib.Core.Bool.{Bool, true, false, _||_}
 use mathlib.Core.List.{List, [], _∷_, _++_, List·Memᴰ as Member, Memᴰ·append-left, Memᴰ·append-right}
@@ -14,7 +14,7 @@ use lib.ListN.{length, length-append}
 use Rattle.sum.specs.Sum.{only, sumOf, All, join}
 use Rattle.sum.proofs.Lists.{All-imp, All-append, sumOf-append, join-append}
 use Rattle.figure.specs.declared.Axis.{Axis}
-use Rattle.figure.specs.Corners.{Corner, Link, coordinate, any, edges, turns, changes, both, neither, alike, slanted, unturned}
+use Rattle.figure.specs.Corners.{Corner, coordinate, any, edges, turns, changes, both, neither, alike, slanted, unturned}
 use Rattle.figure.specs.Figure.{Figure, rings, cornersOf, edgesOf, turnsOf}
 use Rattle.figure.specs.Steps.{Right}
 use Rattle.figure.proofs.Corners.{length-around}

@@ -7,16 +7,16 @@
 --   edges-half                           == half of the edges change the coordinate along an axis: so their number is even
 --   kept, corners-kept, length-kept      == the places of the edges that keep a coordinate: each corner has one of them
 --   ends                                 == the ends of an edge are corners
-use Prim.Native.Nat.{ℕ, suc, _+_, _*_, _≤_, _<_}
+use Prim.Native.Nat.{ℕ, suc, _+_, _*_, _<_}
 use mathlib.Core.Path.{_≡_, refl, sym, _∙_, ap, subst}
 use mathlib.Core.Bool.{Bool, true, false, not, cond, _&&_, _||_, true≢false}
-use mathlib.Core.List.{List, [], _∷_, _++_, map, List·Memᴰ as Member, List·Memᴰ·head, List·Memᴰ·tail, Memᴰ·append-left, Memᴰ·append-right, Memᴰ·map}
+use mathlib.Core.List.{List, [], _∷_, _++_, List·Memᴰ as Member, List·Memᴰ·head, List·Memᴰ·tail, Memᴰ·append-left, Memᴰ·append-right}
 use native.Mathlib.Omega.{arith}
 use lib.Dec.{eqb}
 use lib.ListN.{length}
 use borrow.Author.Tests.{eqb-true, eqb-false, not-true, not-false}
 use Rattle.sum.specs.Sum.{only, sumOf, All, join}
-use Rattle.sum.proofs.Lists.{All-imp, All-at, All-of, All-map}
+use Rattle.sum.proofs.Lists.{All-imp, All-of}
 use Rattle.figure.specs.declared.Axis.{Axis}
 use Rattle.figure.specs.declared.Axis.the-variants.{X, Y}
 use Rattle.figure.specs.Corners.{Corner, Link, coordinate, last, steps, around, any, edges, turns, changes, both, neither, same, alike, slanted, unturned}

@@ -22,7 +22,7 @@ use mathlib.Core.Logic.{inl, inr}
 use Rattle.sum.specs.Sum.{sumOf}
 use Rattle.sum.proofs.Sum.{le-or}
 use Rattle.figure.specs.Corners.{Corner, corners, any}
-use Rattle.figure.specs.Figure.{figure, share, rings, mostCorners, mostRings, badLength, badFigure}
+use Rattle.figure.specs.Figure.{figure, share, mostCorners, mostRings, badLength, badFigure}
 use Rattle.figure.proofs.Corners.{any-at, any-none}
 use Rattle.figure.proofs.Fault.{rings-good}
 

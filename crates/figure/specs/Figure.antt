@@ -15,11 +15,15 @@
 --   total f          == how many corners its ring lengths announce
 --   badLength n      == a ring has 4 to 32 corners
 --   badFigure f      == 2: a bad ring count, ring length or total
+--   BadLengths f     == the same in words: no ring or more than 8, a ring of fewer than 4 corners or of more than 32, more than 32 in all, or
+--                       not two numbers for each corner
 --   fault f          == the first of 2, 3, 4 whose condition holds of f, 0 where none does
 --   shapeNo          == the number of each answer of `shape_of`; 0 where the figure is right-angled
-use Prim.Native.Nat.{ℕ, _*_}
+use Prim.Native.Nat.{ℕ, _*_, _<_}
+use mathlib.Core.Path.{_≡_}
+use mathlib.Core.Logic.{_⊎_}
 use mathlib.Core.Bool.{Bool, cond, not, _||_}
-use mathlib.Core.List.{List, [], _∷_, map}
+use mathlib.Core.List.{List, [], _∷_, map, List·Memᴰ as Member}
 use lib.Dec.{ltb, eqb}
 use lib.ListN.{length, take, drop}
 use Rattle.sum.specs.Sum.{sumOf, join}
@@ -74,6 +78,13 @@ unfoldable pub badFigure : Figure → Bool
 badFigure f =
     (eqb (length (f .lengths)) 0 || ltb mostRings (length (f .lengths)))
     || (any badLength (f .lengths) || (ltb mostCorners (total f) || not (eqb (length (f .numbers)) (2 * total f))))
+
+abbrev pub BadLengths : Figure → Type 0
+BadLengths f =
+    (length (f .lengths) ≡ 0)
+    ⊎ ((mostRings < length (f .lengths))
+    ⊎ (((n : ℕ) × Member n (f .lengths) × ((n < leastCorners) ⊎ (mostCorners < n)))
+    ⊎ ((mostCorners < total f) ⊎ (length (f .numbers) ≡ 2 * total f → ⊥))))
 
 unfoldable pub fault : Figure → ℕ
 fault f =

@@ -1,3 +1,4 @@
 pub mod Delivered
 pub mod Gridded
 pub mod Settled
+pub mod Demands

@@ -9,12 +9,11 @@
 --   preset-range, preset-outcome, preset-known : the same of the default preset, which is known
 --   told-apart          : answers that tell the same are the same
 --   fracture-unique     : two ways to satisfy a promise are one: the same answer, and the same in both buffers
-use Prim.Native.Nat.{ℕ, _≤_}
+use Prim.Native.Nat.{ℕ}
 use mathlib.Core.Path.{_≡_, refl, ap, ap₂, sym, _∙_}
 use mathlib.Core.Bool.{Bool, true, false, cond}
 use mathlib.Core.List.{List}
 use native.Mathlib.Omega.{arith}
-use lib.Dec.{eqb}
 use borrow.Author.Tests.{eq-eqb, ne-eqb}
 use Rattle.refusal.specs.declared.Refusal.{Refusal}
 use Rattle.refusal.specs.Refusals.{refusalNo}
@@ -33,7 +32,7 @@ use Rattle.demands.proofs.Outcome.{outcome-rule}
 use Rattle.fracture.specs.declared.Fractured.{Fractured}
 use Rattle.fracture.specs.declared.Fractured.the-variants.{Done, Refused}
 use Rattle.fracture.specs.Delivery.{Laid}
-use Rattle.fracture.specs.Told.{told}
+use Rattle.fracture.specs.Told.{told, defaultPreset, byDefault}
 
 module _ (f : Figure) (s : Sheet) (p : Promise f s) where
   pub answered : (a : Answer) → s .answer ≡ a → refusal f ≡ answerNo a
@@ -97,20 +96,20 @@ rule-range t w e =
     ap (λ (s : Rule). inRange (s .threshold) (s .weight)) (m .1) ∙ m .0
 
 -- the row of the default preset
-module _ {r : Rule} (e : given r ≡ presetTold 0) where
+module _ {r : Rule} (e : given r ≡ presetTold defaultPreset) where
   pub preset-range : inRange (r .threshold) (r .weight) ≡ true
   unfolding presetTold inRange
   preset-range = ap₂ inRange (ap (λ (t : Told). t .threshold) e) (ap (λ (t : Told). t .weight) e)
 
   pub preset-outcome : (f : Figure) (table list : List ℕ)
       → ruled f r table list
-      ≡ outcome (record { figure = f; threshold = presetTold 0 .threshold; weight = presetTold 0 .weight; table = table; list = list })
+      ≡ outcome (byDefault (f .numbers) (f .lengths) table list)
   unfolding presetTold inRange
   preset-outcome f table list =
       ap (λ (t : Told). ruled f (record { threshold = t .threshold; weight = t .weight }) table list) e
-      ∙ ruled-outcome (record { figure = f; threshold = presetTold 0 .threshold; weight = presetTold 0 .weight; table = table; list = list }) refl
+      ∙ ruled-outcome (byDefault (f .numbers) (f .lengths) table list) refl
 
-pub preset-known : (why : Refusal) → unknown (refusalNo why) ≡ presetTold 0 → ⊥
+pub preset-known : (why : Refusal) → unknown (refusalNo why) ≡ presetTold defaultPreset → ⊥
 unfolding presetTold
 preset-known why e = omega (arith, refusal-some why, ap (λ (t : Told). t .number) e)
 

@@ -14,12 +14,13 @@ use table::numbering::pair_count;
 use verdict::Plan;
 ghost use mathlib.Core.Path.{_≡_};
 ghost use mathlib.Core.Bool.{true};
-ghost use Rattle.rule.specs.Rules.{inRange, presetTold};
+ghost use Rattle.rule.specs.Rules.{inRange};
 ghost use Rattle.figure.specs.Figure.{figure};
 ghost use Rattle.outline.specs.Grid.{Grid, memory};
 ghost use Rattle.demands.specs.Promise.{asked, gridded, ruled, outcome};
+ghost use Rattle.demands.specs.Demands.{Words};
 ghost use Rattle.fracture.specs.Delivery.{Laid, Fillable};
-ghost use Rattle.fracture.specs.Told.{told};
+ghost use Rattle.fracture.specs.Told.{told, byDefault};
 
 mod delivery;
 
@@ -58,7 +59,7 @@ fn fracture_grid(
     deliver(table, cells, xs, ys, list, plan)
 }
 
-// The fracture of a figure by a rule in range: 2 to 7 or the shots.
+// The fracture of a figure by a rule in range: 2 to 7 or the shots. The corners are 16-bit numbers by their type, which `words` says.
 fn fracture_by(
     corners: &[u16],
     lengths: &[u16],
@@ -67,7 +68,8 @@ fn fracture_by(
     list: &mut [u16],
 ) -> Fractured
     requires { ⌜ inRange (rule .threshold) (rule .weight) ≡ true ⌝ }
-    ensures { λ a. ⌜ told a (now (table .exit)) (now (list .exit)) ≡ ruled (figure (now (corners .entry)) (now (lengths .entry))) rule (now (table .entry)) (now (list .entry)) ⌝ }
+    ensures settled { λ a. ⌜ told a (now (table .exit)) (now (list .exit)) ≡ ruled (figure (now (corners .entry)) (now (lengths .entry))) rule (now (table .entry)) (now (list .entry)) ⌝ }
+    ensures words { λ a. ⌜ Words (figure (now (corners .entry)) (now (lengths .entry))) ⌝ }
 {
     let mut xs = [0u16; MOST_LINES];
     let mut ys = [0u16; MOST_LINES];
@@ -109,7 +111,7 @@ pub fn fracture_default(
     table: &mut [u32],
     list: &mut [u16],
 ) -> Fractured
-    ensures settled { λ a. ⌜ told a (now (table .exit)) (now (list .exit)) ≡ outcome (asked (now (corners .entry)) (now (lengths .entry)) (presetTold 0 .threshold) (presetTold 0 .weight) (now (table .entry)) (now (list .entry))) ⌝ }
+    ensures settled { λ a. ⌜ told a (now (table .exit)) (now (list .exit)) ≡ outcome (byDefault (now (corners .entry)) (now (lengths .entry)) (now (table .entry)) (now (list .entry))) ⌝ }
 {
     match Rule::preset(Rule::DEFAULT_PRESET) {
         Preset::Row(rule) => fracture_by(corners, lengths, rule, table, list),

@@ -18,6 +18,7 @@ ghost use Rattle.number.specs.Reading.{past};
 ghost use Rattle.figure.specs.Figure.{mostCorners};
 ghost use Rattle.job.specs.Job.{value, coordinates, ring, ringsFrom, announces, outline, outlines, header, job};
 ghost use Rattle.job.specs.Calls.{checked, checkTold, taken, told};
+ghost use Rattle.job.specs.Placed.{Lies, takenAt};
 ghost use Rattle.job.specs.Steps.{pastTold, sized, summed, begun, headTold, whole, locatedTold, located};
 
 // Where reading got to, or the first fault.
@@ -54,7 +55,7 @@ pub enum Checked {
 }
 
 // A number of the job, held to its range.
-pub fn value(job: &[u8], c: Cursor, low: u32, high: u32) -> Read
+pub(crate) fn value(job: &[u8], c: Cursor, low: u32, high: u32) -> Read
     ensures { λ r. ⌜ readTold r ≡ value (now (job .entry)) low high (c .at) ⌝ }
 {
     let at = c.at;
@@ -73,7 +74,7 @@ pub fn value(job: &[u8], c: Cursor, low: u32, high: u32) -> Read
 }
 
 // Past n coordinates.
-pub fn coordinates(job: &[u8], from: Cursor, n: u32) -> Past
+fn coordinates(job: &[u8], from: Cursor, n: u32) -> Past
     ensures { λ r. ⌜ pastTold r ≡ past (coordinates (now (job .entry)) n (from .at)) ⌝ }
 {
     let mut c = from;
@@ -107,7 +108,7 @@ fn ring(job: &[u8], from: Cursor, most: u32) -> Read
 }
 
 // Past so many rings: each may have what the ones before it left of all corners. Gives how many corners they have together.
-pub fn rings(job: &[u8], from: Cursor, count: u32) -> Read
+pub(crate) fn rings(job: &[u8], from: Cursor, count: u32) -> Read
     ensures { λ r. ⌜ readTold r ≡ summed (ringsFrom (now (job .entry)) count mostCorners (from .at)) ⌝ }
 {
     let mut c = from;
@@ -140,7 +141,7 @@ fn announces(job: &[u8], from: Cursor) -> bool
 }
 
 // How many rings a figure has, and the place of the first: the number that 0 announces, or one ring, which is not announced.
-pub fn begin(job: &[u8], from: Cursor) -> Read
+pub(crate) fn begin(job: &[u8], from: Cursor) -> Read
     ensures { λ r. ⌜ readTold r ≡ begun (now (job .entry)) (from .at) ⌝ }
 {
     if announces(job, from) {
@@ -151,7 +152,7 @@ pub fn begin(job: &[u8], from: Cursor) -> Read
 }
 
 // Past one figure: its rings, after what announces them.
-pub fn outline(job: &[u8], from: Cursor) -> Past
+fn outline(job: &[u8], from: Cursor) -> Past
     ensures { λ r. ⌜ pastTold r ≡ past (outline (now (job .entry)) (from .at)) ⌝ }
 {
     match begin(job, from) {
@@ -164,7 +165,7 @@ pub fn outline(job: &[u8], from: Cursor) -> Past
 }
 
 // Past k figures.
-pub fn outlines(job: &[u8], from: Cursor, k: usize) -> Past
+fn outlines(job: &[u8], from: Cursor, k: usize) -> Past
     ensures { λ r. ⌜ pastTold r ≡ past (outlines (now (job .entry)) k (from .at)) ⌝ }
 {
     let mut c = from;
@@ -184,7 +185,7 @@ pub fn outlines(job: &[u8], from: Cursor, k: usize) -> Past
 }
 
 // Threshold, weight and K, from the front of the job.
-pub fn header(job: &[u8]) -> Head
+fn header(job: &[u8]) -> Head
     ensures { λ r. ⌜ headTold r ≡ header (now (job .entry)) ⌝ }
 {
     match value(job, Cursor { at: 0 }, 0, Rule::MAX_THRESHOLD) {
@@ -272,6 +273,7 @@ pub fn locate(job: &[u8], first: Cursor, k: usize) -> Located
 // fault anywhere refuses every figure; with a refusal the part is empty.
 pub fn take<'a>(job: &'a [u8], k: usize, refusal: &mut u32, offset: &mut usize) -> &'a [u8]
     ensures settled { λ r. ⌜ told (now (refusal .exit)) (now (offset .exit)) (now r) ≡ taken (now (job .entry)) k ⌝ }
+    ensures placed { λ r. ⌜ Lies (r .ptr) (job .entry .ptr) (takenAt (now (job .entry)) k) ⌝ }
 {
     match whole(job) {
         Head::Fault(fault, at) => {

@@ -1,38 +1,35 @@
 -- The bytes of a number and the reading of a number are each other's inverse. Assumes nothing.
 --
 --   Stands s at l    == the bytes l stand in s at a place
---   AllBytes s       == each number of s is a byte
 --   stands-at        == what stands at a place, one byte of it
 --   stands-join, stands-front, stands-back == the two parts of what stands at a place
 --   stands-whole     == the whole of some bytes stands at their front
 --   bytes-one, bytes-two, bytes-three == the cases of `numberBytes`
 --   bytes-length     == a number has 1 to 3 bytes
+--   bytes-all        == each of them is a byte
 --   number-back      == a number's bytes are read as that number, up to the place past them
 --   number-only      == what is read as a number is that number's bytes: it has one form
 --   number-onward    == a number that is read ends within the bytes, past its start
-use Prim.Native.Nat.{ℕ, suc, _+_, _-_, _*_, _/_, _%_, _<_, _≤_}
-use mathlib.Core.Path.{_≡_, _∙_, refl, subst, ap, ap₂, sym}
+use Prim.Native.Nat.{ℕ, zero, suc, _+_, _-_, _*_, _/_, _%_, _<_, _≤_}
+use mathlib.Core.Path.{_≡_, _∙_, subst, ap, ap₂, sym}
 use mathlib.Core.List.{List, [], _∷_, _++_}
-use mathlib.Core.Bool.{Bool, true, false, cond, _&&_, false≢true}
 use native.Mathlib.Nat.{add-zero}
 use native.Mathlib.Numerals.{add-one}
 use native.Mathlib.Omega.{arith}
-use lib.Dec.{ltb, leb, eqb}
+use lib.Dec.{ltb}
 use lib.ListN.{length, getD, take, drop, length-take, length-drop, length-append}
 use lib.Seq.{drop-cons, getD-take, getD-drop, take-add, take-append-seam, drop-append-seam, take-take, take-length, drop-drop, drop-at}
-use borrow.Author.Tests.{ltb-true, ltb-false, leb-true, leb-false, eqb-false, lt-ltb, le-ltb}
-use Rattle.refusal.specs.declared.Refusal.the-variants.{Ends, Padded}
-use Rattle.number.specs.Reading.{Reading, read, fault}
-use Rattle.number.specs.Number.{most, group, groups, number, numberBytes}
-use Rattle.number.proofs.Number.{number-one, number-two, number-three}
+use borrow.Author.Tests.{ltb-true, ltb-false, lt-ltb, le-ltb}
+use Rattle.number.specs.Reading.{read}
+pub use Rattle.number.specs.Faults.{AllBytes}
+use Rattle.number.specs.Faults.{GoesOn, worth}
+use Rattle.number.specs.Number.{most, number, numberBytes}
+use Rattle.number.proofs.Number.{cond-cases, goes-first, goes-at, sound-exactly, number-one, number-two, number-three}
 
 -- what stands at a place
 
 abbrev pub Stands : List ℕ → ℕ → List ℕ → Type 0
 Stands s at l = take (length l) (drop at s) ≡ l
-
-abbrev pub AllBytes : List ℕ → Type 0
-AllBytes s = (i : ℕ) → getD s i 0 < 256
 
 module _ (s : List ℕ) (at : ℕ) (l : List ℕ) (e : Stands s at l) where
   pub stands-at : (i : ℕ) → i < length l → getD s (at + i) 0 ≡ getD l i 0
@@ -86,10 +83,6 @@ pub bytes-three : (n : ℕ) → 16384 ≤ n → numberBytes n ≡ (128 + n % 128
 unfolding numberBytes
 bytes-three n h = let k : 128 ≤ n = omega arith in simp le-ltb
 
-cond-cases : {A : Type 0} (P : A → Type 0) (b : Bool) (x y : A) → (b ≡ true → P x) → (b ≡ false → P y) → P (cond b x y)
-cond-cases P true x y f g = f refl
-cond-cases P false x y f g = g refl
-
 -- a number has one byte, two, or three
 pub bytes-cases : (P : List ℕ → Type 0) (n : ℕ) → (n < 128 → P (n ∷ [])) → (128 ≤ n → n < 16384 → P ((128 + n % 128) ∷ n / 128 ∷ []))
     → (16384 ≤ n → P ((128 + n % 128) ∷ (128 + n / 128 % 128) ∷ n / 16384 ∷ [])) → P (numberBytes n)
@@ -100,6 +93,23 @@ bytes-cases P n f g h =
 
 pub bytes-length : (n : ℕ) → (0 < length (numberBytes n)) × (length (numberBytes n) ≤ 3)
 bytes-length n = bytes-cases (λ l. (0 < length l) × (length l ≤ 3)) n (λ h. omega arith) (λ h k. omega arith) (λ h. omega arith)
+
+-- what is written are bytes
+pub bytes-all : (n : ℕ) → n ≤ most → AllBytes (numberBytes n)
+bytes-all n m =
+    bytes-cases AllBytes n
+    (λ h. byte-more n [] (omega arith) byte-none)
+    (λ h k. byte-more (128 + n % 128) (n / 128 ∷ []) (omega arith) (byte-more (n / 128) [] (omega arith) byte-none))
+    (λ h.
+    byte-more (128 + n % 128) ((128 + n / 128 % 128) ∷ n / 16384 ∷ []) (omega arith)
+    (byte-more (128 + n / 128 % 128) (n / 16384 ∷ []) (omega arith) (byte-more (n / 16384) [] (omega arith) byte-none)))
+  where
+    byte-none : AllBytes []
+    byte-none i = omega arith
+
+    byte-more : (b : ℕ) (l : List ℕ) → b < 256 → AllBytes l → AllBytes (b ∷ l)
+    byte-more b l h k zero = omega arith
+    byte-more b l h k (suc i) = k i
 
 -- reading gives the number back
 pub number-back : (s : List ℕ) (at n : ℕ) → n ≤ most → Stands s at (numberBytes n) → number s at ≡ read n (at + length (numberBytes n))
@@ -123,24 +133,6 @@ number-back s at n m =
 
 -- what was read has one form
 
--- what holds of each way that a group can go holds of the group
-group-cases : (P : Reading ℕ → Type 0) (s : List ℕ) (start at low unit : ℕ) (further : Reading ℕ)
-    → P (fault Ends start)
-    → P (fault Padded start)
-    → (at < length s → 128 ≤ getD s at 0 → P further)
-    → (at < length s → getD s at 0 < 128 → (start < at → 0 < getD s at 0) → P (read (low + unit * getD s at 0) (at + 1)))
-    → P (group s start at low unit further)
-unfolding group
-group-cases P s start at low unit further ends padded more last =
-    cond-cases P (leb (length s) at) _ _ (λ h. ends)
-    (λ h. cond-cases P (leb 128 (getD s at 0)) _ _ (λ k. more (leb-false (length s) at h) (leb-true 128 (getD s at 0) k))
-    (λ k. cond-cases P (eqb (getD s at 0) 0 && ltb start at) _ _ (λ z. padded)
-    (λ z. last (leb-false (length s) at h) (leb-false 128 (getD s at 0) k) (λ q. some (eqb (getD s at 0) 0) refl (lt-ltb start at q) z))))
-  where
-    some : (b : Bool) → eqb (getD s at 0) 0 ≡ b → ltb start at ≡ true → (b && ltb start at) ≡ false → 0 < getD s at 0
-    some true e q z = absurd (false≢true (sym z ∙ q))
-    some false e q z = let n = eqb-false (getD s at 0) 0 e in omega arith
-
 -- the first bytes at a place, one by one
 take-more : (s : List ℕ) (at n : ℕ) → at < length s → take (suc n) (drop at s) ≡ getD s at 0 ∷ take n (drop (at + 1) s)
 take-more s at n h = rw (add-one, drop-cons s at 0)
@@ -159,10 +151,6 @@ pub record Formed (s : List ℕ) (at n next : ℕ) : Type 0 where
   pub few : n ≤ most
   pub stands : Stands s at (numberBytes n)
   pub onward : next ≡ at + length (numberBytes n)
-
-abbrev FormedIf : List ℕ → ℕ → Reading ℕ → Type 0
-FormedIf s at (read n next) = Formed s at n next
-FormedIf s at (fault r p) = Unit
 
 formed-by : (s : List ℕ) (at n next : ℕ) (l : List ℕ) → numberBytes n ≡ l → n ≤ most → Stands s at l → next ≡ at + length l → Formed s at n next
 formed-by s at n next l e m st o =
@@ -192,37 +180,27 @@ module _ (s : List ℕ) (at n next : ℕ) where
       (take-three s at h)
       o
 
-formed : (s : List ℕ) (at : ℕ) → AllBytes s → FormedIf s at (number s at)
-unfolding number groups
-formed s at bs =
-    let a = bs at in
-    let b = bs (at + 1) in
-    let p : at + 1 + 1 ≡ at + 2 = omega arith in
-    group-cases (FormedIf s at) s at at 0 1 _ tt tt
-    (λ h a1. group-cases (FormedIf s at) s at (at + 1) _ 128 _ tt tt
-    (λ k b1. subst (λ q. FormedIf s at (groups 0 s at q (0 + 1 * (getD s at 0 - 128) + 128 * (getD s (at + 1) 0 - 128)) 16384)) (sym p)
-    (group-cases (FormedIf s at) s at (at + 2) _ 16384 _ tt tt (λ m d. tt)
-    (λ m d some. let z = some (omega arith) in
-    formed-three s at _ _ m a1 a b1 b z d (omega arith) (omega arith))))
-    (λ k b2 some. let z = some (omega arith) in formed-two s at _ _ k a1 a z b2 (omega arith) (omega arith)))
-    (λ h a2 some. formed-one s at _ _ h a2 (omega arith) refl)
+module _ (s : List ℕ) (at : ℕ) {n next : ℕ} (bs : AllBytes s) where
+  formed : (m : ℕ) → m < 3 → GoesOn s at m → at + m < length s → getD s (at + m) 0 < 128 → (0 < m → 0 < getD s (at + m) 0)
+      → n ≡ worth s at m → next ≡ at + m + 1 → Formed s at n next
+  unfolding worth
+  formed zero h g k b f e o =
+      formed-one s at n next (omega arith) (subst (λ i. getD s i 0 < 128) (add-zero at) b) e (omega arith)
+  formed (suc zero) h g k b f e o =
+      let a = goes-first s at 0 g in formed-two s at n next k (a .1) (bs at) (f (omega arith)) b e (omega arith)
+  formed (suc (suc zero)) h g k d f e o =
+      let a = goes-first s at 1 g in
+      let b = goes-at s at 2 g 1 (omega arith) in
+      let q : at + 2 ≡ at + 1 + 1 = omega arith in
+      let w = ap (λ i. getD s i 0) q in
+      formed-three s at n next k (a .1) (bs at) (b .1) (bs (at + 1)) (f (omega arith)) d (omega (arith, w, e)) (omega arith)
+  formed (suc (suc (suc m))) h g k b f e o = absurd (omega arith)
 
 pub number-only : (s : List ℕ) (at : ℕ) {n next : ℕ} → AllBytes s → number s at ≡ read n next → Formed s at n next
-number-only s at bs e = subst (FormedIf s at) e (formed s at bs)
+number-only s at {n} {next} bs e =
+    let k = sound-exactly s at n next .0 e in
+    formed s at bs (k .before) (k .few) (k .goes) (k .there) (k .last) (k .fewest) (k .value) (k .past)
 
 -- a number that is read ends within the bytes, past its start
-abbrev Onward : List ℕ → ℕ → Reading ℕ → Type 0
-Onward s at (read n next) = (at < next) × (next ≤ length s) × (next ≤ at + 3)
-Onward s at (fault r p) = Unit
-
-onward : (s : List ℕ) (at : ℕ) → Onward s at (number s at)
-unfolding number groups
-onward s at =
-    group-cases (Onward s at) s at at 0 1 _ tt tt
-    (λ h a. group-cases (Onward s at) s at (at + 1) _ 128 _ tt tt
-    (λ k b. group-cases (Onward s at) s at (at + 1 + 1) _ 16384 _ tt tt (λ m d. tt) (λ m d some. omega arith))
-    (λ k b some. omega arith))
-    (λ h a some. omega arith)
-
 pub number-onward : (s : List ℕ) (at : ℕ) {n next : ℕ} → number s at ≡ read n next → (at < next) × (next ≤ length s) × (next ≤ at + 3)
-number-onward s at e = subst (Onward s at) e (onward s at)
+number-onward s at {n} {next} e = let k = sound-exactly s at n next .0 e in omega arith

@@ -3,12 +3,11 @@
 --
 --   most             == the highest number that three groups of seven bits hold
 --   numberBytes n    == the bytes of the number n: the fewest groups that hold it
---   number s at      == what reading a number of the bytes s at a place finds
---   group, groups    == the same from one of its groups on
+--   number s at      == what reading a number of the bytes s at a place finds, by its first byte, its second and its third
 --   readTold         == what each case of the reader's answer tells
-use Prim.Native.Nat.{ℕ, zero, suc, _+_, _-_, _*_, _/_, _%_}
+use Prim.Native.Nat.{ℕ, _+_, _-_, _*_, _/_, _%_}
 use mathlib.Core.List.{List, [], _∷_}
-use mathlib.Core.Bool.{cond, _&&_}
+use mathlib.Core.Bool.{cond}
 use lib.ListN.{length, getD}
 use lib.Dec.{ltb, leb, eqb}
 use Rattle.refusal.specs.declared.Refusal.the-variants.{Ends, Padded, Range}
@@ -25,24 +24,19 @@ numberBytes n =
     (cond (ltb n 16384) ((128 + n % 128) ∷ n / 128 ∷ [])
     ((128 + n % 128) ∷ (128 + n / 128 % 128) ∷ n / 16384 ∷ []))
 
--- a group of the number that starts at `start`: the groups before it are worth `low`, one of this group is worth `unit`, and
--- where its top bit is set the number is what is found further on
-unfoldable pub group : List ℕ → ℕ → ℕ → ℕ → ℕ → Reading ℕ → Reading ℕ
-group s start at low unit further =
-    cond (leb (length s) at) (fault Ends start)
-    (cond (leb 128 (getD s at 0)) further
-    (cond (eqb (getD s at 0) 0 && ltb start at) (fault Padded start)
-    (read (low + unit * getD s at 0) (at + 1))))
-
--- the same, with so many groups to follow at most
-unfoldable pub groups : ℕ → List ℕ → ℕ → ℕ → ℕ → ℕ → Reading ℕ
-groups zero s start at low unit = group s start at low unit (fault Range start)
-groups (suc n) s start at low unit =
-    group s start at low unit (groups n s start (at + 1) (low + unit * (getD s at 0 - 128)) (unit * 128))
-
--- the number at a place; a fault's offset is where the number starts, and a place past the end is bytes that end
+-- the number at a place, of one byte, two, or three; a fault's offset is where the number starts, and a place past the end is bytes
+-- that end
 unfoldable pub number : List ℕ → ℕ → Reading ℕ
-number s at = groups 2 s at at 0 1
+number s at =
+    cond (leb (length s) at) (fault Ends at)
+    (cond (ltb (getD s at 0) 128) (read (getD s at 0) (at + 1))
+    (cond (leb (length s) (at + 1)) (fault Ends at)
+    (cond (eqb (getD s (at + 1) 0) 0) (fault Padded at)
+    (cond (ltb (getD s (at + 1) 0) 128) (read ((getD s at 0 - 128) + 128 * getD s (at + 1) 0) (at + 2))
+    (cond (leb (length s) (at + 2)) (fault Ends at)
+    (cond (leb 128 (getD s (at + 2) 0)) (fault Range at)
+    (cond (eqb (getD s (at + 2) 0) 0) (fault Padded at)
+    (read ((getD s at 0 - 128) + 128 * (getD s (at + 1) 0 - 128) + 16384 * getD s (at + 2) 0) (at + 3)))))))))
 
 abbrev pub readTold : Read → Reading ℕ
 readTold (answer.Number v c) = read v (c .at)

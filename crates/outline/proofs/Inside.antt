@@ -9,8 +9,8 @@
 --   one-ring-grid                     == the grid of a figure of one ring, from the corners of its list
 --   grid-sound                        == the grid of a figure that passes 2 to 4 is sound
 use Prim.Native.Nat.{ℕ, suc, _-_, _/_, _≤_, _<_}
-use mathlib.Core.Path.{_≡_, refl, sym, _∙_, ap, ap₂}
-use mathlib.Core.Bool.{Bool, false, _&&_, and-false}
+use mathlib.Core.Path.{_≡_, sym, _∙_, ap₂}
+use mathlib.Core.Bool.{false, _&&_, and-false}
 use mathlib.Core.List.{List, [], _∷_, map, List·Memᴰ as Member}
 use mathlib.Core.Logic.{inl, inr}
 use native.Mathlib.Omega.{arith}

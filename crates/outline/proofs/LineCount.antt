@@ -2,8 +2,8 @@
 --
 --   lines-some     == 2 at least across each axis
 --   lines-most     == and no more than half as many as it has corners
-use Prim.Native.Nat.{ℕ, _*_, _≤_, _<_}
-use mathlib.Core.List.{List, map, List·Memᴰ as Member, Memᴰ·map}
+use Prim.Native.Nat.{_*_, _≤_, _<_}
+use mathlib.Core.List.{map, List·Memᴰ as Member, Memᴰ·map}
 use native.Mathlib.Omega.{arith}
 use lib.ListN.{length}
 use Rattle.sum.proofs.Lists.{All-at, All-map}

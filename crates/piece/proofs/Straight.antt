@@ -4,6 +4,7 @@
 --   cuts-all, cuts-at                    == what holds of each line strictly between the ends holds of each cut, and back
 --   sum-cuts, cuts-some, ends            == a cut shares out sums over cells; a piece of two cells has a cut; the recurrence ends
 -- The recurrence
+--   shots-solve, shots-only              == the shots of all pieces solve the recurrence, and nothing else does
 --   shots-outside, shots-full            == no shot; the piece itself
 --   cost-outside, cost-full, cost-zero   == 0 outside; the charge where full; where it is 0 the piece is outside
 --   cost-cuts, cost-vertical, cost-horizontal   == a mixed piece costs at most what the parts of a cut cost ..
@@ -22,7 +23,7 @@ use native.Mathlib.Omega.{arith}
 use Rattle.sum.specs.Sum.{only, sumOf, All, Some}
 use Rattle.sum.proofs.Sum.{le-or}
 use Rattle.sum.proofs.Lists.{All-imp, All-append, All-parts, All-map, All-unmap, All-at, All-join, Some-map, Some-left, Some-right}
-use Rattle.recurrence.specs.Scheme.{Kind, outside, full, mixed, Ends}
+use Rattle.recurrence.specs.Scheme.{Kind, outside, full, mixed, Solves, Ends}
 use Rattle.recurrence.specs.Cutting.{Cutting, shotsIn, price}
 use Rattle.recurrence.proofs.Scheme as scheme
 use Rattle.recurrence.proofs.Cutting as cutting
@@ -143,6 +144,14 @@ part-within s q p ha hc hb hd w = record {
 module _ (g : Grid) (r : Rule) where
   pub ends : Ends (straight g r) cells
   ends = cut-ends (kind g) (charge g r) (λ p e. let m = mixed-count g p e in omega arith)
+
+  -- the shots of a grid solve the recurrence, and nothing else does
+  pub shots-solve : Solves (straight g r) (shots g r)
+  unfolding shots
+  shots-solve = scheme.solution (straight g r) cells ends
+
+  pub shots-only : (f : Piece → List Piece) → Solves (straight g r) f → (p : Piece) → f p ≡ shots g r p
+  shots-only f F p = scheme.solution-only (straight g r) cells ends f (shots g r) F shots-solve p
 
   pub shots-outside : (p : Piece) → kind g p ≡ outside → shots g r p ≡ []
   unfolding shots

@@ -2,6 +2,7 @@
 --
 --   fuel                     == enough fuel is enough
 --   shotsOf, costOf          == the shots and the cost of a piece, with fuel by its size
+--   solution, solution-only  == these shots solve the recurrence, and nothing else does
 --   shots-outside, shots-full, shots-mixed, shots-cut   == the recurrence of the shots; of a mixed piece, by the first cut
 --                               whose parts cost what the piece costs
 --   cost-outside, cost-full, cost-mixed, cost-one       == the recurrence of the costs: at most the parts of any cut, and what
@@ -19,7 +20,7 @@ use native.Mathlib.Nat.{not-suc-le-zero}
 use Rattle.sum.specs.Sum.{sumOf, All, Some, join}
 use Rattle.sum.proofs.Lists.{sumOf-one, sumOf-le, sumOf-same, sumOf-join, All-all, All-imp, All-at, All-of, All-map, All-unmap, All-join, Some-map, map-same, join-same}
 use Rattle.recurrence.specs.Choice.{least, first, cheapest}
-use Rattle.recurrence.specs.Scheme.{Kind, outside, full, mixed, Scheme, Ends, shotsBy}
+use Rattle.recurrence.specs.Scheme.{Kind, outside, full, mixed, Scheme, Solves, Ends, shotsBy}
 use Rattle.recurrence.proofs.Choice.{least-one, least-first, least-map, cheapest-low, cheapest-one}
 
 module _ {P K : Type 0} (S : Scheme P K) where
@@ -62,6 +63,42 @@ module _ {P K : Type 0} (S : Scheme P K) where
     costOf p = sumOf (S .charge) (shotsOf p)
 
     -- the recurrence
+    -- it solves the recurrence
+    pub solution : Solves S shotsOf
+    unfolding body ways
+    solution p = step (size p) p ∙ go (S .kind p) refl
+      where
+        go : (t : Kind) → S .kind p ≡ t → body (shotsBy S (size p)) p t ≡ body shotsOf p t
+        go outside e = refl
+        go full e = refl
+        go mixed e =
+            ap (cheapest (S .charge))
+            (map-same _ _ (S .cuts p)
+            (All-imp
+            (λ j w. join-same _ _ (S .parts p j) (All-imp (λ q v. fuel (size p) (suc (size q)) q v (omega arith)) (S .parts p j) w))
+            (S .cuts p)
+            (E .smaller p e)))
+
+    -- and nothing else does
+    pub solution-only : (f g : P → List P) → Solves S f → Solves S g → (p : P) → f p ≡ g p
+    solution-only f g F G p = below (suc (size p)) p (omega arith)
+      where
+        below : (n : ℕ) (p : P) → size p < n → f p ≡ g p
+        below zero p h = absurd (not-suc-le-zero h)
+        below (suc n) p h = F p ∙ go (S .kind p) refl (below n) ∙ sym (G p)
+          where
+            go : (t : Kind) → S .kind p ≡ t → ((q : P) → size q < n → f q ≡ g q)
+                → _≡_ {A = List P} (elim t [ outside ↦ [] | full ↦ p ∷ [] | mixed ↦ cheapest (S .charge) (map (λ k. join f (S .parts p k)) (S .cuts p)) ]) (elim t [ outside ↦ [] | full ↦ p ∷ [] | mixed ↦ cheapest (S .charge) (map (λ k. join g (S .parts p k)) (S .cuts p)) ])
+            go outside e i = refl
+            go full e i = refl
+            go mixed e i =
+                ap (cheapest (S .charge))
+                (map-same _ _ (S .cuts p)
+                (All-imp
+                (λ j w. join-same _ _ (S .parts p j) (All-imp (λ q v. i q (omega arith)) (S .parts p j) w))
+                (S .cuts p)
+                (E .smaller p e)))
+
     pub shots-outside : (p : P) → S .kind p ≡ outside → shotsOf p ≡ []
     unfolding body
     shots-outside p e = step (size p) p ∙ ap (body (shotsBy S (size p)) p) e

@@ -8,13 +8,13 @@
 --   charge-least     == a shot costs something
 --   charge-cut       == nor does it lower the charge
 --   charge-most      == a longer sliver costs no less
-use Prim.Native.Nat.{ℕ, _+_, _*_, _≤_, _<_}
+use Prim.Native.Nat.{ℕ, _+_, _≤_}
 use mathlib.Core.Path.{_≡_, refl}
-use mathlib.Core.Bool.{Bool, true, false, _&&_, false≢true}
+use mathlib.Core.Bool.{Bool, true, false}
 use native.Mathlib.Omega.{arith}
 use native.Mathlib.Nat.{mul-le-mul-left}
-use lib.Dec.{leb, ltb}
-use borrow.Author.Tests.{ltb-true, lt-ltb, le-ltb, le-leb, lt-leb, leb-true}
+use lib.Dec.{ltb}
+use borrow.Author.Tests.{ltb-true, lt-ltb, le-ltb, leb-true}
 use Rattle.sum.specs.Sum.{only}
 use Rattle.sum.proofs.Sum.{only-most, only-add}
 use Rattle.rule.specs.declared.Rule.{Rule}

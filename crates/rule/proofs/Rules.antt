@@ -4,6 +4,7 @@
 --   rule-made, rule-refused == what the constructor's answer says of its two numbers
 --   range-true       == numbers in range are within the limit
 --   preset-row, preset-past == the cases of `presetTold`
+--   preset-numbers   == the four rows of document 01 as numbers
 --   preset-product   == weight times threshold is 1,000 in every row, by one test computed over the table
 --   made-one, row-one == two answers that tell the same are the same
 use Prim.Native.Nat.{ℕ, zero, suc, _*_, _<_, _≤_}
@@ -88,6 +89,13 @@ preset-row n d h = row-at presets d n h
 pub preset-past : (n : ℕ) → 4 ≤ n → refused 15 ≡ presetTold n
 unfolding presetTold
 preset-past n h = row-past presets n h
+
+pub preset-numbers : (presetTold 0 ≡ given (record { threshold = 25; weight = 40 }))
+    × (presetTold 1 ≡ given (record { threshold = 10; weight = 100 }))
+    × (presetTold 2 ≡ given (record { threshold = 5; weight = 200 }))
+    × (presetTold 3 ≡ given (record { threshold = 50; weight = 20 }))
+unfolding presetTold
+preset-numbers = (refl, refl, refl, refl)
 
 -- the table's rule
 

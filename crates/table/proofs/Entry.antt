@@ -1,19 +1,21 @@
 -- Laws of the numbers of pairs of lines and of the entries of pieces. Assumes nothing.
 --
 --   below-*      == how many pairs lie below a line
+--   pair-closed, count-closed   == the number of a pair and the count of pairs by a formula: with n the number of the last line, the pair of
+--                   the lines i < j has the number i (2n + 1 - i) / 2 + (j - i - 1), and there are n (n + 1) / 2 pairs
 --   pair-*       == the number of a pair: its bounds, no two pairs have the same one, every number is a pair's
 --   entry-*      == the entry of a piece: below the count of entries, and no other piece's
 --   pairs-*      == the list of pairs: its length, and what stands at a pair's number
 --   costs-*      == the list of costs: its length, what stands at a piece's entry, and when a table begins with it
-use Prim.Native.Nat.{ℕ, zero, suc, _+_, _*_, _-_, _≤_, _<_}
+use Prim.Native.Nat.{ℕ, zero, suc, _+_, _*_, _-_, _/_, _≤_, _<_}
 use mathlib.Core.Path.{_≡_, refl, sym, _∙_, ap, ap₂, subst}
-use mathlib.Core.Logic.{_⊎_, inl, inr}
+use mathlib.Core.Logic.{inl, inr}
 use mathlib.Core.List.{List, [], _∷_, _++_, map}
 use lib.ListN.{getD, length, take, drop, take-append-drop, length-append, length-map, length-drop, List·getD-append, List·getD-map}
 use lib.Seq.{getD-append-add, ext-getD, length-take-le, getD-take, getD-drop}
 use native.Mathlib.Omega.{arith}
 use native.Mathlib.Numerals.{add-one}
-use native.Mathlib.Nat.{mul-le-mul-right, mul-le-mul, add-zero, zero-add, suc-add, add-suc}
+use native.Mathlib.Nat.{mul-le-mul-right, add-zero, zero-add, suc-add, add-suc, zero-mul, mul-suc, suc-mul}
 use lib.Arith.{digits-lt}
 use Rattle.sum.specs.Sum.{join}
 use Rattle.sum.proofs.Sum.{le-or}
@@ -21,7 +23,7 @@ use Rattle.outline.specs.Grid.{Grid}
 use Rattle.rule.specs.declared.Rule.{Rule}
 use Rattle.piece.specs.Piece.{Piece, box}
 use Rattle.piece.specs.Straight.{run, between, cost}
-use Rattle.table.specs.Entry.{pairsBelow, pairCount, pairNo, pairs, entryCount, entryOf, Valid, costs}
+use Rattle.table.specs.Entry.{pairsBelow, pairCount, pairNo, Pair, pair, pairs, entryCount, entryOf, Valid, costs}
 
 pub below-zero : (m : ℕ) → pairsBelow m 0 ≡ 0
 unfolding pairsBelow
@@ -44,6 +46,32 @@ below-up m a (suc b) h = elim (le-or a b) [
   | inl q ↦ omega (arith, below-suc m b, below-up m a b q)
   | inr q ↦ (let e : a ≡ suc b = omega arith in rw e (omega arith))
 ]
+
+below-closed : (m a : ℕ) → a ≤ m → a * (2 * m + 1 - a) ≡ 2 * pairsBelow m a
+below-closed m zero h = omega (arith, below-zero m, zero-mul (2 * m + 1 - 0))
+below-closed m (suc a) h =
+    let k : ℕ = 2 * m - a in
+    let one : 2 * m + 1 - a ≡ suc k = omega arith in
+    let two : 2 * m + 1 - suc a ≡ k = omega arith in
+    omega (
+      arith,
+      below-suc m a,
+      below-closed m a (omega arith),
+      ap (λ n. a * n) one,
+      mul-suc a k,
+      ap (λ n. suc a * n) two,
+      suc-mul a k,
+    )
+
+pub pair-closed : (m a c : ℕ) → a < c → c ≤ m → pairNo m a c ≡ (a * (2 * m + 1 - a)) / 2 + (c - a - 1)
+unfolding pairNo
+pair-closed m a c h k = omega (arith, below-closed m a (omega arith))
+
+pub count-closed : (m : ℕ) → pairCount m ≡ (m * (m + 1)) / 2
+unfolding pairCount
+count-closed m =
+    let e : 2 * m + 1 - m ≡ m + 1 = omega arith in
+    omega (arith, below-closed m m (omega arith), ap (λ n. m * n) e)
 
 pub count-most : (m : ℕ) → m ≤ 15 → pairCount m ≤ 225
 unfolding pairCount
@@ -172,19 +200,19 @@ run-getD k (suc n) zero h = omega arith
 run-getD k (suc n) (suc i) h = omega (arith, run-getD (suc k) n i (omega arith))
 
 -- the pairs whose low line is a
-pairRow : ℕ → ℕ → List (ℕ × ℕ)
-pairRow m a = map (λ c. (a, c)) (between a (suc m))
+pairRow : ℕ → ℕ → List Pair
+pairRow m a = map (pair a) (between a (suc m))
 
 pairRow-length : (m a : ℕ) → length (pairRow m a) ≡ m - a
 unfolding pairRow between
-pairRow-length m a = length-map (run (suc a) (suc m - suc a)) (λ c. (a, c)) ∙ run-length (suc a) (suc m - suc a) ∙ omega arith
+pairRow-length m a = length-map (run (suc a) (suc m - suc a)) (pair a) ∙ run-length (suc a) (suc m - suc a) ∙ omega arith
 
 pairRow-step : (m a : ℕ) → pairsBelow m (suc a) ≡ pairsBelow m a + length (pairRow m a)
 pairRow-step m a = omega (arith, below-suc m a, pairRow-length m a)
 
 pub pairs-length : (m : ℕ) → length (pairs m) ≡ pairCount m
 unfolding pairs pairRow pairCount
-pairs-length m = omega (arith, rows-length (0, 0) (pairRow m) (pairsBelow m) (pairRow-step m) 0 m, below-zero m, ap (pairsBelow m) (zero-add m))
+pairs-length m = omega (arith, rows-length (pair 0 0) (pairRow m) (pairsBelow m) (pairRow-step m) 0 m, below-zero m, ap (pairsBelow m) (zero-add m))
 
 module _ {A : Type 0} where
   getD-other : (y z : A) (l : List A) (i : ℕ) → i < length l → getD l i y ≡ getD l i z
@@ -192,16 +220,16 @@ module _ {A : Type 0} where
   getD-other y z (x ∷ l) zero h = refl
   getD-other y z (x ∷ l) (suc i) h = getD-other y z l i (omega arith)
 
-pub pairs-at : (m a c : ℕ) → a < c → c ≤ m → getD (pairs m) (pairNo m a c) (0, 0) ≡ (a, c)
+pub pairs-at : (m a c : ℕ) → a < c → c ≤ m → getD (pairs m) (pairNo m a c) (pair 0 0) ≡ pair a c
 unfolding pairs pairRow pairNo between
 pairs-at m a c h k =
-    ap (λ i. getD (pairs m) i (0, 0)) (omega (arith, below-zero m))
-    ∙ rows-at (0, 0) (pairRow m) (pairsBelow m) (pairRow-step m) 0 m a (c - suc a) (omega arith) (omega arith) (omega (arith, pairRow-length m a))
-    ∙ getD-other (0, 0) (a, 0) (map (λ c. (a, c)) (run (suc a) (suc m - suc a))) (c - suc a) (omega (arith, pairRow-length m a))
-    ∙ List·getD-map (λ c. (a, c)) (run (suc a) (suc m - suc a)) (c - suc a) 0
-    ∙ ap (λ c. (a, c)) (run-getD (suc a) (suc m - suc a) (c - suc a) (omega arith) ∙ omega arith)
+    ap (λ i. getD (pairs m) i (pair 0 0)) (omega (arith, below-zero m))
+    ∙ rows-at (pair 0 0) (pairRow m) (pairsBelow m) (pairRow-step m) 0 m a (c - suc a) (omega arith) (omega arith) (omega (arith, pairRow-length m a))
+    ∙ getD-other (pair 0 0) (pair a 0) (map (pair a) (run (suc a) (suc m - suc a))) (c - suc a) (omega (arith, pairRow-length m a))
+    ∙ List·getD-map (pair a) (run (suc a) (suc m - suc a)) (c - suc a) 0
+    ∙ ap (pair a) (run-getD (suc a) (suc m - suc a) (c - suc a) (omega arith) ∙ omega arith)
 
-map-at : (f : ℕ × ℕ → ℕ) (l : List (ℕ × ℕ)) (i : ℕ) (z : ℕ × ℕ) → i < length l → getD (map f l) i 0 ≡ f (getD l i z)
+map-at : (f : Pair → ℕ) (l : List Pair) (i : ℕ) (z : Pair) → i < length l → getD (map f l) i 0 ≡ f (getD l i z)
 map-at f [] i z h = absurd (omega arith)
 map-at f (x ∷ l) zero z h = refl
 map-at f (x ∷ l) (suc i) z h = map-at f l i z (omega arith)
@@ -238,29 +266,29 @@ piece-of m n i h =
 
 module _ (g : Grid) (r : Rule) where
   -- the costs of the pieces of one x pair
-  costRow : ℕ × ℕ → List ℕ
-  costRow u = map (λ v. cost g r (box (u .0) (u .1) (v .0) (v .1))) (pairs (g .rows))
+  costRow : Pair → List ℕ
+  costRow x = map (λ y. cost g r (box (x .low) (x .high) (y .low) (y .high))) (pairs (g .rows))
 
-  costRow-length : (u : ℕ × ℕ) → length (costRow u) ≡ pairCount (g .rows)
+  costRow-length : (x : Pair) → length (costRow x) ≡ pairCount (g .rows)
   unfolding costRow
-  costRow-length u = length-map (pairs (g .rows)) (λ v. cost g r (box (u .0) (u .1) (v .0) (v .1))) ∙ pairs-length (g .rows)
+  costRow-length x = length-map (pairs (g .rows)) (λ y. cost g r (box (x .low) (x .high) (y .low) (y .high))) ∙ pairs-length (g .rows)
 
   pub costs-length : length (costs g r) ≡ entryCount (g .columns) (g .rows)
   unfolding costs costRow entryCount
   costs-length =
-      grid-length (0, 0) 0 (costRow) (pairCount (g .rows)) costRow-length (pairs (g .columns))
+      grid-length (pair 0 0) 0 (costRow) (pairCount (g .rows)) costRow-length (pairs (g .columns))
       ∙ ap (λ n. n * pairCount (g .rows)) (pairs-length (g .columns))
 
   pub costs-at : (p : Piece) → Valid (g .columns) (g .rows) p → getD (costs g r) (entryOf (g .columns) (g .rows) p) 0 ≡ cost g r p
   unfolding costs costRow entryOf
   costs-at p v =
-      grid-at (0, 0) 0 costRow (pairCount (g .rows)) costRow-length (pairs (g .columns)) (pairNo (g .columns) (p .a) (p .c)) (pairNo (g .rows) (p .b) (p .d))
+      grid-at (pair 0 0) 0 costRow (pairCount (g .rows)) costRow-length (pairs (g .columns)) (pairNo (g .columns) (p .a) (p .c)) (pairNo (g .rows) (p .b) (p .d))
       (omega (arith, pairs-length (g .columns), pair-below (g .columns) (p .a) (p .c) (v .ac) (v .cx)))
       (pair-below (g .rows) (p .b) (p .d) (v .bd) (v .dy))
       ∙ ap (λ x. getD (costRow x) (pairNo (g .rows) (p .b) (p .d)) 0) (pairs-at (g .columns) (p .a) (p .c) (v .ac) (v .cx))
-      ∙ map-at (λ w. cost g r (box (p .a) (p .c) (w .0) (w .1))) (pairs (g .rows)) (pairNo (g .rows) (p .b) (p .d)) (0, 0)
+      ∙ map-at (λ w. cost g r (box (p .a) (p .c) (w .low) (w .high))) (pairs (g .rows)) (pairNo (g .rows) (p .b) (p .d)) (pair 0 0)
       (omega (arith, pairs-length (g .rows), pair-below (g .rows) (p .b) (p .d) (v .bd) (v .dy)))
-      ∙ ap (λ w. cost g r (box (p .a) (p .c) (w .0) (w .1))) (pairs-at (g .rows) (p .b) (p .d) (v .bd) (v .dy))
+      ∙ ap (λ w. cost g r (box (p .a) (p .c) (w .low) (w .high))) (pairs-at (g .rows) (p .b) (p .d) (v .bd) (v .dy))
 
   -- a table that has every cost begins with the list of costs
   pub costs-whole : (t u : List ℕ) → entryCount (g .columns) (g .rows) ≤ length u → length u ≡ length t

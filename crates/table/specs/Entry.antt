@@ -4,6 +4,7 @@
 --   pairsBelow last a        == how many pairs of lines have their low line below a
 --   pairCount last           == how many pairs of lines there are
 --   pairNo last a c          == the number of the pair (a, c): (0, 1), (0, 2), .., (1, 2), .. from 0
+--   Pair, pair a c           == two lines, the low one and the high one
 --   pairs last               == the pairs in the order of their numbers
 --   entryCount columns rows  == how many pieces, and so entries, there are
 --   entryOf columns rows p   == the entry of the piece p: the number of its x pair x the count of y pairs + the number of its y pair
@@ -27,8 +28,15 @@ pairCount last = pairsBelow last last
 unfoldable pub pairNo : ℕ → ℕ → ℕ → ℕ
 pairNo last a c = pairsBelow last a + (c - suc a)
 
-unfoldable pub pairs : ℕ → List (ℕ × ℕ)
-pairs last = join (λ a. map (λ c. (a, c)) (between a (suc last))) (run 0 last)
+pub record Pair : Type 0 where
+  pub low : ℕ
+  pub high : ℕ
+
+abbrev pub pair : ℕ → ℕ → Pair
+pair a c = record { low = a; high = c }
+
+unfoldable pub pairs : ℕ → List Pair
+pairs last = join (λ a. map (pair a) (between a (suc last))) (run 0 last)
 
 unfoldable pub entryCount : ℕ → ℕ → ℕ
 entryCount columns rows = pairCount columns * pairCount rows
@@ -43,4 +51,4 @@ pub record Valid (columns rows : ℕ) (p : Piece) : Type 0 where
   pub dy : p .d ≤ rows
 
 unfoldable pub costs : Grid → Rule → List ℕ
-costs g r = join (λ u. map (λ v. cost g r (box (u .0) (u .1) (v .0) (v .1))) (pairs (g .rows))) (pairs (g .columns))
+costs g r = join (λ x. map (λ y. cost g r (box (x .low) (x .high) (y .low) (y .high))) (pairs (g .rows))) (pairs (g .columns))

@@ -30,7 +30,7 @@ same-length-2 : tie.Need-same-length-2
 same-length-2 c = search needs
 
 returns : tie.Need-returns
-returns c = c .before .before .before .before .fracture-by .ensures ∙ rule-outcome (asked _ _ _ _ _ _) (made (c .before .before .before .before .before .before .before .before))
+returns c = c .before .before .before .before .fracture-by .ensures .0 ∙ rule-outcome (asked _ _ _ _ _ _) (made (c .before .before .before .before .before .before .before .before))
 
 returns-2 : tie.Need-returns-2
 returns-2 c = told-rule (asked _ _ _ _ _ _) (c .before .why .given .0 .0) (sym (ap madeTold (c .before .why .given .1)) ∙ c .before .before .before .new .ensures)

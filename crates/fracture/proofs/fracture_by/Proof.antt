@@ -5,6 +5,8 @@ use Rattle.rule.proofs.Rules.{range-true}
 use Rattle.figure.specs.Figure.{figure}
 use Rattle.outline.specs.Promise.{refusal, sheet}
 use Rattle.outline.proofs.Memory.{drawing-lengths}
+use Rattle.demands.specs.Demands.{Words}
+use Rattle.demands.proofs.Demands.{words-typed}
 use Rattle.fracture.proofs.Settled.{answered, told-figure, laid-drawing, told-grid}
 use Rattle.fracture.proofs.fracture_by.Statement.{statement}
 use Rattle.fracture.proofs.fracture_by.Tie as tie
@@ -14,6 +16,13 @@ accepted : (c : tie.After-enum-told)
     → (let s = c .before .before .before .before .before .before .before .before .before .before in refusal (figure (s .args .corners .now) (s .args .lengths .now)) ≡ 0)
 unfolding sheet
 accepted c = answered _ (sheet _ _ _ _) (c .before .before .draw .ensures) _ (c .enum-told .given .1)
+
+-- the corners are numbers of the type u16
+typed : (c : tie.After-draw)
+    → (let s = c .before .before .before .before .before .before .before .before in Words (figure (s .args .corners .now) (s .args .lengths .now)))
+typed c =
+    let k = c .before .before .before .before .before .before .before in
+    words-typed (k .before .args .corners .now) (k .before .args .lengths .now) (λ i. k .shared-slice-known .given i)
 
 draw-requires : tie.Need-draw-requires
 draw-requires c κs = search needs
@@ -61,15 +70,17 @@ returns c =
     let t = f .before .before .before .before .before .before in
     let d = t .before .before in
     let s = d .before .before .before .before .before .before .before .before in
-    let h = accepted t in
-    f .fracture-grid .ensures _ (laid-drawing _ (sheet _ _ _ _) (d .draw .ensures) h)
-    ∙ told-grid (figure (s .args .corners .now) (s .args .lengths .now)) (s .args .rule) (s .args .table .now) (s .args .list .now) h
+    let h = accepted t in (
+      f .fracture-grid .ensures _ (laid-drawing _ (sheet _ _ _ _) (d .draw .ensures) h)
+          ∙ told-grid (figure (s .args .corners .now) (s .args .lengths .now)) (s .args .rule) (s .args .table .now) (s .args .list .now) h,
+      typed d,
+    )
 
 returns-2 : tie.Need-returns-2
 unfolding sheet
 returns-2 c =
     let a = c .before in
-    told-figure _ (sheet _ _ _ _) (a .before .before .draw .ensures) _ _ _ _ (a .answer .given .1)
+    (told-figure _ (sheet _ _ _ _) (a .before .before .draw .ensures) _ _ _ _ (a .answer .given .1), typed (a .before .before))
 
 pub fracture-by-spec : {M : Type 1} → statement M
 fracture-by-spec =

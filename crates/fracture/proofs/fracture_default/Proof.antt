@@ -2,12 +2,13 @@
 use mathlib.Core.Path.{_≡_, sym, _∙_, ap}
 use borrow.Author.Needs.{needs}
 use Rattle.rule.specs.Rules.{rowTold, given, presetTold}
+use Rattle.fracture.specs.Told.{defaultPreset}
 use Rattle.fracture.proofs.Settled.{preset-range, preset-outcome, preset-known}
 use Rattle.fracture.proofs.fracture_default.Statement.{statement}
 use Rattle.fracture.proofs.fracture_default.Tie as tie
 
 -- the rule is the row of the default preset
-row : (c : tie.After-rule) → given (c .rule .given .0 .0) ≡ presetTold 0
+row : (c : tie.After-rule) → given (c .rule .given .0 .0) ≡ presetTold defaultPreset
 row c = sym (ap rowTold (c .rule .given .1)) ∙ c .before .before .preset .ensures
 
 preset-requires : tie.Need-preset-requires
@@ -29,7 +30,7 @@ same-length-2 : tie.Need-same-length-2
 same-length-2 c = search needs
 
 returns : tie.Need-returns
-returns c = c .before .before .before .before .fracture-by .ensures ∙ preset-outcome (row (c .before .before .before .before .before .before .before .before)) _ _ _
+returns c = c .before .before .before .before .fracture-by .ensures .0 ∙ preset-outcome (row (c .before .before .before .before .before .before .before .before)) _ _ _
 
 returns-2 : tie.Need-returns-2
 returns-2 c = absurd (preset-known (c .before .why .given .0 .0) (sym (ap rowTold (c .before .why .given .1)) ∙ c .before .before .before .preset .ensures))

@@ -1,8 +1,10 @@
--- `take` meets its contract: the job's fault, or 13, or the part that `locate` finds, which is outline k's. Assumes nothing.
+-- `take` meets its contract: the job's fault, or 13, or the part that `locate` finds, which is outline k's and lies where outline k
+-- stands. Assumes nothing.
 use native.Mathlib.Omega.{arith}
 use Rattle.refusal.proofs.Refusals.{told-as}
 use Rattle.job.specs.Steps.{headTold, locatedTold}
 use Rattle.job.proofs.Calls.{located-within, taken-fault, taken-missing, taken-never, taken-part}
+use Rattle.job.proofs.Placing.{lies, placed-fault, placed-missing, placed-part}
 use borrow.Author.Needs.{needs}
 use Rattle.job.proofs.read.take.Statement.{statement}
 use Rattle.job.proofs.read.take.Tie as tie
@@ -46,8 +48,8 @@ part-result-end-2 c = search needs
 returns : tie.Need-returns
 returns c =
     let m = c .before .before .before .before in
-    taken-missing _ _ (told-as headTold (m .count .given .1) (m .before .before .whole .ensures)) (omega arith)
-    (c .before .refusal-no2 .ensures)
+    let e = told-as headTold (m .count .given .1) (m .before .before .whole .ensures) in
+    (taken-missing _ _ e (omega arith) (c .before .refusal-no2 .ensures), lies _ _ _ _ 0 (placed-missing _ _ e (omega arith)))
 
 locate-requires : tie.Need-locate-requires
 locate-requires c κs = search needs
@@ -88,7 +90,8 @@ part-result-end-4 c =
 returns-2 : tie.Need-returns-2
 returns-2 c =
     let m = c .before .before .before in
-    taken-fault _ _ (told-as headTold (m .fault .given .1) (m .before .before .whole .ensures)) (c .before .refusal-no .ensures)
+    let e = told-as headTold (m .fault .given .1) (m .before .before .whole .ensures) in
+    (taken-fault _ _ e (c .before .refusal-no .ensures), lies _ _ _ _ 0 (placed-fault _ _ e))
 
 returns-3 : tie.Need-returns-3
 returns-3 c =
@@ -104,10 +107,9 @@ returns-4 : tie.Need-returns-4
 returns-4 c =
     let l = c .before .before in
     let m = l .before .before .before .before .before in
-    taken-part _ _
-    (told-as headTold (m .count .given .1) (m .before .before .whole .ensures))
-    (omega arith)
-    (told-as locatedTold (l .start .given .1) (l .before .before .locate .ensures))
+    let e = told-as headTold (m .count .given .1) (m .before .before .whole .ensures) in
+    let f = told-as locatedTold (l .start .given .1) (l .before .before .locate .ensures) in
+    (taken-part _ _ e (omega arith) f, lies _ _ _ _ _ (placed-part _ _ e (omega arith) f))
 
 pub take-spec : {M : Type 1} → statement M
 take-spec =

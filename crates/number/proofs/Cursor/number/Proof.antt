@@ -1,9 +1,15 @@
 -- `Cursor::number` meets its contract: each exit is a case of `number`. Assumes nothing.
+--
+--   lent-bytes       == what the call is lent are bytes: `AllBytes`, which the theorems of one form ask for, holds at every call
 use native.Mathlib.Omega.{arith}
 use Rattle.number.proofs.Number.{number-none, number-one, number-ends-two, number-padded-two, number-two, number-ends-three, number-fourth, number-padded-three, number-three}
+use Rattle.number.specs.Faults.{AllBytes}
 use borrow.Author.Needs.{needs}
 use Rattle.number.proofs.Cursor.number.Statement.{statement}
 use Rattle.number.proofs.Cursor.number.Tie as tie
+
+pub lent-bytes : (c : tie.After-shared-slice-known) → AllBytes (c .before .args .s .now)
+lent-bytes c i = omega (arith, c .shared-slice-known .given i)
 
 returns : tie.Need-returns
 returns c = number-none _ _ (omega arith)

@@ -1,10 +1,10 @@
--- `front` is safe. Assumes nothing.
+-- `front` hands back the first numbers of its list. Assumes nothing.
 use mathlib.Core.Path.{sym}
 use native.Mathlib.Omega.{arith}
 use lib.Seq.{length-take-le}
 use borrow.Author.Needs.{needs}
-use Rattle.prep.proofs.front.Statement.{statement}
-use Rattle.prep.proofs.front.Tie as tie
+use Rattle.prep.proofs.outlines.front.Statement.{statement}
+use Rattle.prep.proofs.outlines.front.Tie as tie
 
 slice-aggregate-result : tie.Need-slice-aggregate-result
 slice-aggregate-result c = sym (length-take-le _ _ (omega arith))
@@ -12,8 +12,5 @@ slice-aggregate-result c = sym (length-take-le _ _ (omega arith))
 returns : tie.Need-returns
 returns c = search needs
 
-returns-2 : tie.Need-returns-2
-returns-2 c = search needs
-
 pub front-spec : {M : Type 1} → statement M
-front-spec = tie.close (tie.spec slice-aggregate-result returns returns-2)
+front-spec = tie.close (tie.spec slice-aggregate-result returns)

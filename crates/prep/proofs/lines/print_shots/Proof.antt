@@ -1,14 +1,15 @@
--- `print_shots` is safe and ends: the measure is what is left of its range, and nothing has to hold from turn to turn. Assumes nothing.
+-- `print_shots` is safe and ends, and forgets no failure: no line of a shot does. Assumes nothing.
+use Prim.Native.Nat.{_-_, _≤_}
 use borrow.Author.Needs.{needs}
-use Prim.Native.Nat.{_-_}
-use Rattle.prep.proofs.print_shots.Statement.{statement}
-use Rattle.prep.proofs.print_shots.Tie as tie
+use Rattle.prep.specs.Output.{Remembers}
+use Rattle.prep.proofs.lines.print_shots.Statement.{statement}
+use Rattle.prep.proofs.lines.print_shots.Tie as tie
 
 abbrev Inv-loop : tie.InvT-loop
-Inv-loop list shots i₀ i = Unit {0}
+Inv-loop list shots next₀ i₀ next i = (i ≤ shots) × Remembers next₀ next
 
 abbrev μ-loop : tie.MeasureT-loop
-μ-loop list shots i₀ i = shots - i
+μ-loop list shots next₀ i₀ next i = shots - i
 
 loop-holds : tie.Need-loop-holds Inv-loop μ-loop
 loop-holds c = search needs
@@ -29,7 +30,7 @@ loop-less : tie.Need-loop-less Inv-loop μ-loop
 loop-less c = search needs
 
 loop-again : tie.Need-loop-again Inv-loop μ-loop
-loop-again c = search needs
+loop-again c = (search needs, λ e. c .print-shot .ensures (c .before .before .loop .inv .1 e))
 
 returns : tie.Need-returns Inv-loop μ-loop
 returns c = search needs

@@ -1,0 +1,93 @@
+-- Each call of the C interface is settled: whatever its promise says, two ways to keep it are one, the same number returned, the same
+-- numbers lent, and the same in every lent slice. Assumes nothing.
+--
+--   preset-one                  == pw_preset
+--   fracture-one                == pw_fracture, pw_fracture_default
+--   number-one                  == pw_number
+--   check-one                   == pw_job_check
+--   outline-one                 == pw_job_outline
+--   unpack-one                  == pw_unpack
+--   write-one                   == pw_write_header, pw_write_outline
+use Prim.Native.Nat.{ℕ}
+use mathlib.Core.Path.{_≡_, sym, _∙_, ap}
+use mathlib.Core.List.{List}
+use Rattle.rule.specs.Rules.{Told}
+use Rattle.demands.specs.Promise.{Outcome}
+use Rattle.job.specs.Calls.{CheckSaid, UnpackSaid, WriteSaid}
+use Rattle.capi.specs.Lent.{presetLent, fractureLent, NumberSaid, numberLent, checkLent, OutlineSaid, outlineLent, unpackLent, writeLent}
+
+pub preset-one : (said : Told) (n t w n′ t′ w′ : ℕ) → presetLent n t w ≡ said → presetLent n′ t′ w′ ≡ said
+    → (n ≡ n′) × (t ≡ t′) × (w ≡ w′)
+preset-one said n t w n′ t′ w′ p q =
+    let e = p ∙ sym q in
+    (ap (λ (o : Told). o .number) e, ap (λ (o : Told). o .threshold) e, ap (λ (o : Told). o .weight) e)
+
+pub fracture-one : (said : Outcome) (n s c v n′ s′ c′ v′ : ℕ) (table list table′ list′ : List ℕ)
+    → fractureLent n s c v table list ≡ said → fractureLent n′ s′ c′ v′ table′ list′ ≡ said
+    → (n ≡ n′) × (s ≡ s′) × (c ≡ c′) × (v ≡ v′) × (table ≡ table′) × (list ≡ list′)
+fracture-one said n s c v n′ s′ c′ v′ table list table′ list′ p q =
+    let e = p ∙ sym q in (
+      ap (λ (o : Outcome). o .number) e,
+      ap (λ (o : Outcome). o .shots) e,
+      ap (λ (o : Outcome). o .cost) e,
+      ap (λ (o : Outcome). o .sliver) e,
+      ap (λ (o : Outcome). o .table) e,
+      ap (λ (o : Outcome). o .list) e,
+    )
+
+pub number-one : (said : NumberSaid) (n v next at n′ v′ next′ at′ : ℕ)
+    → numberLent n v next at ≡ said → numberLent n′ v′ next′ at′ ≡ said
+    → (n ≡ n′) × (v ≡ v′) × (next ≡ next′) × (at ≡ at′)
+number-one said n v next at n′ v′ next′ at′ p q =
+    let e = p ∙ sym q in (
+      ap (λ (o : NumberSaid). o .number) e,
+      ap (λ (o : NumberSaid). o .value) e,
+      ap (λ (o : NumberSaid). o .next) e,
+      ap (λ (o : NumberSaid). o .offset) e,
+    )
+
+pub check-one : (said : CheckSaid) (n t w k at n′ t′ w′ k′ at′ : ℕ)
+    → checkLent n t w k at ≡ said → checkLent n′ t′ w′ k′ at′ ≡ said
+    → (n ≡ n′) × (t ≡ t′) × (w ≡ w′) × (k ≡ k′) × (at ≡ at′)
+check-one said n t w k at n′ t′ w′ k′ at′ p q =
+    let e = p ∙ sym q in (
+      ap (λ (o : CheckSaid). o .number) e,
+      ap (λ (o : CheckSaid). o .threshold) e,
+      ap (λ (o : CheckSaid). o .weight) e,
+      ap (λ (o : CheckSaid). o .outlines) e,
+      ap (λ (o : CheckSaid). o .offset) e,
+    )
+
+pub outline-one : (said : OutlineSaid) (n start size at n′ start′ size′ at′ : ℕ)
+    → outlineLent n start size at ≡ said → outlineLent n′ start′ size′ at′ ≡ said
+    → (n ≡ n′) × (start ≡ start′) × (size ≡ size′) × (at ≡ at′)
+outline-one said n start size at n′ start′ size′ at′ p q =
+    let e = p ∙ sym q in (
+      ap (λ (o : OutlineSaid). o .number) e,
+      ap (λ (o : OutlineSaid). o .start) e,
+      ap (λ (o : OutlineSaid). o .size) e,
+      ap (λ (o : OutlineSaid). o .offset) e,
+    )
+
+pub unpack-one : (said : UnpackSaid) (n corners rings at n′ corners′ rings′ at′ : ℕ) (list lengths list′ lengths′ : List ℕ)
+    → unpackLent n corners rings at list lengths ≡ said → unpackLent n′ corners′ rings′ at′ list′ lengths′ ≡ said
+    → (n ≡ n′) × (corners ≡ corners′) × (rings ≡ rings′) × (at ≡ at′) × (list ≡ list′) × (lengths ≡ lengths′)
+unpack-one said n corners rings at n′ corners′ rings′ at′ list lengths list′ lengths′ p q =
+    let e = p ∙ sym q in (
+      ap (λ (o : UnpackSaid). o .number) e,
+      ap (λ (o : UnpackSaid). o .corners) e,
+      ap (λ (o : UnpackSaid). o .rings) e,
+      ap (λ (o : UnpackSaid). o .offset) e,
+      ap (λ (o : UnpackSaid). o .list) e,
+      ap (λ (o : UnpackSaid). o .lengths) e,
+    )
+
+pub write-one : (said : WriteSaid) (n bytes n′ bytes′ : ℕ) (out out′ : List ℕ)
+    → writeLent n bytes out ≡ said → writeLent n′ bytes′ out′ ≡ said
+    → (n ≡ n′) × (bytes ≡ bytes′) × (out ≡ out′)
+write-one said n bytes n′ bytes′ out out′ p q =
+    let e = p ∙ sym q in (
+      ap (λ (o : WriteSaid). o .number) e,
+      ap (λ (o : WriteSaid). o .bytes) e,
+      ap (λ (o : WriteSaid). o .out) e,
+    )

@@ -1,0 +1,4 @@
+pub mod Printing
+pub mod Accepted
+pub mod Fracturing
+pub mod Status

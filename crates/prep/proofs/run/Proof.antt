@@ -1,0 +1,76 @@
+-- `run` ends with the job's status, or with 2: either sort of check decides it. Assumes nothing.
+use mathlib.Core.Path.{sym}
+use borrow.Author.Needs.{needs}
+use Rattle.refusal.proofs.Refusals.{told-as}
+use Rattle.job.specs.Calls.{checkTold}
+use Rattle.prep.proofs.Status.{ends-refused, ends-accepted}
+use Rattle.prep.proofs.run.Statement.{statement}
+use Rattle.prep.proofs.run.Tie as tie
+
+empty-requires : tie.Need-empty-requires
+empty-requires c κs = search needs
+
+check-requires : tie.Need-check-requires
+check-requires c κs = search needs
+
+enum-known-why : tie.Need-enum-known-why
+enum-known-why c = search needs
+
+print-refused-requires : tie.Need-print-refused-requires
+print-refused-requires c κs = search needs
+
+ended-requires : tie.Need-ended-requires
+ended-requires c κs = search needs
+
+enum-known-threshold : tie.Need-enum-known-threshold
+enum-known-threshold c = search needs
+
+print-job-requires : tie.Need-print-job-requires
+print-job-requires c κs = search needs
+
+run-outlines-requires : tie.Need-run-outlines-requires
+run-outlines-requires c κs =
+    let accepted = c .before .before .before .before in
+    let checked = accepted .before .before in
+    let start = checked .before .before .before .before .before in
+    (sym (told-as checkTold (accepted .threshold .given .1) (checked .check .ensures)), start .pre)
+
+ended-requires-2 : tie.Need-ended-requires-2
+ended-requires-2 c κs = search needs
+
+returns : tie.Need-returns
+returns c =
+    let refused = c .before .before .before in
+    let checked = refused .before .before in
+    ends-refused _ (refused .why .given .0 .0) _ _ (told-as checkTold (refused .why .given .1) (checked .check .ensures)) (c .ended .ensures)
+
+same-length : tie.Need-same-length
+same-length c = search needs
+
+same-length-2 : tie.Need-same-length-2
+same-length-2 c = search needs
+
+returns-2 : tie.Need-returns-2
+returns-2 c =
+    let ran = c .before .before .before .before .before in
+    let accepted = ran .before .before .before .before .before in
+    let checked = accepted .before .before in
+    ends-accepted _ _ _ _ (sym (told-as checkTold (accepted .threshold .given .1) (checked .check .ensures))) (ran .run-outlines .ensures .0) (c .ended2 .ensures)
+
+pub run-spec : {M : Type 1} → statement M
+run-spec =
+    tie.close
+    (tie.spec
+    empty-requires
+    check-requires
+    enum-known-why
+    print-refused-requires
+    ended-requires
+    enum-known-threshold
+    print-job-requires
+    run-outlines-requires
+    ended-requires-2
+    returns
+    same-length
+    same-length-2
+    returns-2)

@@ -1,0 +1,4 @@
+pub mod Output
+pub mod Lines
+pub mod Outlines
+pub mod Status

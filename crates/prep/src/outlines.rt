@@ -1,0 +1,180 @@
+// The outlines of a job that was accepted: each is taken apart from the job's bytes, fractured by the job's rule, and printed.
+use crate::lines::print_outline;
+use crate::output::Output;
+use figure::MOST_CORNERS;
+use figure::MOST_RINGS;
+use fracture::Fractured;
+use fracture::fracture;
+use job::read::take;
+use job::unpack::Unpacked;
+use job::unpack::unpack;
+ghost use lib.ListN.{length, take as List·take};
+ghost use mathlib.Core.Logic.{_⊎_};
+ghost use mathlib.Core.Bool.{true, _||_};
+ghost use mathlib.Core.Path.{_≡_};
+ghost use Prim.Native.Nat.{_≤_, _<_};
+ghost use Rattle.job.specs.Calls.{taken, told as handed};
+ghost use Rattle.demands.specs.Promise.{outcome};
+ghost use Rattle.fracture.specs.Told.{told};
+ghost use Rattle.prep.specs.Lines.{refusedBy};
+ghost use Rattle.prep.specs.Output.{Remembers};
+ghost use Rattle.prep.specs.Outlines.{Sound, said, isRefused, anyRefused, Fronts};
+
+// What a job says before its outlines: its rule, and how many there are.
+pub struct Header {
+    pub threshold: u32,
+    pub weight: u32,
+    pub outlines: u32,
+}
+
+// What was unpacked of a figure: how many corners and rings it has.
+struct Shape {
+    corners: usize,
+    rings: usize,
+}
+
+// What became of one outline or of several: the output after their lines, and whether one was refused.
+pub struct Ran {
+    pub out: Output,
+    pub refused: bool,
+}
+
+// The first n numbers of a list.
+fn front(list: &[u16], n: usize) -> &[u16]
+    requires { ⌜ n ≤ length (now list) ⌝ }
+    ensures { λ r. ⌜ now r ≡ List·take n (now (list .entry)) ⌝ }
+{
+    &list[..n]
+}
+
+// The bytes of outline k of a job that was accepted. Taking them is not refused: the two numbers that are lent for that stay 0.
+fn part_of<'a>(job: &'a [u8], k: usize, header: Header) -> &'a [u8]
+    requires { ⌜ Sound (now job) header ⌝ }
+    requires { ⌜ k < header .outlines ⌝ }
+    ensures { λ r. ⌜ handed 0 0 (now r) ≡ taken (now (job .entry)) k ⌝ }
+{
+    let mut refusal: u32 = 0;
+    let mut offset: usize = 0;
+    take(job, k, &mut refusal, &mut offset)
+}
+
+// Unpacks outline k to the front of two lists. Where both have room, unpacking does not refuse an outline of a job that was accepted.
+fn unpack_outline(
+    job: &[u8],
+    k: usize,
+    header: Header,
+    corners: &mut [u16],
+    lengths: &mut [u16],
+) -> Shape
+    requires { ⌜ Sound (now job) header ⌝ }
+    requires { ⌜ k < header .outlines ⌝ }
+    requires { ⌜ (64 ≤ length (now corners)) × (8 ≤ length (now lengths)) ⌝ }
+    ensures { λ r. ⌜ Fronts (said (now (job .entry)) k) (r .corners) (r .rings) (now (corners .exit)) (now (lengths .exit)) ⌝ }
+{
+    match unpack(part_of(job, k, header), corners, lengths) {
+        Unpacked::Refused(_, _) => Shape {
+            corners: 0,
+            rings: 0,
+        },
+        Unpacked::Figure {
+            corners: v,
+            rings: r,
+        } => Shape {
+            corners: v as usize,
+            rings: r as usize,
+        },
+    }
+}
+
+// The fracture of outline k, as the job says it.
+fn fracture_outline(
+    job: &[u8],
+    k: usize,
+    header: Header,
+    table: &mut [u32],
+    list: &mut [u16],
+) -> Fractured
+    requires { ⌜ Sound (now job) header ⌝ }
+    requires { ⌜ k < header .outlines ⌝ }
+    ensures { λ a. ⌜ told a (now (table .exit)) (now (list .exit)) ≡ outcome (record { figure = said (now (job .entry)) k; threshold = header .threshold; weight = header .weight; table = now (table .entry); list = now (list .entry) }) ⌝ }
+{
+    let mut corners = [0u16; 2 * MOST_CORNERS];
+    let mut lengths = [0u16; MOST_RINGS];
+    let shape = unpack_outline(job, k, header, &mut corners, &mut lengths);
+    let outline = front(&corners, 2 * shape.corners);
+    let rings = front(&lengths, shape.rings);
+    fracture(outline, rings, header.threshold, header.weight, table, list)
+}
+
+// Whether a fracture was refused.
+fn is_refused(answer: Fractured) -> bool
+    ensures { λ r. ⌜ r ≡ refusedBy answer ⌝ }
+{
+    match answer {
+        Fractured::Done {
+            shots: _,
+            cost: _,
+            sliver: _,
+        } => false,
+        Fractured::Refused(_, _) => true,
+    }
+}
+
+// Outline k, fractured and printed.
+fn run_outline(
+    job: &[u8],
+    k: usize,
+    header: Header,
+    table: &mut [u32],
+    list: &mut [u16],
+    out: Output,
+) -> Ran
+    requires { ⌜ Sound (now job) header ⌝ }
+    requires { ⌜ k < header .outlines ⌝ }
+    requires { ⌜ (14400 ≤ length (now table)) × (900 ≤ length (now list)) ⌝ }
+    ensures { λ r. ⌜ r .refused ≡ isRefused (now (job .entry)) k ⌝ }
+    ensures { λ r. ⌜ Remembers out (r .out) ⌝ }
+{
+    let answer = fracture_outline(job, k, header, table, list);
+    let refused = is_refused(answer);
+    let printed = print_outline(out, k, answer, list);
+    Ran {
+        out: printed,
+        refused,
+    }
+}
+
+// Whether one or the other was refused.
+fn either(one: bool, other: bool) -> bool
+    ensures { λ r. ⌜ r ≡ (one || other) ⌝ }
+{
+    one || other
+}
+
+// Each outline in turn, until a write fails.
+pub fn run_outlines(
+    job: &[u8],
+    header: Header,
+    table: &mut [u32],
+    list: &mut [u16],
+    out: Output,
+) -> Ran
+    requires { ⌜ Sound (now job) header ⌝ }
+    requires { ⌜ (14400 ≤ length (now table)) × (900 ≤ length (now list)) ⌝ }
+    ensures { λ r. ⌜ (r .out .failed ≡ true) ⊎ (r .refused ≡ anyRefused (now (job .entry)) (header .outlines)) ⌝ }
+    ensures { λ r. ⌜ Remembers out (r .out) ⌝ }
+{
+    let count = header.outlines;
+    let mut next = out;
+    let mut refused = false;
+    for k in 0..count {
+        let ran = run_outline(job, k as usize, header, table, list, next);
+        next = ran.out;
+        refused = either(refused, ran.refused);
+        let failed = next.failed;
+        if failed {
+            break;
+        }
+    }
+    Ran { out: next, refused }
+}
