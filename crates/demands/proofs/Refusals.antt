@@ -27,7 +27,7 @@ use Rattle.rule.specs.declared.Rule.{Rule}
 use Rattle.rule.specs.Rules.{inRange}
 use Rattle.figure.specs.declared.Axis.{Axis}
 use Rattle.figure.specs.declared.Axis.the-variants.{X, Y}
-use Rattle.figure.specs.Corners.{Corner, Link, any, changes, both, neither, same, alike, slanted, unturned}
+use Rattle.figure.specs.Corners.{Corner, Link, any, changes, both, neither, same, alike, slanted, unturned, Turn, into, onward}
 use Rattle.figure.specs.Figure.{rings, edgesOf, turnsOf, badFigure, fault}
 use Rattle.figure.proofs.Fault.{bad-lengths, lengths-bad}
 use Rattle.figure.proofs.Together.{slanted-all, unturned-all}
@@ -203,10 +203,10 @@ module _ (ask : Asked) where
       inl (m .0, m .1, keeps-true X (m .0) (k .0), keeps-true Y (m .0) (k .1)))
       (λ h. let m = any-some alike (turnsOf (ask .figure)) h in inr (m .0, m .1, two (m .0) (or-true _ _ (m .2))))
     where
-      two : (n : Link (Link Corner)) → (same X n ≡ true) ⊎ (same Y n ≡ true)
-          → (Changes X (n .from) × Changes X (n .to)) ⊎ (Changes Y (n .from) × Changes Y (n .to))
-      two n (inl h) = let k = and-true _ _ (unfold same in h) in inl (changes-true X (n .from) (k .0), changes-true X (n .to) (k .1))
-      two n (inr h) = let k = and-true _ _ (unfold same in h) in inr (changes-true Y (n .from) (k .0), changes-true Y (n .to) (k .1))
+      two : (n : Turn) → (same X n ≡ true) ⊎ (same Y n ≡ true)
+          → (Changes X (into n) × Changes X (onward n)) ⊎ (Changes Y (into n) × Changes Y (onward n))
+      two n (inl h) = let k = and-true _ _ (unfold same in h) in inl (changes-true X (into n) (k .0), changes-true X (onward n) (k .1))
+      two n (inr h) = let k = and-true _ _ (unfold same in h) in inr (changes-true Y (into n) (k .0), changes-true Y (onward n) (k .1))
   test-true because.Empty e = λ i j hi hj. no (drawn ask .inside i j) (omega (arith, eqb-true (insideCells (drawn ask)) 0 e, row i hi, cell i j hj))
     where
       row : (i : ℕ) → i < drawn ask .columns → over 0 (drawn ask .rows) (λ j. only (drawn ask .inside i j) 1) ≤ insideCells (drawn ask)
@@ -248,9 +248,9 @@ module _ (ask : Asked) where
       unturned-all (ask .figure)
       ∙ or-right (any neither (edgesOf (ask .figure))) _ (any-of alike (m .0) (turnsOf (ask .figure)) (m .1) (two (m .0) (m .2)))
     where
-      two : (n : Link (Link Corner)) → (Changes X (n .from) × Changes X (n .to)) ⊎ (Changes Y (n .from) × Changes Y (n .to)) → alike n ≡ true
-      two n (inl h) = unfold alike same in or-left (same X n) (same Y n) (and-both _ _ (true-changes X (n .from) (h .0)) (true-changes X (n .to) (h .1)))
-      two n (inr h) = unfold alike same in or-right (same X n) (same Y n) (and-both _ _ (true-changes Y (n .from) (h .0)) (true-changes Y (n .to) (h .1)))
+      two : (n : Turn) → (Changes X (into n) × Changes X (onward n)) ⊎ (Changes Y (into n) × Changes Y (onward n)) → alike n ≡ true
+      two n (inl h) = unfold alike same in or-left (same X n) (same Y n) (and-both _ _ (true-changes X (into n) (h .0)) (true-changes X (onward n) (h .1)))
+      two n (inr h) = unfold alike same in or-right (same X n) (same Y n) (and-both _ _ (true-changes Y (into n) (h .0)) (true-changes Y (onward n) (h .1)))
   true-test because.Empty h =
       eq-eqb _ _
       (over-zero 0 (drawn ask .columns) _

@@ -16,7 +16,7 @@ use Rattle.refusal.specs.Refusals.{refusalNo}
 use Rattle.rule.specs.Rules.{limit}
 use Rattle.figure.specs.declared.Axis.{Axis}
 use Rattle.figure.specs.declared.Axis.the-variants.{X, Y}
-use Rattle.figure.specs.Corners.{Corner, Link, coordinate}
+use Rattle.figure.specs.Corners.{Corner, Link, Turn, into, onward, coordinate}
 use Rattle.figure.specs.Figure.{BadLengths, edgesOf, turnsOf}
 use Rattle.table.specs.Entry.{entryCount}
 use Rattle.demands.specs.Promise.{Asked, drawn, ruleOf, frameShots}
@@ -38,8 +38,8 @@ module _ (ask : Asked) where
   -- an edge changes neither, or two neighbours of a ring change the same one
   Condition because.Unturned =
       ((e : Link Corner) × Member e (edgesOf (ask .figure)) × Keeps X e × Keeps Y e)
-      ⊎ ((n : Link (Link Corner)) × Member n (turnsOf (ask .figure))
-      × ((Changes X (n .from) × Changes X (n .to)) ⊎ (Changes Y (n .from) × Changes Y (n .to))))
+      ⊎ ((t : Turn) × Member t (turnsOf (ask .figure))
+      × ((Changes X (into t) × Changes X (onward t)) ⊎ (Changes Y (into t) × Changes Y (onward t))))
   -- no cell is inside
   Condition because.Empty = (i j : ℕ) → i < drawn ask .columns → j < drawn ask .rows → drawn ask .inside i j ≡ false
   -- cost table has fewer entries than there are pieces

@@ -1,20 +1,21 @@
 -- Laws of corners, edges and turns: how many there are, and which is which. Assumes nothing.
 --
 --   length-corners, length-edges, length-turns   == a list has half as many corners as numbers, and as many edges and turns
---   corner-at, edge-at, turn-at                  == the corner k, the edge that ends at it, that edge with the one before
+--   corner-at, edge-at, turn-at                  == the corner k, the edge that ends at it, the turn that does: that edge with the one before
+--   link, turns-links                            == a turn as two edges; all turns are the edges, once round
 --   around-at, length-around                     == the same of any list, once round
 --   any-at, any-none                             == a test that one member passes; one that none does
 use Prim.Native.Nat.{ℕ, zero, suc, _+_, _*_, _-_, _/_, _<_}
 use mathlib.Core.Path.{_≡_, refl, sym, _∙_, ap, ap₂}
 use mathlib.Core.Bool.{Bool, true, false, not, _&&_, _||_, or-true, true≢false}
-use mathlib.Core.List.{List, [], _∷_}
+use mathlib.Core.List.{List, [], _∷_, map}
 use native.Mathlib.Omega.{arith}
 use lib.Dec.{eqb}
-use lib.ListN.{length, getD}
+use lib.ListN.{length, getD, length-map, List·getD-map}
 use Rattle.figure.specs.declared.Axis.{Axis}
 use Rattle.figure.specs.declared.Axis.the-variants.{X, Y}
-use Rattle.figure.specs.Corners.{corners, coordinate, last, steps, around, any, edges, turns, changes, both, neither, alike, slanted, unturned}
-use Rattle.figure.specs.Steps.{origin, still, corner, edge, turn, before}
+use Rattle.figure.specs.Corners.{corners, coordinate, last, steps, around, any, edges, turns, changes, both, neither, alike, slanted, unturned, Corner, Link, Turn, into, onward, threes, lastButOne}
+use Rattle.figure.specs.Steps.{origin, still, stop, corner, edge, turn, before}
 
 pub length-corners : (l : List ℕ) → length (corners l) ≡ length l / 2
 unfolding corners
@@ -108,9 +109,40 @@ pub length-edges : (l : List ℕ) → length (edges (corners l)) ≡ length l / 
 unfolding edges
 length-edges l = length-around (corners l) ∙ length-corners l
 
+-- a turn as two edges, and all turns as the edges once round
+abbrev pub link : Turn → Link (Link Corner)
+link t = record { from = into t; to = onward t }
+
+threes-links : (p q : Corner) (l : List Corner) → steps (record { from = p; to = q }) (steps q l) ≡ map link (threes p q l)
+unfolding steps threes
+threes-links p q [] = refl
+threes-links p q (r ∷ l) = ap (λ m. link (record { before = p; at = q; after = r }) ∷ m) (threes-links q r l)
+
+last-edge : (p q : Corner) (l : List Corner)
+    → last (record { from = p; to = q }) (steps q l) ≡ record { from = lastButOne p q l; to = last q l }
+unfolding steps last lastButOne
+last-edge p q [] = refl
+last-edge p q (r ∷ l) = last-edge q r l
+
+first-edge : (s : Corner) (l : List Corner)
+    → last (record { from = last s l; to = s }) (steps s l) ≡ record { from = lastButOne s s l; to = last s l }
+unfolding last lastButOne steps
+first-edge s [] = refl
+first-edge s (r ∷ l) = last-edge s r l
+
+pub turns-links : (cs : List Corner) → around (edges cs) ≡ map link (turns cs)
+unfolding edges around turns steps threes
+turns-links [] = refl
+turns-links (s ∷ l) =
+    ap (λ e. steps e (steps (last s l) (s ∷ l))) (first-edge s l)
+    ∙ threes-links (lastButOne s s l) (last s l) (s ∷ l)
+
 pub length-turns : (l : List ℕ) → length (turns (corners l)) ≡ length l / 2
-unfolding turns
-length-turns l = length-around (edges (corners l)) ∙ length-edges l
+length-turns l =
+    sym (length-map (turns (corners l)) link)
+    ∙ ap length (sym (turns-links (corners l)))
+    ∙ length-around (edges (corners l))
+    ∙ length-edges l
 
 pub edge-at : (l : List ℕ) (k : ℕ) → k < length l / 2
     → edge l k ≡ record { from = corner l (before k (length l / 2)); to = corner l k }
@@ -120,10 +152,12 @@ edge-at l k h =
     ∙ ap (λ n. record { from = getD (corners l) (before k n) origin; to = getD (corners l) k origin }) (length-corners l)
 
 pub turn-at : (l : List ℕ) (k : ℕ) → k < length l / 2
-    → turn l k ≡ record { from = edge l (before k (length l / 2)); to = edge l k }
-unfolding turn edge turns
+    → link (turn l k) ≡ record { from = edge l (before k (length l / 2)); to = edge l k }
+unfolding turn edge stop still
 turn-at l k h =
-    around-at (still origin) (edges (corners l)) k (omega (arith, length-edges l))
+    sym (List·getD-map link (turns (corners l)) k stop)
+    ∙ ap (λ m. getD m k (link stop)) (sym (turns-links (corners l)))
+    ∙ around-at (still origin) (edges (corners l)) k (omega (arith, length-edges l))
     ∙ ap (λ n. record { from = getD (edges (corners l)) (before k n) (still origin); to = getD (edges (corners l)) k (still origin) }) (length-edges l)
 
 pub before-less : (k n : ℕ) → k < n → before k n < n
@@ -161,10 +195,10 @@ changes-at a l k b u v h e p q =
 
 -- the two edges of a turn
 module _ (a : Axis) (l : List ℕ) (k b : ℕ) (t : Bool) (h : k < length l / 2) where
-  pub turn-from : b ≡ before k (length l / 2) → t ≡ changes a (edge l b) → t ≡ changes a (turn l k .from)
+  pub turn-from : b ≡ before k (length l / 2) → t ≡ changes a (edge l b) → t ≡ changes a (into (turn l k))
   turn-from e p = p ∙ ap (λ i. changes a (edge l i)) e ∙ sym (ap (λ u. changes a (u .from)) (turn-at l k h))
 
-  pub turn-to : t ≡ changes a (edge l k) → t ≡ changes a (turn l k .to)
+  pub turn-to : t ≡ changes a (edge l k) → t ≡ changes a (onward (turn l k))
   turn-to p = p ∙ sym (ap (λ u. changes a (u .to)) (turn-at l k h))
 
 -- what one edge or turn shows of the ring, and what all of them show
@@ -184,7 +218,7 @@ module _ (l : List ℕ) (k : ℕ) (h : k < length l / 2) where
   unturned-alike e t =
       sym (or-true (any neither (edges (corners l))))
       ∙ ap (λ b. any neither (edges (corners l)) || b)
-      (sym (any-at alike (still (still origin)) (turns (corners l)) k (omega (arith, length-turns l)) (sym e ∙ t)))
+      (sym (any-at alike stop (turns (corners l)) k (omega (arith, length-turns l)) (sym e ∙ t)))
 
 pub slanted-none : (l : List ℕ) → ((k : ℕ) → k < length l / 2 → both (edge l k) ≡ false) → false ≡ slanted (corners l)
 unfolding slanted edge
@@ -198,7 +232,7 @@ unfolding unturned edge turn
 unturned-none l h g =
     sym
     (ap₂ _||_ (any-none neither (still origin) (edges (corners l)) (λ k q. h k (omega (arith, length-edges l))))
-    (any-none alike (still (still origin)) (turns (corners l)) (λ k q. g k (omega (arith, length-turns l)))))
+    (any-none alike stop (turns (corners l)) (λ k q. g k (omega (arith, length-turns l)))))
 
 -- two tests one after the other, the second made where the first does not decide
 module _ (p q x : Bool) where

@@ -16,11 +16,11 @@ use lib.Dec.{eqb}
 use lib.ListN.{length}
 use borrow.Author.Tests.{eqb-true, eqb-false, not-true, not-false}
 use Rattle.sum.specs.Sum.{only, sumOf, All, join}
-use Rattle.sum.proofs.Lists.{All-imp, All-of}
+use Rattle.sum.proofs.Lists.{All-imp, All-of, All-map}
 use Rattle.figure.specs.declared.Axis.{Axis}
 use Rattle.figure.specs.declared.Axis.the-variants.{X, Y}
 use Rattle.figure.specs.Corners.{Corner, Link, coordinate, last, steps, around, any, edges, turns, changes, both, neither, same, alike, slanted, unturned}
-use Rattle.figure.proofs.Corners.{length-around}
+use Rattle.figure.proofs.Corners.{length-around, link, turns-links}
 
 -- a test that fails of two
 pub or-false : (p q : Bool) → (p || q) ≡ false → (p ≡ false) × (q ≡ false)
@@ -168,13 +168,20 @@ module _ (cs : List Corner) (no-slant : slanted cs ≡ false) (no-unturned : unt
       (any-all both (edges cs) no-slant)
       (any-all neither (edges cs) (or-false (any neither (edges cs)) (any alike (turns cs)) no-unturned .0))
 
-  no-alike : All (λ t. alike t ≡ false) (around (edges cs))
-  unfolding unturned turns
-  no-alike = any-all alike (turns cs) (or-false (any neither (edges cs)) (any alike (turns cs)) no-unturned .1)
+  -- two edges that change the same coordinate
+  abbrev alikeEdges : Link (Link Corner) → Bool
+  alikeEdges t = (changes X (t .from) && changes X (t .to)) || (changes Y (t .from) && changes Y (t .to))
 
-  other : (a : Axis) (e f : Link Corner) → One e → One f → alike (record { from = e; to = f }) ≡ false
+  no-alike : All (λ t. alikeEdges t ≡ false) (around (edges cs))
+  unfolding unturned alike same
+  no-alike =
+      subst (All (λ t. alikeEdges t ≡ false)) (sym (turns-links cs))
+      (All-map (λ t. alikeEdges t ≡ false) link (turns cs)
+      (any-all alike (turns cs) (or-false (any neither (edges cs)) (any alike (turns cs)) no-unturned .1)))
+
+  other : (a : Axis) (e f : Link Corner) → One e → One f → alikeEdges (record { from = e; to = f }) ≡ false
       → changes a f ≡ not (changes a e)
-  unfolding both neither alike same
+  unfolding both neither
   other a e f p q h = go a (changes X e) (changes Y e) (changes X f) (changes Y f) refl refl refl refl (p .0) (p .1) (q .0) (q .1) h
     where
       go : (a : Axis) (xe ye xf yf : Bool) → changes X e ≡ xe → changes Y e ≡ ye → changes X f ≡ xf → changes Y f ≡ yf
@@ -195,7 +202,7 @@ module _ (cs : List Corner) (no-slant : slanted cs ≡ false) (no-unturned : unt
   pub turns-other : (a : Axis) → All (λ t. changes a (t .to) ≡ not (changes a (t .from))) (around (edges cs))
   turns-other a =
       All-imp (λ t h. other a (t .from) (t .to) (h .0 .0) (h .0 .1) (h .1)) (around (edges cs))
-      (All-both (λ t. One (t .from) × One (t .to)) (λ t. alike t ≡ false) (around (edges cs)) (around-all One (edges cs) edges-one) no-alike)
+      (All-both (λ t. One (t .from) × One (t .to)) (λ t. alikeEdges t ≡ false) (around (edges cs)) (around-all One (edges cs) edges-one) no-alike)
 
   -- half of the edges change a coordinate, the others keep it
   pub edges-half : (a : Axis) → 2 * tally (changes a) (edges cs) ≡ length cs

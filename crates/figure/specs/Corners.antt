@@ -6,7 +6,10 @@
 --   Link             == a step from one thing to the next
 --   around l         == from the last member of l to the first, and from each member to the next: once round
 --   edges cs         == the edges of the ring with the corners cs, the closing one among them
---   turns cs         == each edge of the ring with the next, the last with the first too
+--   Turn             == three corners in a row
+--   into t, onward t == the edge of the turn t that ends at its middle corner, and the one that starts there
+--   threes p q l     == the turns from p and q on through l
+--   turns cs         == the turns of the ring with the corners cs, once round
 --   changes a e      == the edge e changes the coordinate along the axis a
 --   both e           == the edge e changes both coordinates
 --   neither e        == the edge e changes neither
@@ -62,8 +65,29 @@ module _ {A : Type 0} where
 unfoldable pub edges : List Corner → List (Link Corner)
 edges cs = around cs
 
-unfoldable pub turns : List Corner → List (Link (Link Corner))
-turns cs = around (edges cs)
+pub record Turn : Type 0 where
+  pub before : Corner
+  pub at : Corner
+  pub after : Corner
+
+abbrev pub into : Turn → Link Corner
+into t = record { from = t .before; to = t .at }
+
+abbrev pub onward : Turn → Link Corner
+onward t = record { from = t .at; to = t .after }
+
+unfoldable pub threes : Corner → Corner → List Corner → List Turn
+threes p q [] = []
+threes p q (r ∷ l) = record { before = p; at = q; after = r } ∷ threes q r l
+
+-- the last but one of p, q and what follows them
+unfoldable pub lastButOne : Corner → Corner → List Corner → Corner
+lastButOne p q [] = p
+lastButOne p q (r ∷ l) = lastButOne q r l
+
+unfoldable pub turns : List Corner → List Turn
+turns [] = []
+turns (s ∷ l) = threes (lastButOne s s l) (last s l) (s ∷ l)
 
 unfoldable pub changes : Axis → Link Corner → Bool
 changes a e = not (eqb (coordinate a (e .from)) (coordinate a (e .to)))
@@ -77,10 +101,10 @@ both e = changes X e && changes Y e
 unfoldable pub neither : Link Corner → Bool
 neither e = not (changes X e) && not (changes Y e)
 
-unfoldable pub same : Axis → Link (Link Corner) → Bool
-same a t = changes a (t .from) && changes a (t .to)
+unfoldable pub same : Axis → Turn → Bool
+same a t = changes a (into t) && changes a (onward t)
 
-unfoldable pub alike : Link (Link Corner) → Bool
+unfoldable pub alike : Turn → Bool
 alike t = same X t || same Y t
 
 unfoldable pub slanted : List Corner → Bool

@@ -11,7 +11,7 @@
 --   rings f          == its rings: the corners of each
 --   cornersOf f      == its corners, ring after ring
 --   edgesOf f        == its edges, each ring closed
---   turnsOf f        == its turns: each edge with the next of its ring
+--   turnsOf f        == its turns: three corners of a ring in a row
 --   total f          == how many corners its ring lengths announce
 --   badLength n      == a ring has 4 to 32 corners
 --   badFigure f      == 2: a bad ring count, ring length or total
@@ -31,7 +31,7 @@ use Rattle.refusal.specs.declared.Refusal.the-variants as because
 use Rattle.refusal.specs.Refusals.{refusalNo}
 use Rattle.figure.specs.declared.Shape.{Shape}
 use Rattle.figure.specs.declared.Shape.the-variants.{Right, Refused}
-use Rattle.figure.specs.Corners.{Corner, Link, corners, edges, turns, any, slanted, unturned}
+use Rattle.figure.specs.Corners.{Corner, Link, Turn, corners, edges, turns, any, slanted, unturned}
 
 pub record Figure : Type 0 where
   pub numbers : List ℕ
@@ -65,7 +65,7 @@ cornersOf f = join (λ r. r) (rings f)
 abbrev pub edgesOf : Figure → List (Link Corner)
 edgesOf f = join edges (rings f)
 
-abbrev pub turnsOf : Figure → List (Link (Link Corner))
+abbrev pub turnsOf : Figure → List Turn
 turnsOf f = join turns (rings f)
 
 abbrev pub total : Figure → ℕ

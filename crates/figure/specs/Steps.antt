@@ -1,6 +1,6 @@
 -- Inner: what the functions on the way to a refusal promise of one ring. Nobody has to believe these.
 --
---   corner l k, edge l k, turn l k   == the corner k of the list l, the edge that ends at it, and that edge with the one before
+--   corner l k, edge l k, turn l k   == the corner k of the list l, the edge that ends at it, and the turn that does
 --   before k n                       == the number before k of n, once round
 --   Right f                          == the figure f passes 2, 3 and 4
 use Prim.Native.Nat.{ℕ, zero, suc, _-_}
@@ -8,7 +8,7 @@ use mathlib.Core.Path.{_≡_}
 use mathlib.Core.Bool.{false}
 use mathlib.Core.List.{List}
 use lib.ListN.{getD}
-use Rattle.figure.specs.Corners.{Corner, Link, corners, edges, turns, any, slanted, unturned}
+use Rattle.figure.specs.Corners.{Corner, Link, Turn, corners, edges, turns, any, slanted, unturned}
 use Rattle.figure.specs.Figure.{Figure, rings, badFigure}
 
 unfoldable pub origin : Corner
@@ -23,8 +23,11 @@ corner l k = getD (corners l) k origin
 unfoldable pub edge : List ℕ → ℕ → Link Corner
 edge l k = getD (edges (corners l)) k (still origin)
 
-unfoldable pub turn : List ℕ → ℕ → Link (Link Corner)
-turn l k = getD (turns (corners l)) k (still (still origin))
+unfoldable pub stop : Turn
+stop = record { before = origin; at = origin; after = origin }
+
+unfoldable pub turn : List ℕ → ℕ → Turn
+turn l k = getD (turns (corners l)) k stop
 
 unfoldable pub before : ℕ → ℕ → ℕ
 before zero n = n - 1
