@@ -2,8 +2,8 @@
 use libc::EAGAIN;
 use libc::EINTR;
 
-// How often one read or write is tried. Each try waits a millisecond where nothing is ready, so that a descriptor which stays so for
-// ten minutes counts as one that failed.
+// How often one read or write is tried. Where nothing is ready a try only lets other programs run, so that a descriptor which stays so
+// for about a second counts as one that failed.
 pub const PATIENCE: u32 = 600000;
 
 // Lets other programs run.
