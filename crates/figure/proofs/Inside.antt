@@ -17,11 +17,12 @@ use lib.Dec.{leb, eqb}
 use borrow.Author.Tests.{eqb-true, le-leb, lt-leb, not-false}
 use Rattle.sum.specs.Sum.{only, sumOf, All, join}
 use Rattle.sum.proofs.Sum.{le-or}
-use Rattle.sum.proofs.Lists.{sumOf-append, sumOf-same, All-imp, All-join, All-all, All-parts, join-append}
+use Rattle.sum.proofs.Lists.{sumOf-append, sumOf-same, All-imp, All-join, All-all, All-parts}
 use Rattle.figure.specs.declared.Axis.the-variants.{X}
 use Rattle.figure.specs.Corners.{Corner, Link, coordinate, last, steps, around, edges, changes, both, any, slanted, odd}
 use Rattle.figure.specs.Figure.{Figure, rings, cornersOf, edgesOf}
 use Rattle.figure.specs.Inside.{Wall, wall, walls, covers, count, within, insideAt}
+use Rattle.figure.proofs.ByRings.{walls-rings}
 use Rattle.figure.proofs.Turns.{any-all, All-both, around-all}
 
 pub min-max : (Q : ℕ → Type 0) (a b : ℕ) → Q a → Q b → Q (min a b) × Q (max a b)
@@ -156,11 +157,6 @@ rings-all : {A : Type 0} (Q : A → Type 0) (rs : List (List A)) → All Q (join
 unfolding join
 rings-all Q [] h = tt
 rings-all Q (r ∷ rs) h = let k = All-parts Q r (join (λ r. r) rs) h in (k .0, rings-all Q rs (k .1))
-
-pub walls-rings : (rs : List (List Corner)) → walls (join edges rs) ≡ join (λ r. walls (edges r)) rs
-unfolding walls join
-walls-rings [] = refl
-walls-rings (r ∷ rs) = join-append wall (edges r) (join edges rs) ∙ ap (λ ws. join wall (edges r) ++ ws) (walls-rings rs)
 
 pub walls-all : (Qx Qy : ℕ → Type 0) (f : Figure) → All (Seat Qx Qy) (cornersOf f) → All (Set Qx Qy) (walls (edgesOf f))
 walls-all Qx Qy f h =

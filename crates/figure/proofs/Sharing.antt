@@ -1,8 +1,6 @@
 -- How the numbers of a figure are shared out to its rings. Assumes nothing.
 --
 --   corners-whole   == the corners of all rings, one after the other, are the corners of the whole list
---   odd-bit         == a number is odd where its remainder by two is one
---   inside-rings    == a unit square is inside a figure where an odd number of its rings hold it
 --   one-ring ..     == a figure of one ring is document 01's outline: bad by the length of its list alone, its corners, edges and turns
 --                      those of the list, and so its faults and what is inside
 use Prim.Native.Nat.{ℕ, zero, suc, _+_, _*_, _/_, _%_, _<_}
@@ -14,13 +12,11 @@ use native.Mathlib.Omega.{arith}
 use lib.Dec.{ltb, eqb}
 use lib.ListN.{length, take, drop, length-drop}
 use borrow.Author.Tests.{lt-ltb, le-ltb, eq-eqb, ne-eqb}
-use Rattle.sum.specs.Sum.{only, sumOf, join}
+use Rattle.sum.specs.Sum.{sumOf, join}
 use Rattle.sum.proofs.Sum.{le-or}
-use Rattle.sum.proofs.Lists.{sumOf-join}
 use Rattle.figure.specs.Corners.{Corner, corners, edges, turns, any, odd, slanted, unturned}
 use Rattle.figure.specs.Figure.{Figure, figure, share, rings, cornersOf, edgesOf, turnsOf, badLength, badFigure, fault}
-use Rattle.figure.specs.Inside.{walls, within, insideAt, covers, count}
-use Rattle.figure.proofs.Inside.{walls-rings}
+use Rattle.figure.specs.Inside.{walls, within, insideAt}
 use Rattle.figure.proofs.Fault.{rings-good}
 
 -- the corners of a list, from its first n corners and the rest
@@ -48,29 +44,6 @@ share-whole (n ∷ ns) l h =
 
 pub corners-whole : (f : Figure) → badFigure f ≡ false → cornersOf f ≡ corners (f .numbers)
 corners-whole f h = share-whole (f .lengths) (f .numbers) (rings-good f h .numbers)
-
--- an odd sum has an odd number of odd members
-pub odd-bit : (n : ℕ) → only (odd n) 1 ≡ n % 2
-unfolding odd
-odd-bit n = go (n % 2) (omega arith)
-  where
-    go : (m : ℕ) → m < 2 → only (eqb m 1) 1 ≡ m
-    go zero h = refl
-    go (suc zero) h = refl
-    go (suc (suc m)) h = absurd (omega arith)
-
-parities : {A : Type 0} (c : A → ℕ) (l : List A) → sumOf c l % 2 ≡ sumOf (λ s. only (odd (c s)) 1) l % 2
-unfolding sumOf
-parities c [] = refl
-parities c (s ∷ l) = omega (arith, odd-bit (c s), parities c l)
-
--- A unit square is inside where an odd number of rings hold it
-pub inside-rings : (f : Figure) (x y : ℕ) → insideAt f x y ≡ odd (sumOf (λ r. only (within (walls (edges r)) x y (suc y)) 1) (rings f))
-unfolding insideAt within odd count
-inside-rings f x y =
-    ap (λ ws. odd (count (covers x y (suc y)) ws)) (walls-rings (rings f))
-    ∙ ap odd (sumOf-join (λ w. only (covers x y (suc y) w) 1) (λ r. walls (edges r)) (rings f))
-    ∙ ap (λ n. eqb n 1) (parities (λ r. count (covers x y (suc y)) (walls (edges r))) (rings f))
 
 -- A figure of one ring
 module _ (l : List ℕ) where

@@ -33,7 +33,8 @@ use Rattle.figure.specs.Inside.{Wall, wall, walls, count}
 use Rattle.figure.specs.Steps.{origin, still, corner, edge, before, Right}
 use Rattle.figure.proofs.Corners.{length-corners, length-edges, edge-at}
 use Rattle.figure.proofs.Fault.{rings-good}
-use Rattle.figure.proofs.Sharing.{corners-whole, odd-bit}
+use Rattle.figure.proofs.ByRings.{odd-bit}
+use Rattle.figure.proofs.Sharing.{corners-whole}
 use Rattle.figure.proofs.Together.{edges-half-all}
 use Rattle.figure.proofs.Walking.{Reached, reached-start, reached-room, reached-next, share-next, share-end}
 use Rattle.figure.proofs.Inside.{count-append}

@@ -8,7 +8,7 @@ use Rattle.refusal.specs.declared.Refusal.the-variants as because
 abbrev pub refusalNo : Refusal → ℕ
 -- threshold or weight above 1,000
 refusalNo because.Rule = 1
--- list length odd, under 8 or over 64
+-- a bad ring count, ring length or total
 refusalNo because.Length = 2
 -- an edge changes both coordinates
 refusalNo because.Slanted = 3
