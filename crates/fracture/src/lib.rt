@@ -86,8 +86,9 @@ fn fracture_by(
     }
 }
 
-// Fractures a figure, given as x, y, x, y, .. of its corners, ring after ring, and the number of corners of each ring, by a threshold
-// in nm and a weight in thousandths of a shot per nm. It leaves the cost of every piece at the front of the table and the shots at the front of the list, and touches nothing beyond.
+// Fractures a figure, given as x, y, x, y, .. of its corners, ring after ring, and the number of corners of each ring, by a
+// threshold in nm and a weight in thousandths of a shot per nm. It leaves the cost of every piece at the front of the table and the
+// shots at the front of the list, and touches nothing beyond.
 pub fn fracture(
     corners: &[u16],
     lengths: &[u16],

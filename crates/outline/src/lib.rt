@@ -115,9 +115,10 @@ fn plot(
 }
 
 // Not a call for users: beside a refusal it clears what it is lent.
-// The grid of a figure, from the list x, y, x, y, .. of its corners, ring after ring, and the number of corners of each ring; or the
-// first of 2, 3, 4, 5 whose condition holds. It is drawn into the lent arrays, whatever was in them: the places of the columns + 1 x lines and of the rows + 1 y lines, and at 16 * i + j a 1
-// where the cell (i, j) is inside. All else is 0, and beside a refusal all of it.
+// The grid of a figure, from the list x, y, x, y, .. of its corners, ring after ring, and the number of corners of each ring; or
+// the first of 2, 3, 4, 5 whose condition holds. It is drawn into the lent arrays, whatever was in them: the places of the columns
+// + 1 x lines and of the rows + 1 y lines, and at 16 * i + j a 1 where the cell (i, j) is inside. All else is 0, and beside a
+// refusal all of it.
 pub fn draw(
     corners: &[u16],
     lengths: &[u16],

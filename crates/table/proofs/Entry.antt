@@ -15,7 +15,9 @@ use lib.ListN.{getD, length, take, drop, take-append-drop, length-append, length
 use lib.Seq.{getD-append-add, ext-getD, length-take-le, getD-take, getD-drop}
 use native.Mathlib.Omega.{arith}
 use native.Mathlib.Numerals.{add-one}
-use native.Mathlib.Nat.{mul-le-mul-right, add-zero, zero-add, suc-add, add-suc, zero-mul, mul-suc, suc-mul}
+use mir.Syntax.{w64}
+use mir.Val.{Fits}
+use native.Mathlib.Nat.{mul-le-mul-right, add-zero, zero-add, suc-add, add-suc, zero-mul, mul-suc, suc-mul, mul-le-mul}
 use lib.Arith.{digits-lt}
 use Rattle.sum.specs.Sum.{join}
 use Rattle.sum.proofs.Sum.{le-or}
@@ -47,6 +49,10 @@ below-up m a (suc b) h = elim (le-or a b) [
   | inr q ↦ (let e : a ≡ suc b = omega arith in rw e (omega arith))
 ]
 
+-- what the closed formula multiplies is small
+pub product-fits : (x y : ℕ) → x ≤ 15 → y ≤ 40 → Fits w64 (x * y)
+product-fits x y h k = record { fits = omega (arith, mul-le-mul h k) }
+
 below-closed : (m a : ℕ) → a ≤ m → a * (2 * m + 1 - a) ≡ 2 * pairsBelow m a
 below-closed m zero h = omega (arith, below-zero m, zero-mul (2 * m + 1 - 0))
 below-closed m (suc a) h =
@@ -62,6 +68,10 @@ below-closed m (suc a) h =
       ap (λ n. suc a * n) two,
       suc-mul a k,
     )
+
+-- the same, as the code has it: with n = m + 1 lines, a (2n - a - 1) / 2
+pub below-lines : (m a : ℕ) → a ≤ m → a * (2 * (m + 1) - a - 1) ≡ 2 * pairsBelow m a
+below-lines m a h = let e : 2 * (m + 1) - a - 1 ≡ 2 * m + 1 - a = omega arith in ap (λ n. a * n) e ∙ below-closed m a h
 
 pub pair-closed : (m a c : ℕ) → a < c → c ≤ m → pairNo m a c ≡ (a * (2 * m + 1 - a)) / 2 + (c - a - 1)
 unfolding pairNo

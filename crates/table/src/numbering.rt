@@ -5,19 +5,14 @@ ghost use Prim.Native.Nat.{ℕ, _+_, _*_, _-_, _<_, _≤_};
 ghost use Rattle.piece.specs.Piece.{box};
 ghost use Rattle.table.specs.Entry.{pairsBelow, pairCount, pairNo, entryCount, entryOf, Valid};
 
-// How many pairs of the lines 0 to `last` have their low line below the line a.
+// How many pairs of the lines 0 to `last` have their low line below the line a: with n lines, a (2n - a - 1) / 2.
 pub fn pairs_below(last: usize, a: Line) -> usize
     requires { ⌜ (last ≤ 15) × (a .0 ≤ last) ⌝ }
     ensures { λ r. ⌜ (r ≡ pairsBelow last (a .0)) × (r ≤ 225) ⌝ }
 {
-    let end = a.0;
-    let mut count: usize = 0;
-    let mut low: usize = 0;
-    while low < end {
-        count += last - low;
-        low += 1;
-    }
-    count
+    let lines = last + 1;
+    let low = a.0;
+    low * (2 * lines - low - 1) / 2
 }
 
 // How many pairs of the lines 0 to `last` there are.
@@ -46,7 +41,8 @@ pub fn entries(columns: usize, rows: usize) -> usize
     pair_count(columns) * pair_count(rows)
 }
 
-// The entry of the piece between the x lines a < c and the y lines b < d.
+// The entry of the piece between the x lines a < c and the y lines b < d: the number of its x pair times the count of y pairs, plus the
+// number of its y pair. With n lines the pair (a, c) has the number a (2n - a - 1) / 2 + (c - a - 1), and there are n (n - 1) / 2.
 pub fn entry(columns: usize, rows: usize, a: Line, c: Line, b: Line, d: Line) -> usize
     requires { ⌜ (columns ≤ 15) × ((rows ≤ 15) × Valid columns rows (box (a .0) (c .0) (b .0) (d .0))) ⌝ }
     ensures { λ r. ⌜ (r ≡ entryOf columns rows (box (a .0) (c .0) (b .0) (d .0))) × (r < entryCount columns rows) ⌝ }

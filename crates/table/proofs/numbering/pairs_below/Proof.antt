@@ -1,43 +1,30 @@
--- `table::numbering::pairs_below` meets its contract: the loop has counted the pairs below the line `low`. Assumes nothing.
-use Prim.Native.Nat.{_*_, _-_, _≤_}
-use mathlib.Core.Path.{_≡_, _∙_, ap}
+-- `table::numbering::pairs_below` meets its contract: the closed formula counts the pairs. Assumes nothing.
 use native.Mathlib.Omega.{arith}
-use Rattle.table.specs.Entry.{pairsBelow}
-use Rattle.table.proofs.Entry.{below-zero, below-next}
+use Rattle.table.proofs.Entry.{product-fits, below-lines, below-most}
 use borrow.Author.Needs.{needs}
 use Rattle.table.proofs.numbering.pairs_below.Statement.{statement}
 use Rattle.table.proofs.numbering.pairs_below.Tie as tie
 
-abbrev Inv-loop : tie.InvT-loop
-Inv-loop last end count₀ low₀ count low = (low ≤ end) × ((count ≡ pairsBelow last low) × (count ≤ 15 * low))
+add-lines : tie.Need-add-lines
+add-lines c = search needs
 
-abbrev μ-loop : tie.MeasureT-loop
-μ-loop last end count₀ low₀ count low = end - low
+mul-result : tie.Need-mul-result
+mul-result c = search needs
 
-loop-holds : tie.Need-loop-holds Inv-loop μ-loop
-loop-holds c = omega (arith, below-zero (c .args .last))
+sub-result : tie.Need-sub-result
+sub-result c = search needs
 
-sub-count : tie.Need-sub-count Inv-loop μ-loop
-sub-count c = search needs
+sub-result-2 : tie.Need-sub-result-2
+sub-result-2 c = search needs
 
-add-count : tie.Need-add-count Inv-loop μ-loop
-add-count c = search needs
+mul-result-2 : tie.Need-mul-result-2
+mul-result-2 c = product-fits _ _ (omega arith) (omega arith)
 
-add-low : tie.Need-add-low Inv-loop μ-loop
-add-low c = search needs
-
-loop-less : tie.Need-loop-less Inv-loop μ-loop
-loop-less c = search needs
-
-loop-again : tie.Need-loop-again Inv-loop μ-loop
-loop-again c = omega (arith, below-next (c .before .before .args .last) (c .before .loop .low))
-
-returns : tie.Need-returns Inv-loop μ-loop
+returns : tie.Need-returns
 returns c =
-    let e : c .before .loop .low ≡ c .before .before .args .a .0 = omega arith in
-    (c .before .loop .inv .1 .0 ∙ ap (pairsBelow (c .before .before .args .last)) e, omega arith)
+    let p = c .pre in
+    omega (arith, below-lines (c .args .last) (c .args .a .0) (p .1), below-most (c .args .last) (c .args .a .0) (p .0))
 
 pub pairs-below-spec : {M : Type 1} → statement M
 pairs-below-spec =
-    tie.close
-    (tie.spec Inv-loop μ-loop loop-holds sub-count add-count add-low loop-less loop-again returns)
+    tie.close (tie.spec add-lines mul-result sub-result sub-result-2 mul-result-2 returns)
