@@ -27,9 +27,11 @@
  *   - Beside a refusal every single number is 0, except: shots beside PW_LIST_SHORT is the number of
  *     shots that there are; offset beside PW_BYTES_END, PW_NOT_SHORTEST, PW_OUT_OF_RANGE and
  *     PW_BYTES_LEFT from a reading call is where, in the bytes lent, the faulty number starts
- *     (PW_BYTES_LEFT: the first byte too many).
+ *     (PW_BYTES_LEFT: the first byte too many); offset beside PW_BYTES_END from pw_gdsii_read and
+ *     pw_gdsii_fracture is where the record that is cut short starts.
  *
- * All places are whole nanometres, 0 to 65535.
+ * All places are whole nanometres, 0 to 65535, but for those in a GDSII element, which are signed and of
+ * 32 bits.
  */
 #ifndef PINAREWHEMI_H
 #define PINAREWHEMI_H
@@ -52,14 +54,18 @@ enum pw_refusal {
   PW_EMPTY = 5,         /* no cell is inside */
   PW_TABLE_SHORT = 6,   /* cost table has fewer entries than there are pieces */
   PW_LIST_SHORT = 7,    /* shot list holds fewer than 4 x shots numbers */
-  PW_BYTES_END = 8,     /* bytes end before a number does */
+  PW_BYTES_END = 8,     /* bytes end before a number does, or within an element */
   PW_NOT_SHORTEST = 9,  /* a number's last byte is 0 and not its only one */
   PW_OUT_OF_RANGE = 10, /* a third byte has its top bit set, or a value is outside its range */
   PW_BYTES_LEFT = 11,   /* bytes follow the last outline */
   PW_JOB_LONG = 12,     /* job over 4096 bytes */
   PW_NO_OUTLINE = 13,   /* outline k asked for, k not below the number of outlines */
   PW_BUFFER_SHORT = 14, /* buffer too short for what would be written */
-  PW_NO_PRESET = 15     /* preset number above 3 */
+  PW_NO_PRESET = 15,    /* preset number above 3 */
+  PW_RECORD = 16,       /* a record out of order, of another data type or of wrong length, an XY without points, or
+                           bytes after ENDEL */
+  PW_NOT_CLOSED = 17,   /* last point unlike the first */
+  PW_EXTENT = 18        /* extent above 65535 */
 };
 
 /* Room that is enough for every figure and every job. */
@@ -122,6 +128,23 @@ uint32_t pw_write_header(uint32_t threshold, uint32_t weight, uint32_t outlines,
  * looked at. Refuses: PW_LENGTH, PW_BUFFER_SHORT. */
 uint32_t pw_write_outline(const uint16_t *corners, size_t corners_len, const uint16_t *rings, size_t rings_len,
                           uint8_t *out, size_t out_len, size_t *written);
+
+/* Reads one boundary element of a GDSII stream, from its BOUNDARY record to its ENDEL: BOUNDARY, ELFLAGS
+ * and PLEX where they stand, LAYER, DATATYPE, XY, ENDEL, and nothing after it. The database unit is taken
+ * as 1 nm. The lowest x and y are moved to 0: shift_x and shift_y plus a corner give back its point. The
+ * corners x, y, x, y, .. stand at the front of list afterwards; corners is their number, without the
+ * repeated first point.
+ * Refuses: PW_BYTES_END (with the offset of the record cut short) and PW_RECORD, record by record, then
+ * PW_NOT_CLOSED, PW_EXTENT, PW_LENGTH to PW_EMPTY, PW_BUFFER_SHORT. */
+uint32_t pw_gdsii_read(const uint8_t *element, size_t len, uint16_t *list, size_t list_len,
+                       uint32_t *corners, int32_t *shift_x, int32_t *shift_y, size_t *offset);
+
+/* Reads such an element and fractures its ring by preset 0, whatever the default is. The shots in list are
+ * moved as the corners are: shift_x and shift_y give back their places.
+ * Refuses as pw_gdsii_read up to PW_EMPTY, then PW_TABLE_SHORT, PW_LIST_SHORT. */
+uint32_t pw_gdsii_fracture(const uint8_t *element, size_t len, uint32_t *table, size_t table_len,
+                           uint16_t *list, size_t list_len, uint32_t *shots, uint32_t *cost, uint32_t *sliver,
+                           int32_t *shift_x, int32_t *shift_y, size_t *offset);
 
 #ifdef __cplusplus
 }

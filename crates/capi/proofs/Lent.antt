@@ -4,12 +4,17 @@
 --   outline-fault     == a job that is refused as a whole refuses outline k
 --   outline-missing   == 13, for k not below the count of a sound job
 --   outline-part      == where outline k of a sound job stands
+--   signed-lent       == two signed numbers that are lent on as they are, read back from their bits
 use Prim.Native.Nat.{ℕ, _-_, _<_, _≤_}
 use mathlib.Core.Path.{_≡_, _∙_, sym, ap, ap₂}
 use mathlib.Core.List.{List}
 use native.Mathlib.Omega.{arith}
 use lib.ListN.{length, getD}
 use borrow.Author.Tests.{le-ltb, lt-ltb}
+use lib.IntN.{ℤ}
+use mir.Syntax.{w32}
+use mir.Val.{SFits, toZ, ofZ}
+use mir.ValLaws.{toZ-ofZ}
 use Rattle.refusal.specs.declared.Refusal.{Refusal}
 use Rattle.refusal.specs.Refusals.{refusalNo}
 use Rattle.number.specs.Reading.{read, fault}
@@ -21,6 +26,10 @@ use Rattle.capi.specs.Lent.{outlineLent, jobPart, partSaid, outlineSaid}
 
 pub renumbered : {A : Type 0} (said : ℕ → A) {n m : ℕ} {b : A} → n ≡ m → said m ≡ b → said n ≡ b
 renumbered said e f = ap said e ∙ f
+
+pub signed-lent : {A : Type 0} (said : ℤ → ℤ → A) {x y : ℤ} {b : A} → SFits w32 x → SFits w32 y → said x y ≡ b
+    → said (toZ w32 (ofZ w32 x)) (toZ w32 (ofZ w32 y)) ≡ b
+signed-lent said {x} {y} f g e = ap₂ said (toZ-ofZ w32 x f) (toZ-ofZ w32 y g) ∙ e
 
 module _ (s : List ℕ) (k : ℕ) where
   pub outline-fault : {r : Refusal} {p n : ℕ} → fault r p ≡ whole s → n ≡ refusalNo r → outlineLent n 0 0 p ≡ outlineSaid s k

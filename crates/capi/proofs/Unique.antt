@@ -8,13 +8,17 @@
 --   outline-one                 == pw_job_outline
 --   unpack-one                  == pw_unpack
 --   write-one                   == pw_write_header, pw_write_outline
+--   boundary-one                == pw_gdsii_read
+--   plate-one                   == pw_gdsii_fracture
 use Prim.Native.Nat.{ℕ}
 use mathlib.Core.Path.{_≡_, sym, _∙_, ap}
 use mathlib.Core.List.{List}
+use lib.IntN.{ℤ}
 use Rattle.rule.specs.Rules.{Told}
 use Rattle.demands.specs.Promise.{Outcome}
 use Rattle.job.specs.Calls.{CheckSaid, UnpackSaid, WriteSaid}
-use Rattle.capi.specs.Lent.{presetLent, fractureLent, NumberSaid, numberLent, checkLent, OutlineSaid, outlineLent, unpackLent, writeLent}
+use Rattle.gdsii.specs.Calls.{BoundarySaid, PlateSaid}
+use Rattle.capi.specs.Lent.{presetLent, fractureLent, NumberSaid, numberLent, checkLent, OutlineSaid, outlineLent, unpackLent, writeLent, boundaryLent, plateLent}
 
 pub preset-one : (said : Told) (n t w n′ t′ w′ : ℕ) → presetLent n t w ≡ said → presetLent n′ t′ w′ ≡ said
     → (n ≡ n′) × (t ≡ t′) × (w ≡ w′)
@@ -90,4 +94,33 @@ write-one said n bytes n′ bytes′ out out′ p q =
       ap (λ (o : WriteSaid). o .number) e,
       ap (λ (o : WriteSaid). o .bytes) e,
       ap (λ (o : WriteSaid). o .out) e,
+    )
+
+pub boundary-one : (said : BoundarySaid) (n corners at n′ corners′ at′ : ℕ) (x y x′ y′ : ℤ) (list list′ : List ℕ)
+    → boundaryLent n corners x y at list ≡ said → boundaryLent n′ corners′ x′ y′ at′ list′ ≡ said
+    → (n ≡ n′) × (corners ≡ corners′) × (x ≡ x′) × (y ≡ y′) × (at ≡ at′) × (list ≡ list′)
+boundary-one said n corners at n′ corners′ at′ x y x′ y′ list list′ p q =
+    let e = p ∙ sym q in (
+      ap (λ (o : BoundarySaid). o .number) e,
+      ap (λ (o : BoundarySaid). o .corners) e,
+      ap (λ (o : BoundarySaid). o .shift-x) e,
+      ap (λ (o : BoundarySaid). o .shift-y) e,
+      ap (λ (o : BoundarySaid). o .offset) e,
+      ap (λ (o : BoundarySaid). o .list) e,
+    )
+
+pub plate-one : (said : PlateSaid) (n s c v at n′ s′ c′ v′ at′ : ℕ) (x y x′ y′ : ℤ) (table list table′ list′ : List ℕ)
+    → plateLent n s c v x y at table list ≡ said → plateLent n′ s′ c′ v′ x′ y′ at′ table′ list′ ≡ said
+    → (n ≡ n′) × (s ≡ s′) × (c ≡ c′) × (v ≡ v′) × (x ≡ x′) × (y ≡ y′) × (at ≡ at′) × (table ≡ table′) × (list ≡ list′)
+plate-one said n s c v at n′ s′ c′ v′ at′ x y x′ y′ table list table′ list′ p q =
+    let e = p ∙ sym q in (
+      ap (λ (o : PlateSaid). o .number) e,
+      ap (λ (o : PlateSaid). o .shots) e,
+      ap (λ (o : PlateSaid). o .cost) e,
+      ap (λ (o : PlateSaid). o .sliver) e,
+      ap (λ (o : PlateSaid). o .shift-x) e,
+      ap (λ (o : PlateSaid). o .shift-y) e,
+      ap (λ (o : PlateSaid). o .offset) e,
+      ap (λ (o : PlateSaid). o .table) e,
+      ap (λ (o : PlateSaid). o .list) e,
     )

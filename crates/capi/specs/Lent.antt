@@ -7,11 +7,13 @@
 --   numberLent, checkLent, unpackLent, writeLent  == the number returned, the numbers lent, and what the slice lent holds then
 --   OutlineSaid, outlineSaid s k  == where outline k of the job s starts and how long it is, or the refusal and the offset
 --   outlineLent                == the number returned and the numbers lent
+--   boundaryLent, plateLent    == the number returned, the numbers lent, and what the slices lent hold then
 use Prim.Native.Nat.{ℕ, _-_}
 use mathlib.Core.List.{List}
 use mathlib.Core.Bool.{cond}
 use lib.Dec.{ltb}
 use lib.ListN.{length, getD}
+use lib.IntN.{ℤ}
 use Rattle.rule.specs.Rules.{Told}
 use Rattle.demands.specs.Promise.{Outcome}
 use Rattle.refusal.specs.declared.Refusal.the-variants.{Missing}
@@ -19,6 +21,7 @@ use Rattle.refusal.specs.Refusals.{refusalNo}
 use Rattle.number.specs.Reading.{Reading, read, fault}
 use Rattle.job.specs.Job.{Job, Part, job}
 use Rattle.job.specs.Calls.{CheckSaid, UnpackSaid, WriteSaid, noPart}
+use Rattle.gdsii.specs.Calls.{BoundarySaid, PlateSaid}
 
 abbrev pub presetLent : ℕ → ℕ → ℕ → Told
 presetLent n t w = record { number = n; threshold = t; weight = w }
@@ -72,3 +75,21 @@ unpackLent n corners rings at list lengths =
 
 abbrev pub writeLent : ℕ → ℕ → List ℕ → WriteSaid
 writeLent n bytes out = record { number = n; bytes = bytes; out = out }
+
+abbrev pub boundaryLent : ℕ → ℕ → ℤ → ℤ → ℕ → List ℕ → BoundarySaid
+boundaryLent n corners x y at list =
+    record { number = n; corners = corners; shift-x = x; shift-y = y; offset = at; list = list }
+
+abbrev pub plateLent : ℕ → ℕ → ℕ → ℕ → ℤ → ℤ → ℕ → List ℕ → List ℕ → PlateSaid
+plateLent n shots cost sliver x y at table list =
+    record {
+      number = n;
+      shots = shots;
+      cost = cost;
+      sliver = sliver;
+      shift-x = x;
+      shift-y = y;
+      offset = at;
+      table = table;
+      list = list;
+    }

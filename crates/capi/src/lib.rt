@@ -1,6 +1,8 @@
 // The C interface, as include/pinarewhemi.h declares it. Each function returns the refusal's number, 0 on success, and writes
 // every number that it is lent on every path; its promise is that of its call, said of these numbers.
 use fracture::Fractured;
+use gdsii::Boundary;
+use gdsii::Plate;
 use job::read;
 use job::read::Checked;
 use job::read::Head;
@@ -24,7 +26,8 @@ ghost use Rattle.demands.specs.Promise.{asked, outcome};
 ghost use Rattle.fracture.specs.Told.{told};
 ghost use Rattle.number.specs.Number.{number as readNumber};
 ghost use Rattle.job.specs.Calls.{checked, unpacked, headerWritten, outlineWritten};
-ghost use Rattle.capi.specs.Lent.{presetLent, numberLent, numberSaid, checkLent, outlineLent, outlineSaid, unpackLent, writeLent, fractureLent};
+ghost use Rattle.gdsii.specs.Calls.{boundaryRead, boundaryFractured};
+ghost use Rattle.capi.specs.Lent.{presetLent, numberLent, numberSaid, checkLent, outlineLent, outlineSaid, unpackLent, writeLent, fractureLent, boundaryLent, plateLent};
 
 // The rule of a preset, or 15.
 #[no_mangle]
@@ -279,5 +282,85 @@ pub extern "C" fn pw_write_outline(
             0
         }
         Written::Refused(why) => refusal_no(why),
+    }
+}
+
+// How many corners the ring of a boundary element has, with the corners, moved to 0, at the front of the list, and what was taken off
+// their x and y; or 8 with the offset of the record cut short, 16, 17, 18, 2 to 5, 14.
+#[no_mangle]
+pub extern "C" fn pw_gdsii_read(
+    element: &[u8],
+    list: &mut [u16],
+    corner_count: &mut u32,
+    shift_x: &mut i32,
+    shift_y: &mut i32,
+    offset: &mut usize,
+) -> u32
+    ensures settled { λ r. ⌜ boundaryLent r (now («corner_count» .exit)) (now («shift_x» .exit)) (now («shift_y» .exit)) (now (offset .exit)) (now (list .exit)) ≡ boundaryRead (now (element .entry)) (now (list .entry)) ⌝ }
+{
+    *corner_count = 0;
+    *shift_x = 0;
+    *shift_y = 0;
+    *offset = 0;
+    match gdsii::read_boundary(element, list) {
+        Boundary::Corners {
+            corners: n,
+            shift_x: x,
+            shift_y: y,
+        } => {
+            *corner_count = n;
+            *shift_x = x;
+            *shift_y = y;
+            0
+        }
+        Boundary::Refused(r, p) => {
+            *offset = p;
+            refusal_no(r)
+        }
+    }
+}
+
+// Shots, cost and sliver length of that ring, fractured by preset 0, with the table and the list filled from their fronts, and the shift;
+// or 8 with the offset of the record cut short, 16, 17, 18, 2 to 7.
+#[no_mangle]
+pub extern "C" fn pw_gdsii_fracture(
+    element: &[u8],
+    table: &mut [u32],
+    list: &mut [u16],
+    shots: &mut u32,
+    cost: &mut u32,
+    sliver: &mut u32,
+    shift_x: &mut i32,
+    shift_y: &mut i32,
+    offset: &mut usize,
+) -> u32
+    ensures settled { λ r. ⌜ plateLent r (now (shots .exit)) (now (cost .exit)) (now (sliver .exit)) (now («shift_x» .exit)) (now («shift_y» .exit)) (now (offset .exit)) (now (table .exit)) (now (list .exit)) ≡ boundaryFractured (now (element .entry)) (now (table .entry)) (now (list .entry)) ⌝ }
+{
+    *shots = 0;
+    *cost = 0;
+    *sliver = 0;
+    *shift_x = 0;
+    *shift_y = 0;
+    *offset = 0;
+    match gdsii::fracture_boundary(element, table, list) {
+        Plate::Done {
+            shots: found,
+            cost: charged,
+            sliver: long,
+            shift_x: dx,
+            shift_y: dy,
+        } => {
+            *shots = found;
+            *cost = charged;
+            *sliver = long;
+            *shift_x = dx;
+            *shift_y = dy;
+            0
+        }
+        Plate::Refused(r, wanted, p) => {
+            *shots = wanted;
+            *offset = p;
+            refusal_no(r)
+        }
     }
 }

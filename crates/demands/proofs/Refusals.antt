@@ -65,6 +65,9 @@ module _ (ask : Asked) where
   test because.Missing = false
   test because.Room = false
   test because.Preset = false
+  test because.Record = false
+  test because.Unclosed = false
+  test because.Extent = false
 
   unfoldable pub numberOf : ℕ
   numberOf = firstOf test order
@@ -228,6 +231,9 @@ module _ (ask : Asked) where
   test-true because.Missing e = absurd (true≢false (sym e))
   test-true because.Room e = absurd (true≢false (sym e))
   test-true because.Preset e = absurd (true≢false (sym e))
+  test-true because.Record e = absurd (true≢false (sym e))
+  test-true because.Unclosed e = absurd (true≢false (sym e))
+  test-true because.Extent e = absurd (true≢false (sym e))
 
   pub true-test : (c : Refusal) → Holds c → test ask c ≡ true
   unfolding test Condition inRange both neither alike same empty insideCells
@@ -265,6 +271,9 @@ module _ (ask : Asked) where
   true-test because.Missing h = absurd h
   true-test because.Room h = absurd h
   true-test because.Preset h = absurd h
+  true-test because.Record h = absurd h
+  true-test because.Unclosed h = absurd h
+  true-test because.Extent h = absurd h
 
   pub test-false : (c : Refusal) → (Holds c → ⊥) → test ask c ≡ false
   test-false c h = go (test ask c) refl
@@ -302,6 +311,9 @@ listed ask Q h because.Long k = absurd k
 listed ask Q h because.Missing k = absurd k
 listed ask Q h because.Room k = absurd k
 listed ask Q h because.Preset k = absurd k
+listed ask Q h because.Record k = absurd k
+listed ask Q h because.Unclosed k = absurd k
+listed ask Q h because.Extent k = absurd k
 
 module _ (holds : Refusal → Bool) where
   -- none holds and the number is 0; or one holds, the number is its number, and none of a lower refusalNo does

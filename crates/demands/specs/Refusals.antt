@@ -46,7 +46,7 @@ module _ (ask : Asked) where
   Condition because.Table = length (ask .table) < entryCount (drawn ask .columns) (drawn ask .rows)
   -- shot list holds fewer than 4 x shots numbers
   Condition because.List = length (ask .list) < 4 * length (frameShots (drawn ask) (ruleOf ask))
-  -- the others are for bytes, buffers and presets
+  -- the others are for bytes, buffers, presets and elements
   Condition because.Ends = ⊥
   Condition because.Padded = ⊥
   Condition because.Range = ⊥
@@ -55,6 +55,9 @@ module _ (ask : Asked) where
   Condition because.Missing = ⊥
   Condition because.Room = ⊥
   Condition because.Preset = ⊥
+  Condition because.Record = ⊥
+  Condition because.Unclosed = ⊥
+  Condition because.Extent = ⊥
 
   pub record First (c : Refusal) : Type 0 where
     pub holds : Condition c

@@ -32,7 +32,7 @@ use Rattle.number.specs.Reading.{Reading, read, fault, andThen, past}
 use Rattle.number.specs.Number.{number}
 use Rattle.number.specs.Faults.{Sound}
 use Rattle.number.proofs.Number.{cond-cases, sound-exactly}
-use Rattle.number.proofs.Reading.{then-inv, past-then, past-fault, past-read, many-length}
+use Rattle.number.proofs.Reading.{then-end, then-inv, past-then, past-fault, past-read, many-length}
 use Rattle.number.proofs.Bytes.{AllBytes, Stands, stands-whole, number-onward}
 use Rattle.rule.specs.Rules.{limit}
 use Rattle.figure.specs.Figure.{Figure}
@@ -43,7 +43,7 @@ use Rattle.job.specs.Faults.{Want, upTo, count, jobWants, figureWants, L
 use Rattle.job.proofs.Bounds.{some-lt, none-lt}
 use Rattle.job.proofs.Job.{counted, weighed, heard, value-read, job-long, job-whole, filled-inv, filled-read}
 use Rattle.job.proofs.RoundTrip.{outline-back, outline-only}
-use Rattle.job.proofs.Wanted.{then-end, one, follow, follow-none, FollowTold, follow-told, legal-same, fault-exactly}
+use Rattle.job.proofs.Wanted.{one, follow, follow-none, FollowTold, follow-told, legal-same, fault-exactly}
 
 module _ {A : Type 0} (s : List ℕ) where
   past-filled : (u : Reading A) → past (filled s u) ≡ filled s (past u)

@@ -1,6 +1,5 @@
 -- Reading a job by the numbers that it wants, one after another. Assumes nothing.
 --
---   then-assoc, then-ext, then-end == laws of readings one after another
 --   one s w at, follow s ws at == reading all that follows from what is wanted
 --   one-step, follow-step  == that reading, a number at a time
 --   follow-told            == reading what is wanted goes through legal numbers up to its end, or to a bad one
@@ -22,28 +21,11 @@ use Rattle.number.specs.Number.{number}
 use Rattle.number.specs.Faults.{Sound}
 use Rattle.number.proofs.Number.{apart, number-exactly, number-one, number-zero, sound-exactly}
 use Rattle.number.proofs.Bytes.{number-onward}
-use Rattle.number.proofs.Reading.{then-same, past-then, many-length}
+use Rattle.number.proofs.Reading.{then-same, then-assoc, then-ext, then-end, past-then, many-length}
 use Rattle.figure.specs.Figure.{mostCorners, mostRings, mostPlace}
 use Rattle.job.specs.Job.{mostOutlines, leastRings, leftAfter, value, coordinates, ring, ringsFrom, announces, outline, part, outlines, filled}
 use Rattle.job.specs.Faults.{Want, upTo, count, leading, announced, corners, allowed, coordinatesOf, ringsOf, after, Legal, none, more, Bad, FaultAt}
 use Rattle.job.proofs.Job.{announces-byte, announces-true, part-past, filled-extra}
-
--- Readings one after another
-
-module _ {A B C : Type 0} where
-  pub then-assoc : (u : Reading A) (f : A → ℕ → Reading B) (g : B → ℕ → Reading C)
-      → andThen (andThen u f) g ≡ andThen u (λ a n. andThen (f a n) g)
-  then-assoc (read a n) f g = refl
-  then-assoc (fault r p) f g = refl
-
-module _ {A B : Type 0} where
-  pub then-ext : (u : Reading A) (f g : A → ℕ → Reading B) → ((a : A) (n : ℕ) → u ≡ read a n → f a n ≡ g a n) → andThen u f ≡ andThen u g
-  then-ext (read a n) f g h = h a n refl
-  then-ext (fault r p) f g h = refl
-
-pub then-end : (u : Reading (Unit {0})) → andThen u (λ t next. read tt next) ≡ u
-then-end (read t next) = refl
-then-end (fault r p) = refl
 
 -- Reading what is wanted
 

@@ -1,6 +1,7 @@
 -- Laws of readings: one after another, and many. Assumes nothing.
 --
 --   then-same        == what follows a reading goes by what it found
+--   then-assoc, then-ext, then-end == what follows what follows; what follows the same way; what follows and does nothing
 --   past-then        == the place past a reading stays where only its value is put to use
 --   many-none, many-go, many-fault, many-cons == the ways that reading n + 1 in a row can go
 --   many-more, many-stop == the same by the place that reading got to
@@ -44,6 +45,21 @@ module _ {A B : Type 0} where
       → (a : A) × (next : ℕ) × (u ≡ read a next) × (f a next ≡ read b last)
   then-inv f (read a next) e = (a, next, refl, e)
   then-inv f (fault r p) e = absurd (apart (sym e))
+
+module _ {A B C : Type 0} where
+  pub then-assoc : (u : Reading A) (f : A → ℕ → Reading B) (g : B → ℕ → Reading C)
+      → andThen (andThen u f) g ≡ andThen u (λ a n. andThen (f a n) g)
+  then-assoc (read a n) f g = refl
+  then-assoc (fault r p) f g = refl
+
+module _ {A B : Type 0} where
+  pub then-ext : (u : Reading A) (f g : A → ℕ → Reading B) → ((a : A) (n : ℕ) → u ≡ read a n → f a n ≡ g a n) → andThen u f ≡ andThen u g
+  then-ext (read a n) f g h = h a n refl
+  then-ext (fault r p) f g h = refl
+
+pub then-end : (u : Reading (Unit {0})) → andThen u (λ t next. read tt next) ≡ u
+then-end (read t next) = refl
+then-end (fault r p) = refl
 
 pub one-less : (n i : ℕ) → i < n → n - i ≡ suc (n - (i + 1))
 one-less n i h = omega arith

@@ -38,6 +38,9 @@ module _ (s : List ℕ) (at : ℕ) where
   Faulty because.Missing = ⊥
   Faulty because.Room = ⊥
   Faulty because.Preset = ⊥
+  Faulty because.Record = ⊥
+  Faulty because.Unclosed = ⊥
+  Faulty because.Extent = ⊥
 
 unfoldable pub worth : List ℕ → ℕ → ℕ → ℕ
 worth s at zero = getD s at 0

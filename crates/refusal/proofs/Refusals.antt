@@ -9,14 +9,14 @@ use mathlib.Core.List.{List, [], _∷_}
 use native.Mathlib.Omega.{arith}
 use lib.ListN.{getD}
 use Rattle.refusal.specs.declared.Refusal.{Refusal}
-use Rattle.refusal.specs.declared.Refusal.the-variants.{Rule, Length, Slanted, Unturned, Empty, Table, List as ShotList, Ends, Padded, Range, Extra, Long, Missing, Room, Preset}
+use Rattle.refusal.specs.declared.Refusal.the-variants.{Rule, Length, Slanted, Unturned, Empty, Table, List as ShotList, Ends, Padded, Range, Extra, Long, Missing, Room, Preset, Record, Unclosed, Extent}
 use Rattle.refusal.specs.Refusals.{refusalNo}
 
 -- the refusal of a number; 0 and what lies past the table stand for the first
 of-number : ℕ → Refusal
 of-number n =
     getD
-    (Rule ∷ Rule ∷ Length ∷ Slanted ∷ Unturned ∷ Empty ∷ Table ∷ ShotList ∷ Ends ∷ Padded ∷ Range ∷ Extra ∷ Long ∷ Missing ∷ Room ∷ Preset ∷ [])
+    (Rule ∷ Rule ∷ Length ∷ Slanted ∷ Unturned ∷ Empty ∷ Table ∷ ShotList ∷ Ends ∷ Padded ∷ Range ∷ Extra ∷ Long ∷ Missing ∷ Room ∷ Preset ∷ Record ∷ Unclosed ∷ Extent ∷ [])
     n
     Rule
 
@@ -37,6 +37,9 @@ back Long = refl
 back Missing = refl
 back Room = refl
 back Preset = refl
+back Record = refl
+back Unclosed = refl
+back Extent = refl
 
 pub refusal-one : (r t : Refusal) → refusalNo r ≡ refusalNo t → r ≡ t
 refusal-one r t e = sym (back r) ∙ ap of-number e ∙ back t
@@ -57,6 +60,9 @@ refusal-some Long = omega arith
 refusal-some Missing = omega arith
 refusal-some Room = omega arith
 refusal-some Preset = omega arith
+refusal-some Record = omega arith
+refusal-some Unclosed = omega arith
+refusal-some Extent = omega arith
 
 -- what an answer tells, where a match has found which case it is
 pub told-as : {A B : Type 0} (tell : A → B) {r x : A} {b : B} → r ≡ x → tell r ≡ b → tell x ≡ b

@@ -1,4 +1,4 @@
--- To believe: document 01, "When the answer is no".
+-- To believe: document 01, "When the answer is no", and from 16 on document 02.
 --
 --   refusalNo      == the number of each refusal
 use Prim.Native.Nat.{ℕ}
@@ -20,7 +20,7 @@ refusalNo because.Empty = 5
 refusalNo because.Table = 6
 -- shot list holds fewer than 4 x shots numbers
 refusalNo because.List = 7
--- bytes end before a number does and before its third byte
+-- bytes end before a number does and before its third byte, or within an element
 refusalNo because.Ends = 8
 -- a number's last byte is 0 and not its only one
 refusalNo because.Padded = 9
@@ -36,3 +36,9 @@ refusalNo because.Missing = 13
 refusalNo because.Room = 14
 -- preset number above 3
 refusalNo because.Preset = 15
+-- a record out of order, of another data type or of wrong length, an XY without points, or bytes after ENDEL
+refusalNo because.Record = 16
+-- last point unlike the first
+refusalNo because.Unclosed = 17
+-- extent above 65,535
+refusalNo because.Extent = 18

@@ -2,7 +2,7 @@
 ghost use mathlib.Core.Path.{_≡_};
 ghost use Rattle.refusal.specs.Refusals.{refusalNo};
 
-// Why the answer is no, in the order of the numbers, 1 to 15. A call that tells more than the reason (the shots that there are, the
+// Why the answer is no, in the order of the numbers, 1 to 18. A call that tells more than the reason (the shots that there are, the
 // offset of a fault) tells it beside.
 pub enum Refusal {
     Rule,
@@ -20,9 +20,12 @@ pub enum Refusal {
     Missing,
     Room,
     Preset,
+    Record,
+    Unclosed,
+    Extent,
 }
 
-// Document 01's number of a refusal.
+// The number of a refusal, document 01's and from 16 on document 02's.
 pub fn refusal_no(why: Refusal) -> u32
     ensures settled { λ n. ⌜ n ≡ refusalNo why ⌝ }
 {
@@ -42,5 +45,8 @@ pub fn refusal_no(why: Refusal) -> u32
         Refusal::Missing => 13,
         Refusal::Room => 14,
         Refusal::Preset => 15,
+        Refusal::Record => 16,
+        Refusal::Unclosed => 17,
+        Refusal::Extent => 18,
     }
 }

@@ -50,6 +50,15 @@ enum-told-14 c = search needs
 enum-told-15 : tie.Need-enum-told-15
 enum-told-15 c = search needs
 
+enum-told-16 : tie.Need-enum-told-16
+enum-told-16 c = search needs
+
+enum-told-17 : tie.Need-enum-told-17
+enum-told-17 c = search needs
+
+enum-told-18 : tie.Need-enum-told-18
+enum-told-18 c = search needs
+
 returns : tie.Need-returns
 returns c = sym (ap refusalNo (c .enum-told .given .1))
 
@@ -95,6 +104,15 @@ returns-14 c = sym (ap refusalNo (c .enum-told14 .given .1))
 returns-15 : tie.Need-returns-15
 returns-15 c = sym (ap refusalNo (c .enum-told15 .given .1))
 
+returns-16 : tie.Need-returns-16
+returns-16 c = sym (ap refusalNo (c .enum-told16 .given .1))
+
+returns-17 : tie.Need-returns-17
+returns-17 c = sym (ap refusalNo (c .enum-told17 .given .1))
+
+returns-18 : tie.Need-returns-18
+returns-18 c = sym (ap refusalNo (c .enum-told18 .given .1))
+
 pub refusal-no-spec : {M : Type 1} → statement M
 refusal-no-spec =
     tie.close
@@ -114,6 +132,9 @@ refusal-no-spec =
     enum-told-13
     enum-told-14
     enum-told-15
+    enum-told-16
+    enum-told-17
+    enum-told-18
     returns
     returns-2
     returns-3
@@ -128,4 +149,7 @@ refusal-no-spec =
     returns-12
     returns-13
     returns-14
-    returns-15)
+    returns-15
+    returns-16
+    returns-17
+    returns-18)

@@ -1,0 +1,11 @@
+pub mod Shift
+pub mod Records
+pub mod Wanted
+pub mod Points
+pub mod Moving
+pub mod Measured
+pub mod Storing
+pub mod Answers
+pub mod Exactly
+pub mod Settled
+pub mod Worked
