@@ -1,4 +1,4 @@
-//! Compiles the C++ baseline with g++ -O3, and links the archive of the proved library where
+//! Compiles the C++ baselines with g++ -O3, and links the archive of the proved library where
 //! PINAREWHEMI_ARCHIVE names it.
 
 use std::env;

@@ -2,82 +2,20 @@
 //!
 //!     bench [--rounds N]
 //!
-//! The library and the two C++ baselines (see baseline/baseline.cpp: by rows, and by heights) take
-//! turns, round by round, on the same drawings and in the same buffers; the best round of each counts.
+//! The library and the three C++ baselines (see baseline/baseline.cpp: by rows, by heights, by widths)
+//! take turns, round by round, on the same drawings and in the same buffers; the best round of each
+//! counts. The last column is the library's time over that of the fastest baseline on that line.
 //! Table (14,400 entries) and list (900 numbers) are lent whole and not cleared between calls: each
 //! call finds what the last one left. Every call is whole: checks, grid, fill, emission.
 
-use drawings::document::{B, FRAMED, FRAMED_JOB, JOB, L};
-use drawings::seeded::Seeded;
-use drawings::{figures, outlines};
+use bench::{layout, lines};
+use drawings::document::{FRAMED_JOB, JOB};
 use law::bytes::{header, written_outline};
 use law::{Calls, Drawing, Law, Told};
 use std::hint::black_box;
 use std::time::Instant;
 
 type Fracture<'a> = &'a dyn Fn(&Drawing, &mut [u32], &mut [u16]) -> Told;
-
-/// A line of the table: its name and its drawings.
-struct Line {
-    name: &'static str,
-    drawings: Vec<Drawing>,
-}
-
-/// 32 corners, 16 lines each way.
-fn staircase() -> Drawing {
-    let mut corners = vec![0, 0];
-    for step in 0..15u16 {
-        corners.extend([(15 - step) * 30, step * 40, (15 - step) * 30, (step + 1) * 40]);
-    }
-    corners.extend([0, 600]);
-    Drawing::outline(&corners)
-}
-
-/// Of many crossing walks over 16 by 16 lines the one with most mixed pieces.
-fn worst() -> Drawing {
-    let mixed = |drawing: &Drawing| {
-        let figure = law::figure::figure(drawing).unwrap();
-        let fracture = law::cutting::Fracture::new(&figure, 25, 40);
-        fracture.pieces().into_iter().filter(|&p| fracture.kind(p) == law::cutting::Kind::Mixed).count()
-    };
-    let made = (0..300).map(|seed| {
-        let mut s = Seeded::new(seed);
-        let shape = outlines::SORTS[8].1(&mut s);
-        let corners: Vec<u16> = shape.iter().flat_map(|&(x, y)| [x as u16 * 20 + 5, y as u16 * 30 + 5]).collect();
-        Drawing::outline(&corners)
-    });
-    made.max_by_key(mixed).unwrap()
-}
-
-/// The first 200 drawings that can be fractured.
-fn two_hundred(mut next: impl FnMut() -> Drawing) -> Vec<Drawing> {
-    let mut list = Vec::new();
-    while list.len() < 200 {
-        let drawing = next();
-        if Law.fracture(&drawing, 25, 40, &mut vec![0; 14_400], &mut vec![0; 900]).number == 0 {
-            list.push(drawing);
-        }
-    }
-    list
-}
-
-/// Layout-like outlines: what a mask has, mostly rectangles, Ls, skylines, combs, bumped rectangles.
-fn layout() -> Vec<Drawing> {
-    let mut s = Seeded::new(200);
-    two_hundred(|| {
-        let sort = s.pick(&[0, 0, 0, 1, 1, 2, 2, 3, 4, 5]);
-        outlines::of_sort(&mut s, sort)
-    })
-}
-
-/// Layout-like figures with windows: frames, blocks and Ls with openings, rings in rings.
-fn layout_with_windows() -> Vec<Drawing> {
-    let mut s = Seeded::new(201);
-    two_hundred(|| {
-        let sort = s.pick(&[figures::LAYOUT_LIKE, figures::LAYOUT_LIKE, figures::LAYOUT_LIKE, 0, 1]);
-        figures::of_sort(&mut s, sort)
-    })
-}
 
 /// ns per drawing of one round: all drawings of a line, over and over.
 fn round(drawings: &[Drawing], fracture: Fracture, table: &mut [u32], list: &mut [u16], turns: usize) -> f64 {
@@ -152,15 +90,7 @@ fn main() {
         Some("--rounds") => words[2].parse().unwrap(),
         _ => 40,
     };
-    let lines = [
-        Line { name: "L, 3 by 3 lines", drawings: vec![Drawing::outline(&L)] },
-        Line { name: "B, 3 by 4 lines", drawings: vec![Drawing::outline(&B)] },
-        Line { name: "staircase, 32 corners", drawings: vec![staircase()] },
-        Line { name: "16 by 16 lines, most pieces mixed", drawings: vec![worst()] },
-        Line { name: "200 layout-like outlines", drawings: layout() },
-        Line { name: "frame with a window", drawings: vec![Drawing { corners: FRAMED.to_vec(), rings: vec![4, 4] }] },
-        Line { name: "200 layout-like figures with windows", drawings: layout_with_windows() },
-    ];
+    let lines = lines();
     let library = lent::library();
     let ours: Fracture = &|drawing, table, list| match library {
         Some(library) => library.fracture(drawing, 25, 40, table, list),
@@ -168,23 +98,28 @@ fn main() {
     };
     let heights: Fracture = &|drawing, table, list| lent::baseline(drawing, 25, 40, table, list);
     let rows: Fracture = &|drawing, table, list| lent::baseline_rows(drawing, 25, 40, table, list);
+    let widths: Fracture = &|drawing, table, list| lent::baseline_widths(drawing, 25, 40, table, list);
     let who = if library.is_some() { "library" } else { "plain Rust" };
     println!("ns per fracture, whole call, rule 25, 40; best of {rounds} rounds in turn; buffers not cleared between calls");
     println!("machine: {}, load before {}", std::env::consts::ARCH, load());
-    println!("| Outline | {who} | C++ by rows | C++ by heights | to rows | to heights |\n|---|---:|---:|---:|---:|---:|");
+    println!("| Outline | {who} | C++ by rows | C++ by heights | C++ by widths | to rows | to heights | to widths | to the best |");
+    println!("|---|---:|---:|---:|---:|---:|---:|---:|---:|");
     let (mut table, mut list) = (vec![0u32; 14_400], vec![0u16; 900]);
     for line in &lines {
-        let all = [ours, rows, heights];
+        let all = [ours, rows, heights, widths];
         let turns = all.map(|fracture| turns(&line.drawings, fracture, &mut table, &mut list));
-        let mut best = [f64::MAX; 3];
+        let mut best = [f64::MAX; 4];
         for _ in 0..rounds {
-            for which in 0..3 {
+            for which in 0..4 {
                 let took = round(&line.drawings, all[which], &mut table, &mut list, turns[which]);
                 best[which] = best[which].min(took);
             }
         }
-        let [ours, rows, heights] = best;
-        println!("| {} | {ours:.0} | {rows:.0} | {heights:.0} | {:.2} | {:.2} |", line.name, ours / rows, ours / heights);
+        let [ours, baselines @ ..] = best;
+        let fastest = baselines.into_iter().fold(f64::MAX, f64::min);
+        let times: Vec<String> = best.iter().map(|took| format!("{took:.0}")).collect();
+        let ratios: Vec<String> = baselines.iter().chain([&fastest]).map(|took| format!("{:.2}", ours / took)).collect();
+        println!("| {} | {} | {} |", line.name, times.join(" | "), ratios.join(" | "));
     }
     let calls: &dyn Calls = match library {
         Some(library) => library,

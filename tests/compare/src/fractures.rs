@@ -33,7 +33,7 @@ impl Case<'_> {
         }
     }
 
-    /// Compares the library and both baselines with the law; gives the law's answer, table and list.
+    /// Compares the library and the three baselines with the law; gives the law's answer, table and list.
     pub fn compare(&self, plan: &Plan, progress: &Progress, from: &dyn Fn() -> String) -> (Told, Room<u32>, Room<u16>) {
         let (mut table, mut list) = (Room::new(self.table), Room::new(self.list));
         let right = self.by(&Law, table.lent(), list.lent());
@@ -60,6 +60,9 @@ impl Case<'_> {
         let (mut its_table, mut its_list) = (Room::new(self.table), Room::new(self.list));
         let told = lent::baseline_rows(self.drawing, threshold, weight, its_table.lent(), its_list.lent());
         check("the baseline by rows", told, its_table, its_list);
+        let (mut its_table, mut its_list) = (Room::new(self.table), Room::new(self.list));
+        let told = lent::baseline_widths(self.drawing, threshold, weight, its_table.lent(), its_list.lent());
+        check("the baseline by widths", told, its_table, its_list);
         (right, table, list)
     }
 }

@@ -1,4 +1,4 @@
-//! Safe functions over the C interface of include/pinarewhemi.h, and over the C++ baseline.
+//! Safe functions over the C interface of include/pinarewhemi.h, and over the C++ baselines.
 //!
 //! Nothing checks these declarations against the Rattle source: they are the header's, word for
 //! word. Each single number is lent full of a mark, so that one that a call does not write shows.
@@ -18,6 +18,11 @@ extern "C" {
         shots: *mut u32, cost: *mut u32, sliver: *mut u32,
     ) -> u32;
     fn baseline_rows_fracture(
+        corners: *const u16, corners_len: usize, rings: *const u16, rings_len: usize, threshold: u32, weight: u32,
+        table: *mut u32, table_len: usize, list: *mut u16, list_len: usize,
+        shots: *mut u32, cost: *mut u32, sliver: *mut u32,
+    ) -> u32;
+    fn baseline_widths_fracture(
         corners: *const u16, corners_len: usize, rings: *const u16, rings_len: usize, threshold: u32, weight: u32,
         table: *mut u32, table_len: usize, list: *mut u16, list_len: usize,
         shots: *mut u32, cost: *mut u32, sliver: *mut u32,
@@ -87,6 +92,11 @@ pub fn baseline_rows(drawing: &Drawing, threshold: u32, weight: u32, table: &mut
 /// One fracture by the baseline that weighs them height by height.
 pub fn baseline(drawing: &Drawing, threshold: u32, weight: u32, table: &mut [u32], list: &mut [u16]) -> Told {
     fracture_by(baseline_fracture, drawing, threshold, weight, table, list)
+}
+
+/// One fracture by the baseline that weighs all strips of a width at once.
+pub fn baseline_widths(drawing: &Drawing, threshold: u32, weight: u32, table: &mut [u32], list: &mut [u16]) -> Told {
+    fracture_by(baseline_widths_fracture, drawing, threshold, weight, table, list)
 }
 
 /// The proved library, if it is linked.
