@@ -178,6 +178,41 @@ static void write_outline(void) {
   expect("out", hash_out(out_len));
 }
 
+/* A shift has its sign in the record: 32 bits of it are spread over 64. */
+static void expect_shift(const char *what, int32_t told) {
+  expect(what, (uint64_t)(int64_t)told);
+}
+
+static void read_boundary(void) {
+  size_t len = size(), list_len = size(), offset = 77;
+  uint32_t count = 77, mark = word();
+  int32_t shift_x = 77, shift_y = 77;
+  read_bytes(len);
+  expect("read boundary", pw_gdsii_read(bytes, len, lend_list(list_len, mark), list_len, &count, &shift_x, &shift_y, &offset));
+  expect("corners", count);
+  expect_shift("shift in x", shift_x);
+  expect_shift("shift in y", shift_y);
+  expect("offset", offset);
+  expect("list", hash_list(list_len));
+}
+
+static void fracture_boundary(void) {
+  size_t len = size(), table_len = size(), list_len = size(), offset = 77;
+  uint32_t shots = 77, cost = 77, sliver = 77, mark = word();
+  int32_t shift_x = 77, shift_y = 77;
+  read_bytes(len);
+  expect("fracture boundary", pw_gdsii_fracture(bytes, len, lend_table(table_len, mark), table_len, lend_list(list_len, mark),
+                                                list_len, &shots, &cost, &sliver, &shift_x, &shift_y, &offset));
+  expect("shots", shots);
+  expect("cost", cost);
+  expect("sliver", sliver);
+  expect_shift("shift in x", shift_x);
+  expect_shift("shift in y", shift_y);
+  expect("offset", offset);
+  expect("table", hash_table(table_len));
+  expect("list", hash_list(list_len));
+}
+
 int main(void) {
   int over = 0;
   while (!over) {
@@ -191,7 +226,9 @@ int main(void) {
     case 7: unpack(); break;
     case 8: write_header(); break;
     case 9: write_outline(); break;
-    case 10: over = 1; break;
+    case 10: read_boundary(); break;
+    case 11: fracture_boundary(); break;
+    case 12: over = 1; break;
     default:
       say("replay: the record is not whole\n");
       return 2;

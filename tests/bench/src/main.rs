@@ -10,6 +10,7 @@
 
 use bench::{layout, lines};
 use drawings::document::{FRAMED_JOB, JOB};
+use drawings::elements;
 use law::bytes::{header, written_outline};
 use law::{Calls, Drawing, Law, Told};
 use std::hint::black_box;
@@ -139,6 +140,16 @@ fn main() {
         });
         println!("| {name}: checked | {} | {count} | {checked:.0} |", job.len());
         println!("| {name}: checked, and every outline taken and unpacked | {} | {count} | {read:.0} |", job.len());
+    }
+    println!("\n| Boundary element, by the {who} | bytes | ns to read | ns to fracture |\n|---|---:|---:|---:|");
+    for (name, element) in [("L", elements::element(&elements::L)), ("32 corners", elements::element(&elements::stairs()))] {
+        let read = best(rounds, || {
+            black_box(calls.gdsii_read(black_box(&element), &mut list));
+        });
+        let fractured = best(rounds, || {
+            black_box(calls.gdsii_fracture(black_box(&element), &mut table, &mut list));
+        });
+        println!("| {name} | {} | {read:.0} | {fractured:.0} |", element.len());
     }
     println!("load after {}", load());
 }

@@ -74,7 +74,7 @@ pub fn rows(plan: &Plan, progress: &Progress) {
         let (table, list) = (vec![7; row.room.0], vec![9; row.room.1]);
         let case = Case { drawing: &drawing, rule: Some(row.rule), table: &table, list: &list };
         let (told, _, list) = case.compare(plan, progress, &|| format!("the documents' row: {}", row.name));
-        let [shots, cost, sliver, _] = told.numbers;
+        let [shots, cost, sliver, ..] = told.numbers;
         assert_eq!((told.number, [shots, cost, sliver]), row.outcome, "the documents' row: {}", row.name);
         assert_eq!(&list.held()[..row.list.len()], row.list, "the documents' row: {}", row.name);
         if row.rule == law::call::PRESETS[0] {

@@ -7,6 +7,7 @@
 //! with their outcomes for the C program `replay`. Without the library only the baselines are compared.
 
 mod fractures;
+mod gdsii;
 mod jobs;
 mod progress;
 mod record;
@@ -77,6 +78,10 @@ fn main() {
     jobs::limits(&plan, &progress);
     jobs::every_byte(&plan, &progress);
     jobs::damaged(&plan, &progress);
+    gdsii::rows(&plan, &progress);
+    gdsii::longest(&plan, &progress);
+    gdsii::others(&plan, &progress);
+    gdsii::elements(&plan, &progress);
     if let Some(file) = &plan.record {
         record::write(file, plan.seed, &progress);
     }

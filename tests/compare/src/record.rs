@@ -6,12 +6,12 @@
 //! largest there is stands as 0xffffffff. Then its outcome, two words for each: the number, the single
 //! numbers, a hash over each lent buffer with 16 elements before and beyond it. Calls: 1 preset,
 //! 2 fracture, 3 fracture by the default rule, 4 number, 5 job check, 6 job outline, 7 unpack, 8 write
-//! header, 9 write outline, 10 the end.
+//! header, 9 write outline, 10 read a boundary, 11 fracture one, 12 the end. A shift has its sign.
 
 use crate::progress::Progress;
 use drawings::jobs::{damaged, outline, sound, DAMAGES};
 use drawings::seeded::Seeded;
-use drawings::{figures, outlines};
+use drawings::{elements, figures, outlines};
 use law::figure::figure;
 use law::{Calls, Drawing, Law, Told};
 use std::io::Write;
@@ -19,6 +19,7 @@ use std::io::Write;
 const MARGIN: usize = 16;
 const OUTLINES: u64 = 6_000;
 const JOBS: u64 = 6_000;
+const ELEMENTS: u64 = 6_000;
 
 struct Record {
     words: Vec<u32>,
@@ -133,6 +134,28 @@ impl Record {
         self.outcome(told, 3, &hashes);
     }
 
+    fn boundary(&mut self, element: &[u8], (numbers, entries, shots): (usize, usize, usize), mark: u32) {
+        self.words.push(10);
+        self.size(element.len());
+        self.size(numbers);
+        self.words.push(mark);
+        self.bytes(element);
+        let mut list = lend(numbers, mark, 16, |x| x as u16);
+        let told = Law.gdsii_read(element, &mut list[MARGIN..MARGIN + numbers]);
+        self.outcome(told, 4, &[hash(list.into_iter().map(u32::from))]);
+
+        self.words.push(11);
+        self.size(element.len());
+        self.size(entries);
+        self.size(shots);
+        self.words.push(mark);
+        self.bytes(element);
+        let mut table = lend(entries, mark, 32, |x| x);
+        let mut list = lend(shots, mark, 16, |x| x as u16);
+        let told = Law.gdsii_fracture(element, &mut table[MARGIN..MARGIN + entries], &mut list[MARGIN..MARGIN + shots]);
+        self.outcome(told, 6, &[hash(table.into_iter()), hash(list.into_iter().map(u32::from))]);
+    }
+
     fn writers(&mut self, s: &mut Seeded) {
         let pick = |s: &mut Seeded| s.pick(&[0, 127, 128, 255, 256, 1000, 1001, u32::MAX]);
         let (threshold, weight, outlines) = (pick(s), pick(s), pick(s));
@@ -211,7 +234,22 @@ pub fn write(file: &str, seed: u64, progress: &Progress) {
         record.job(&job, &mut s);
         record.writers(&mut s);
     }
-    record.words.push(10);
+    for turn in 0..ELEMENTS {
+        let mut s = Seeded::new(seed << 32 | 0x6d52 << 16 | turn);
+        let mut element = elements::any(&mut s);
+        if turn % 2 > 0 {
+            let (at, way) = (s.within(0, element.len()), s.below(elements::DAMAGES));
+            element = elements::damaged(&mut s, &element, at, way);
+        }
+        // the long ones, which fill the record, are the comparison's alone
+        if element.len() > 2_000 {
+            continue;
+        }
+        let few = (s.within(0, 64), s.within(0, 300), s.within(0, 60));
+        let rooms = s.pick(&[(64, 14_400, 900), few]);
+        record.boundary(&element, rooms, turn as u32);
+    }
+    record.words.push(12);
     let bytes: Vec<u8> = record.words.iter().flat_map(|word| word.to_le_bytes()).collect();
     std::fs::File::create(file).and_then(|mut f| f.write_all(&bytes)).unwrap_or_else(|e| panic!("{file}: {e}"));
     progress.done(format!("recorded {} calls in {} bytes", record.calls, bytes.len()));

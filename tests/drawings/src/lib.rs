@@ -7,9 +7,11 @@
 //! | `outlines` | outlines of every sort, which have one ring, sound and bad |
 //! | `figures` | figures of several rings, sound and bad |
 //! | `jobs` | jobs, sound and damaged |
+//! | `elements` | boundary elements of GDSII streams, sound and damaged |
 //! | `document` | the drawings of document 01, and those of windows, with their outcomes |
 
 pub mod document;
+pub mod elements;
 pub mod figures;
 pub mod jobs;
 pub mod outlines;

@@ -137,25 +137,25 @@ pub fn written_outline(drawing: &Drawing) -> Vec<u8> {
 
 pub fn told_number(bytes: &[u8], at: usize) -> Told {
     match number(bytes, at) {
-        Ok((value, next)) => Told::done([value as u64, next as u64, 0, 0]),
-        Err(fault) => Told { number: fault.number, numbers: [0, 0, fault.told(), 0] },
+        Ok((value, next)) => Told::done(&[value as u64, next as u64]),
+        Err(fault) => Told::of(fault.number, &[0, 0, fault.told()]),
     }
 }
 
 pub fn told_check(bytes: &[u8]) -> Told {
     match job(bytes) {
-        Ok(job) => Told::done([job.threshold as u64, job.weight as u64, job.outlines.len() as u64, 0]),
-        Err(fault) => Told { number: fault.number, numbers: [0, 0, 0, fault.told()] },
+        Ok(job) => Told::done(&[job.threshold as u64, job.weight as u64, job.outlines.len() as u64]),
+        Err(fault) => Told::of(fault.number, &[0, 0, 0, fault.told()]),
     }
 }
 
 pub fn told_outline(bytes: &[u8], k: usize) -> Told {
     match job(bytes) {
         Ok(job) => match job.outlines.get(k) {
-            Some((part, _)) => Told::done([part.start as u64, part.len() as u64, 0, 0]),
+            Some((part, _)) => Told::done(&[part.start as u64, part.len() as u64]),
             None => Told::refused(13),
         },
-        Err(fault) => Told { number: fault.number, numbers: [0, 0, fault.told(), 0] },
+        Err(fault) => Told::of(fault.number, &[0, 0, fault.told()]),
     }
 }
 
@@ -174,9 +174,9 @@ pub fn told_unpack(part: &[u8], list: &mut [u16], rings: &mut [u16]) -> Told {
         Ok(drawing) => {
             list[..drawing.corners.len()].copy_from_slice(&drawing.corners);
             rings[..drawing.rings.len()].copy_from_slice(&drawing.rings);
-            Told::done([drawing.corners.len() as u64 / 2, drawing.rings.len() as u64, 0, 0])
+            Told::done(&[drawing.corners.len() as u64 / 2, drawing.rings.len() as u64])
         }
-        Err(fault) => Told { number: fault.number, numbers: [0, 0, fault.told(), 0] },
+        Err(fault) => Told::of(fault.number, &[0, 0, fault.told()]),
     }
 }
 
@@ -186,7 +186,7 @@ fn put(bytes: &[u8], out: &mut [u8]) -> Told {
         return Told::refused(14);
     }
     out[..bytes.len()].copy_from_slice(bytes);
-    Told::done([bytes.len() as u64, 0, 0, 0])
+    Told::done(&[bytes.len() as u64])
 }
 
 pub fn told_header(threshold: u32, weight: u32, outlines: u32, out: &mut [u8]) -> Told {

@@ -10,7 +10,7 @@ pub const PRESETS: [(u32, u32); 4] = [(25, 40), (10, 100), (5, 200), (50, 20)];
 
 pub fn preset(number: u32) -> Told {
     match PRESETS.get(number as usize) {
-        Some(&(threshold, weight)) => Told::done([threshold as u64, weight as u64, 0, 0]),
+        Some(&(threshold, weight)) => Told::done(&[threshold as u64, weight as u64]),
         None => Told::refused(15),
     }
 }
@@ -37,7 +37,7 @@ pub fn fracture(drawing: &Drawing, threshold: u32, weight: u32, table: &mut [u32
     let frame = fracture.frame();
     let shots = fracture.shots(frame);
     if list.len() < 4 * shots.len() {
-        return Told { number: 7, numbers: [shots.len() as u64, 0, 0, 0] };
+        return Told::of(7, &[shots.len() as u64]);
     }
     for (place, &piece) in shots.iter().enumerate() {
         list[4 * place..4 * place + 4].copy_from_slice(&fracture.shot(piece));
@@ -46,5 +46,5 @@ pub fn fracture(drawing: &Drawing, threshold: u32, weight: u32, table: &mut [u32
     let cost: u64 = shots.iter().map(|&p| fracture.charge(p) as u64).sum();
     assert_eq!(cost, fracture.judge(frame).1 as u64, "the list's cost is the frame's");
     assert!(cost <= 2_097_345_000);
-    Told::done([shots.len() as u64, cost, sliver, 0])
+    Told::done(&[shots.len() as u64, cost, sliver])
 }

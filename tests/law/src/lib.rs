@@ -1,5 +1,5 @@
-//! Document 01, with windows (document 02, Item 1), in plain Rust: what every call answers and what
-//! it leaves in lent memory.
+//! Document 01, with windows and GDSII boundaries (document 02, Items 1 and 2), in plain Rust: what
+//! every call answers and what it leaves in lent memory.
 //!
 //! Written from the documents alone, and built otherwise than the proved library, so that the two
 //! can be held against each other: cells are judged by a ray at a unit square, kinds and exposed
@@ -13,6 +13,7 @@
 //! | `cutting` | costs, verdicts and shots of a figure |
 //! | `call` | the fracture calls, with lent memory |
 //! | `bytes` | numbers, jobs, unpacking, the writers |
+//! | `gdsii` | one boundary element of a GDSII stream |
 //! | `program` | what the job program prints |
 //! | `nano` | the same costs once more, nanometre by nanometre, for small figures |
 //! | `every` | every cutting of a small figure, with its price |
@@ -23,6 +24,7 @@ pub mod cutting;
 pub mod drawing;
 pub mod every;
 pub mod figure;
+pub mod gdsii;
 pub mod nano;
 pub mod program;
 
@@ -33,16 +35,22 @@ pub use drawing::Drawing;
 #[derive(Clone, Copy, PartialEq, Eq, Debug)]
 pub struct Told {
     pub number: u32,
-    pub numbers: [u64; 4],
+    pub numbers: [u64; 6],
 }
 
 impl Told {
-    pub fn done(numbers: [u64; 4]) -> Told {
-        Told { number: 0, numbers }
+    pub fn of(number: u32, numbers: &[u64]) -> Told {
+        let mut all = [0; 6];
+        all[..numbers.len()].copy_from_slice(numbers);
+        Told { number, numbers: all }
+    }
+
+    pub fn done(numbers: &[u64]) -> Told {
+        Told::of(0, numbers)
     }
 
     pub fn refused(number: u32) -> Told {
-        Told { number, numbers: [0; 4] }
+        Told::of(number, &[])
     }
 }
 
@@ -57,6 +65,8 @@ pub trait Calls {
     fn unpack(&self, part: &[u8], list: &mut [u16], rings: &mut [u16]) -> Told;
     fn write_header(&self, threshold: u32, weight: u32, outlines: u32, out: &mut [u8]) -> Told;
     fn write_outline(&self, drawing: &Drawing, out: &mut [u8]) -> Told;
+    fn gdsii_read(&self, element: &[u8], list: &mut [u16]) -> Told;
+    fn gdsii_fracture(&self, element: &[u8], table: &mut [u32], list: &mut [u16]) -> Told;
 }
 
 /// The documents themselves.
@@ -89,5 +99,11 @@ impl Calls for Law {
     }
     fn write_outline(&self, drawing: &Drawing, out: &mut [u8]) -> Told {
         bytes::told_written_outline(drawing, out)
+    }
+    fn gdsii_read(&self, element: &[u8], list: &mut [u16]) -> Told {
+        gdsii::told_read(element, list)
+    }
+    fn gdsii_fracture(&self, element: &[u8], table: &mut [u32], list: &mut [u16]) -> Told {
+        gdsii::told_fracture(element, table, list)
     }
 }

@@ -21,7 +21,7 @@ pub fn printed(input: &[u8]) -> String {
             writeln!(text, "outline {k} refused {}", told.number).unwrap();
             continue;
         }
-        let [shots, cost, sliver, _] = told.numbers;
+        let [shots, cost, sliver, ..] = told.numbers;
         writeln!(text, "outline {k} shots {shots} cost {cost} sliver {sliver}").unwrap();
         for shot in list.chunks(4).take(shots as usize) {
             writeln!(text, "{} {} {} {}", shot[0], shot[1], shot[2], shot[3]).unwrap();

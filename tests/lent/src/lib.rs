@@ -61,12 +61,26 @@ mod pw {
             corners: *const u16, corners_len: usize, rings: *const u16, rings_len: usize,
             out: *mut u8, out_len: usize, written: *mut usize,
         ) -> u32;
+        pub fn pw_gdsii_read(
+            element: *const u8, len: usize, list: *mut u16, list_len: usize,
+            corners: *mut u32, shift_x: *mut i32, shift_y: *mut i32, offset: *mut usize,
+        ) -> u32;
+        pub fn pw_gdsii_fracture(
+            element: *const u8, len: usize, table: *mut u32, table_len: usize, list: *mut u16, list_len: usize,
+            shots: *mut u32, cost: *mut u32, sliver: *mut u32, shift_x: *mut i32, shift_y: *mut i32, offset: *mut usize,
+        ) -> u32;
     }
 }
 
 /// What a lent number holds before a call: no call answers it.
 const MARK: u32 = 0xdead_beef;
 const MARK_SIZE: usize = 0xdead_beef_dead_beef;
+
+/// A signed number among the numbers told.
+#[cfg(archive)]
+fn signed(number: i32) -> u64 {
+    number as i64 as u64
+}
 
 fn fracture_by(
     call: Fractures, drawing: &Drawing, threshold: u32, weight: u32, table: &mut [u32], list: &mut [u16],
@@ -81,7 +95,7 @@ fn fracture_by(
             &mut shots, &mut cost, &mut sliver,
         )
     };
-    Told { number, numbers: [shots as u64, cost as u64, sliver as u64, 0] }
+    Told::of(number, &[shots as u64, cost as u64, sliver as u64])
 }
 
 /// One fracture by the baseline that weighs horizontal cuts from each settled piece on.
@@ -120,7 +134,7 @@ impl Calls for Library {
     fn preset(&self, number: u32) -> Told {
         let (mut threshold, mut weight) = (MARK, MARK);
         let number = unsafe { pw::pw_preset(number, &mut threshold, &mut weight) };
-        Told { number, numbers: [threshold as u64, weight as u64, 0, 0] }
+        Told::of(number, &[threshold as u64, weight as u64])
     }
 
     fn fracture(&self, drawing: &Drawing, threshold: u32, weight: u32, table: &mut [u32], list: &mut [u16]) -> Told {
@@ -136,26 +150,26 @@ impl Calls for Library {
                 &mut shots, &mut cost, &mut sliver,
             )
         };
-        Told { number, numbers: [shots as u64, cost as u64, sliver as u64, 0] }
+        Told::of(number, &[shots as u64, cost as u64, sliver as u64])
     }
 
     fn number(&self, bytes: &[u8], at: usize) -> Told {
         let (mut value, mut next, mut offset) = (MARK, MARK_SIZE, MARK_SIZE);
         let number = unsafe { pw::pw_number(bytes.as_ptr(), bytes.len(), at, &mut value, &mut next, &mut offset) };
-        Told { number, numbers: [value as u64, next as u64, offset as u64, 0] }
+        Told::of(number, &[value as u64, next as u64, offset as u64])
     }
 
     fn job_check(&self, job: &[u8]) -> Told {
         let (mut threshold, mut weight, mut outlines, mut offset) = (MARK, MARK, MARK, MARK_SIZE);
         let number =
             unsafe { pw::pw_job_check(job.as_ptr(), job.len(), &mut threshold, &mut weight, &mut outlines, &mut offset) };
-        Told { number, numbers: [threshold as u64, weight as u64, outlines as u64, offset as u64] }
+        Told::of(number, &[threshold as u64, weight as u64, outlines as u64, offset as u64])
     }
 
     fn job_outline(&self, job: &[u8], k: usize) -> Told {
         let (mut start, mut length, mut offset) = (MARK_SIZE, MARK_SIZE, MARK_SIZE);
         let number = unsafe { pw::pw_job_outline(job.as_ptr(), job.len(), k, &mut start, &mut length, &mut offset) };
-        Told { number, numbers: [start as u64, length as u64, offset as u64, 0] }
+        Told::of(number, &[start as u64, length as u64, offset as u64])
     }
 
     fn unpack(&self, part: &[u8], list: &mut [u16], rings: &mut [u16]) -> Told {
@@ -166,14 +180,14 @@ impl Calls for Library {
                 &mut corners, &mut ring_count, &mut offset,
             )
         };
-        Told { number, numbers: [corners as u64, ring_count as u64, offset as u64, 0] }
+        Told::of(number, &[corners as u64, ring_count as u64, offset as u64])
     }
 
     fn write_header(&self, threshold: u32, weight: u32, outlines: u32, out: &mut [u8]) -> Told {
         let mut written = MARK_SIZE;
         let number =
             unsafe { pw::pw_write_header(threshold, weight, outlines, out.as_mut_ptr(), out.len(), &mut written) };
-        Told { number, numbers: [written as u64, 0, 0, 0] }
+        Told::of(number, &[written as u64])
     }
 
     fn write_outline(&self, drawing: &Drawing, out: &mut [u8]) -> Told {
@@ -184,6 +198,30 @@ impl Calls for Library {
                 out.as_mut_ptr(), out.len(), &mut written,
             )
         };
-        Told { number, numbers: [written as u64, 0, 0, 0] }
+        Told::of(number, &[written as u64])
+    }
+
+    fn gdsii_read(&self, element: &[u8], list: &mut [u16]) -> Told {
+        let (mut corners, mut shift_x, mut shift_y, mut offset) = (MARK, MARK as i32, MARK as i32, MARK_SIZE);
+        let number = unsafe {
+            pw::pw_gdsii_read(
+                element.as_ptr(), element.len(), list.as_mut_ptr(), list.len(),
+                &mut corners, &mut shift_x, &mut shift_y, &mut offset,
+            )
+        };
+        Told::of(number, &[corners as u64, signed(shift_x), signed(shift_y), offset as u64])
+    }
+
+    fn gdsii_fracture(&self, element: &[u8], table: &mut [u32], list: &mut [u16]) -> Told {
+        let (mut shots, mut cost, mut sliver) = (MARK, MARK, MARK);
+        let (mut shift_x, mut shift_y, mut offset) = (MARK as i32, MARK as i32, MARK_SIZE);
+        let number = unsafe {
+            pw::pw_gdsii_fracture(
+                element.as_ptr(), element.len(), table.as_mut_ptr(), table.len(), list.as_mut_ptr(), list.len(),
+                &mut shots, &mut cost, &mut sliver, &mut shift_x, &mut shift_y, &mut offset,
+            )
+        };
+        let numbers = [shots as u64, cost as u64, sliver as u64, signed(shift_x), signed(shift_y), offset as u64];
+        Told::of(number, &numbers)
     }
 }
