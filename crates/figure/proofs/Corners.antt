@@ -241,9 +241,3 @@ module _ (p q x : Bool) where
 
   pub and-left : x ≡ p → x ≡ false → x ≡ (p && q)
   and-left e t = t ∙ ap (λ b. b && q) (sym t ∙ e)
-
-  pub or-taken : x ≡ p → x ≡ true → x ≡ (p || q)
-  or-taken e t = t ∙ ap (λ b. b || q) (sym t ∙ e)
-
-  pub or-left : (y : Bool) → x ≡ p → y ≡ q → x ≡ false → y ≡ (p || q)
-  or-left y e f t = f ∙ ap (λ b. b || q) (sym t ∙ e)

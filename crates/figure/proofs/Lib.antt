@@ -6,3 +6,4 @@ pub mod Fault
 pub mod Walking
 pub mod Sharing
 pub mod Together
+pub mod Crooked

@@ -1,9 +1,11 @@
 -- All rings of a figure together: what holds of each of them holds of all edges and corners. Assumes nothing.
 --
+--   RightAngled, right-angled   == a ring that passes 3 and 4; so does each ring of a figure that passes them
 --   length-edges-all    == a figure has as many edges as corners
 --   edges-half-all      == half of the edges change the coordinate along an axis: so the number of corners is even
 --   corners-kept-all    == each corner's place is that of an edge that keeps it
 --   ends-all            == the ends of an edge are corners
+--   any-or                      == a test of two, of some member
 --   slanted-all, unturned-all   == 3 and 4 of some ring, as tests of all edges and turns
 use Prim.Native.Nat.{_*_}
 use mathlib.Core.Path.{_≡_, refl, sym, _∙_, ap, ap₂, subst}
@@ -21,8 +23,8 @@ use Rattle.figure.proofs.Corners.{length-around}
 use Rattle.figure.proofs.Turns.{any-all, All-both, tally, keep, kept, edges-half, corners-kept, ends}
 
 -- a ring that passes 3 and 4
-abbrev Turning : List Corner → Type 0
-Turning r = (slanted r ≡ false) × (unturned r ≡ false)
+abbrev pub RightAngled : List Corner → Type 0
+RightAngled r = (slanted r ≡ false) × (unturned r ≡ false)
 
 abbrev all : List (List Corner) → List Corner
 all rs = join (λ r. r) rs
@@ -33,7 +35,7 @@ lengths [] = refl
 lengths (r ∷ rs) =
     omega (arith, length-append (edges r) (join edges rs), length-append r (all rs), length-around r, lengths rs)
 
-halves : (a : Axis) (rs : List (List Corner)) → All Turning rs → 2 * tally (changes a) (join edges rs) ≡ length (all rs)
+halves : (a : Axis) (rs : List (List Corner)) → All RightAngled rs → 2 * tally (changes a) (join edges rs) ≡ length (all rs)
 unfolding tally join sumOf
 halves a [] h = refl
 halves a (r ∷ rs) h =
@@ -45,7 +47,7 @@ halves a (r ∷ rs) h =
       halves a rs (h .1),
     )
 
-places : (a : Axis) (rs : List (List Corner)) → All Turning rs → All (λ c. Member (coordinate a c) (kept a (join edges rs))) (all rs)
+places : (a : Axis) (rs : List (List Corner)) → All RightAngled rs → All (λ c. Member (coordinate a c) (kept a (join edges rs))) (all rs)
 unfolding kept join
 places a [] h = tt
 places a (r ∷ rs) h =
@@ -54,7 +56,7 @@ places a (r ∷ rs) h =
     (All-imp (λ c m. subst (Member (coordinate a c)) (sym e) (Memᴰ·append-left (kept a (join edges rs)) m)) r (corners-kept r (h .0 .0) (h .0 .1) a))
     (All-imp (λ c m. subst (Member (coordinate a c)) (sym e) (Memᴰ·append-right (kept a (edges r)) m)) (all rs) (places a rs (h .1)))
 
-tips : (rs : List (List Corner)) → All Turning rs → All (λ e. Member (e .from) (all rs) × Member (e .to) (all rs)) (join edges rs)
+tips : (rs : List (List Corner)) → All RightAngled rs → All (λ e. Member (e .from) (all rs) × Member (e .to) (all rs)) (join edges rs)
 unfolding join
 tips [] h = tt
 tips (r ∷ rs) h =
@@ -63,8 +65,8 @@ tips (r ∷ rs) h =
     (All-imp (λ e m. (Memᴰ·append-right r (m .0), Memᴰ·append-right r (m .1))) (join edges rs) (tips rs (h .1)))
 
 module _ (f : Figure) (right : Right f) where
-  turning : All Turning (rings f)
-  turning =
+  pub right-angled : All RightAngled (rings f)
+  right-angled =
       All-both (λ r. slanted r ≡ false) (λ r. unturned r ≡ false) (rings f)
       (any-all slanted (rings f) (right .slanted-none))
       (any-all unturned (rings f) (right .unturned-none))
@@ -73,13 +75,13 @@ module _ (f : Figure) (right : Right f) where
   length-edges-all = lengths (rings f)
 
   pub edges-half-all : (a : Axis) → 2 * tally (changes a) (edgesOf f) ≡ length (cornersOf f)
-  edges-half-all a = halves a (rings f) turning
+  edges-half-all a = halves a (rings f) right-angled
 
   pub corners-kept-all : (a : Axis) → All (λ c. Member (coordinate a c) (kept a (edgesOf f))) (cornersOf f)
-  corners-kept-all a = places a (rings f) turning
+  corners-kept-all a = places a (rings f) right-angled
 
   pub ends-all : All (λ e. Member (e .from) (cornersOf f) × Member (e .to) (cornersOf f)) (edgesOf f)
-  ends-all = tips (rings f) turning
+  ends-all = tips (rings f) right-angled
 
 -- a test of some member of some list, and of some member of all of them
 or-assoc : (a b c : Bool) → ((a || b) || c) ≡ (a || (b || c))
@@ -103,7 +105,7 @@ module _ {B : Type 0} (t : B → Bool) where
   any-join g [] = refl
   any-join g (r ∷ rs) = ap (λ b. any t (g r) || b) (any-join g rs) ∙ sym (any-append (g r) (join g rs))
 
-any-or : {A : Type 0} (s t : A → Bool) (l : List A) → any (λ r. s r || t r) l ≡ (any s l || any t l)
+pub any-or : {A : Type 0} (s t : A → Bool) (l : List A) → any (λ r. s r || t r) l ≡ (any s l || any t l)
 unfolding any
 any-or s t [] = refl
 any-or s t (r ∷ l) = ap (λ b. (s r || t r) || b) (any-or s t l) ∙ or-middle (s r) (t r) (any s l) (any t l)

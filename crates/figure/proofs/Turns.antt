@@ -122,7 +122,7 @@ module _ {A : Type 0} where
       go false e k g = g (omega arith)
 
 -- what an edge that keeps a coordinate says of its ends, and what one that changes it says
-unchanged : (a : Axis) (e : Link Corner) → changes a e ≡ false → coordinate a (e .from) ≡ coordinate a (e .to)
+pub unchanged : (a : Axis) (e : Link Corner) → changes a e ≡ false → coordinate a (e .from) ≡ coordinate a (e .to)
 unfolding changes
 unchanged a e h = eqb-true (coordinate a (e .from)) (coordinate a (e .to)) (not-false (eqb (coordinate a (e .from)) (coordinate a (e .to))) h)
 

@@ -1,30 +1,37 @@
 -- Walks over the rings of a figure. Assumes nothing.
 --
+--   All-getD             == what holds of all members holds of the one at a place
 --   Reached l ns from k  == on the way: the numbers of ring k begin at from
---   reached-start, reached-room, reached-next, share-next, share-end   == no ring yet; the next one's numbers are there; it is passed; it
---                           and those after it; all
+--   reached-start, reached-room, reached-some, reached-next, share-next, share-end   == no ring yet; the next one's numbers are there; it has
+--                           a corner; it is passed; it and those after it; all
 --   Left t l ns from k   == on the way: whether some ring passes the test t is told by the rings from the k-th on, whose numbers
 --                           begin at from
---   left-start, left-room, left-more, left-hit, left-end   == no ring yet; the next one's numbers are there; it does not pass; it does; all
+--   left-start, left-room, left-some, left-more, left-hit, left-end   == no ring yet; the next one's numbers are there; it has a corner; it
+--                           does not pass; it does; all
 --   Added ns total k     == on the way: the first k ring lengths are good, and total is their sum
 --   added-start, added-more, added-few, added-many, added-end   == none yet; one more; one that is too short; one that is too long; all
-use Prim.Native.Nat.{ℕ, suc, _+_, _*_, _-_, _≤_, _<_}
+use Prim.Native.Nat.{ℕ, zero, suc, _+_, _*_, _-_, _/_, _≤_, _<_}
 use native.Mathlib.Numerals.{add-one}
 use mathlib.Core.Path.{_≡_, refl, sym, _∙_, ap, ap₂, subst}
 use mathlib.Core.Bool.{Bool, true, false, not, _||_}
 use mathlib.Core.List.{List, [], _∷_, map}
 use native.Mathlib.Omega.{arith}
 use lib.Dec.{ltb, eqb}
-use lib.ListN.{length, getD, take, drop, drop-of-length-le}
-use lib.Seq.{drop-cons, drop-drop}
+use lib.ListN.{length, getD, take, drop, length-drop, drop-of-length-le}
+use lib.Seq.{drop-cons, drop-drop, length-take-le}
 use borrow.Author.Tests.{lt-ltb, le-ltb, eq-eqb, ne-eqb}
 use mathlib.Core.Logic.{inl, inr}
-use Rattle.sum.specs.Sum.{sumOf}
+use Rattle.sum.specs.Sum.{sumOf, All}
 use Rattle.sum.proofs.Sum.{le-or}
 use Rattle.figure.specs.Corners.{Corner, corners, any}
 use Rattle.figure.specs.Figure.{figure, share, mostCorners, mostRings, badLength, badFigure}
 use Rattle.figure.proofs.Corners.{any-at, any-none}
 use Rattle.figure.proofs.Fault.{rings-good}
+
+pub All-getD : {A : Type 0} (Q : A → Type 0) (d : A) (l : List A) (k : ℕ) → k < length l → All Q l → Q (getD l k d)
+All-getD Q d [] k h a = absurd (omega arith)
+All-getD Q d (s ∷ l) zero h a = a .0
+All-getD Q d (s ∷ l) (suc k) h a = All-getD Q d l k (omega arith) (a .1)
 
 -- the lengths from the k-th on
 pub rest : List ℕ → ℕ → ℕ
@@ -50,6 +57,12 @@ module _ (l ns : List ℕ) where
   module _ (from k n to : ℕ) (here : k < length ns) (long : n ≡ getD ns k 0) (ends : to ≡ from + 2 * n) where
     pub reached-room : Reached l ns from k → (from ≤ to) × (to ≤ length l)
     reached-room h = (omega arith, omega (arith, h .numbers, rest-cons ns k here))
+
+    -- it has four corners at least
+    pub reached-some : Reached l ns from k → badFigure (figure l ns) ≡ false → 0 < length (take (to - from) (drop from l)) / 2
+    reached-some r h =
+        let g = All-getD (λ n. (4 ≤ n) × (n ≤ mostCorners)) 0 ns k here (rings-good (figure l ns) h .each) in
+        omega (arith, g .0, length-take-le (to - from) (drop from l) (omega (arith, reached-room r, length-drop {A = ℕ} from l)))
 
     pub reached-next : Reached l ns from k → Reached l ns to (k + 1)
     reached-next h = record { numbers = omega (arith, h .numbers, rest-cons ns k here) }
@@ -86,6 +99,9 @@ module _ (t : List Corner → Bool) (l ns : List ℕ) where
 
     pub left-room : (from ≤ to) × (to ≤ length l)
     left-room = reached-room l ns from k n to here long ends (left .reached)
+
+    pub left-some : badFigure (figure l ns) ≡ false → 0 < length (take (to - from) (drop from l)) / 2
+    left-some = reached-some l ns from k n to here long ends (left .reached)
 
     pub left-more : t (corners (take (to - from) (drop from l))) ≡ false → Left t l ns to (k + 1)
     left-more e =

@@ -2,10 +2,11 @@
 --
 --   corner l k, edge l k, turn l k   == the corner k of the list l, the edge that ends at it, and the turn that does
 --   before k n                       == the number before k of n, once round
+--   crooked cs                       == the ring with the corners cs is not right-angled: 3 or 4 holds of it
 --   Right f                          == the figure f passes 2, 3 and 4
 use Prim.Native.Nat.{ℕ, zero, suc, _-_}
 use mathlib.Core.Path.{_≡_}
-use mathlib.Core.Bool.{false}
+use mathlib.Core.Bool.{Bool, false, _||_}
 use mathlib.Core.List.{List}
 use lib.ListN.{getD}
 use Rattle.figure.specs.Corners.{Corner, Link, Turn, corners, edges, turns, any, slanted, unturned}
@@ -32,6 +33,9 @@ turn l k = getD (turns (corners l)) k stop
 unfoldable pub before : ℕ → ℕ → ℕ
 before zero n = n - 1
 before (suc k) n = k
+
+unfoldable pub crooked : List Corner → Bool
+crooked cs = slanted cs || unturned cs
 
 pub record Right (f : Figure) : Type 0 where
   pub figure-good : badFigure f ≡ false

@@ -19,7 +19,7 @@ pub fn along(corners: &[u16], k: usize, axis: Axis) -> Place
 }
 
 // The corner before corner k of `count`, once round: the last is before the first.
-pub fn before(k: usize, count: usize) -> usize
+fn before(k: usize, count: usize) -> usize
     requires { ⌜ k < count ⌝ }
     ensures { λ r. ⌜ (r ≡ step.before k count) × (r < count) ⌝ }
 {
@@ -46,36 +46,6 @@ fn both(corners: &[u16], k: usize) -> bool
     x && y
 }
 
-// Whether the edge that ends at corner k changes neither coordinate.
-fn neither(corners: &[u16], k: usize) -> bool
-    requires { ⌜ k < length (now corners) / 2 ⌝ }
-    ensures { λ r. ⌜ r ≡ corner.neither (step.edge (now (corners .entry)) k) ⌝ }
-{
-    let x = changes(corners, k, Axis::X);
-    let y = changes(corners, k, Axis::Y);
-    !x && !y
-}
-
-// Whether the edge that ends at corner k and the one before it both change the coordinate along an axis.
-fn same(corners: &[u16], k: usize, axis: Axis) -> bool
-    requires { ⌜ k < length (now corners) / 2 ⌝ }
-    ensures { λ r. ⌜ r ≡ corner.same axis (step.turn (now (corners .entry)) k) ⌝ }
-{
-    let first = changes(corners, before(k, corners.len() / 2), axis);
-    let second = changes(corners, k, axis);
-    first && second
-}
-
-// Whether the edge that ends at corner k and the one before it change the same coordinate.
-fn alike(corners: &[u16], k: usize) -> bool
-    requires { ⌜ k < length (now corners) / 2 ⌝ }
-    ensures { λ r. ⌜ r ≡ corner.alike (step.turn (now (corners .entry)) k) ⌝ }
-{
-    let x = same(corners, k, Axis::X);
-    let y = same(corners, k, Axis::Y);
-    x || y
-}
-
 // 3: an edge changes both coordinates. The edge that ends at corner 0 is the closing one.
 pub fn slanted(corners: &[u16]) -> bool
     ensures { λ r. ⌜ r ≡ corner.slanted (corner.corners (now (corners .entry))) ⌝ }
@@ -89,18 +59,24 @@ pub fn slanted(corners: &[u16]) -> bool
     false
 }
 
-// 4: an edge changes neither coordinate, or it and the one before it change the same one.
-pub fn unturned(corners: &[u16]) -> bool
-    ensures { λ r. ⌜ r ≡ corner.unturned (corner.corners (now (corners .entry))) ⌝ }
+// Whether a ring is not right-angled, 3 or 4, in one pass: an edge changes both coordinates or neither, or x where the edge before it
+// does, or neither of them.
+pub fn crooked(corners: &[u16]) -> bool
+    requires { ⌜ 0 < length (now corners) / 2 ⌝ }
+    ensures { λ r. ⌜ r ≡ step.crooked (corner.corners (now (corners .entry))) ⌝ }
 {
     let count = corners.len() / 2;
+    let mut across = changes(corners, count - 1, Axis::X);
     for turn in 0..count {
-        if neither(corners, turn) {
+        let x = changes(corners, turn, Axis::X);
+        let y = changes(corners, turn, Axis::Y);
+        if x == y {
             return true;
         }
-        if alike(corners, turn) {
+        if x == across {
             return true;
         }
+        across = x;
     }
     false
 }

@@ -34,18 +34,18 @@ pub enum Shape {
 }
 
 // The shape of a figure, from the list x, y, x, y, .. of its corners, ring after ring, and the number of corners of each ring. Each of
-// 2, 3, 4 is tried over all rings before the next.
+// 2, 3, 4 is tried over all rings before the next; 3 is told from 4 only where one of them holds.
 pub fn shape_of(corners: &[u16], lengths: &[u16]) -> Shape
     ensures settled { λ r. ⌜ shapeNo r ≡ fault (figure (now (corners .entry)) (now (lengths .entry))) ⌝ }
 {
     if rings::bad_figure(corners, lengths) {
         return Shape::Refused(Refusal::Length);
     }
+    if !rings::crooked(corners, lengths) {
+        return Shape::Right;
+    }
     if rings::slanted(corners, lengths) {
         return Shape::Refused(Refusal::Slanted);
     }
-    if rings::unturned(corners, lengths) {
-        return Shape::Refused(Refusal::Unturned);
-    }
-    Shape::Right
+    Shape::Refused(Refusal::Unturned)
 }

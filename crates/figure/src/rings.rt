@@ -6,8 +6,9 @@ use crate::edges;
 ghost use mathlib.Core.Path.{_≡_};
 ghost use mathlib.Core.Bool.{false};
 ghost use Prim.Native.Nat.{_≤_};
-ghost use Rattle.figure.specs.Corners.{any, slanted, unturned};
+ghost use Rattle.figure.specs.Corners.{any, slanted};
 ghost use Rattle.figure.specs.Figure.{figure, rings, badFigure};
+ghost use Rattle.figure.specs.Steps.{crooked};
 
 // A ring length, to reckon with.
 pub fn wide(length: u16) -> usize
@@ -57,15 +58,15 @@ pub fn slanted(corners: &[u16], lengths: &[u16]) -> bool
     false
 }
 
-// 4: an edge of a ring changes neither coordinate, or it and the one before it change the same one.
-pub fn unturned(corners: &[u16], lengths: &[u16]) -> bool
+// 3 or 4: a ring is not right-angled.
+pub fn crooked(corners: &[u16], lengths: &[u16]) -> bool
     requires { ⌜ badFigure (figure (now corners) (now lengths)) ≡ false ⌝ }
-    ensures { λ r. ⌜ r ≡ any unturned (rings (figure (now (corners .entry)) (now (lengths .entry)))) ⌝ }
+    ensures { λ r. ⌜ r ≡ any crooked (rings (figure (now (corners .entry)) (now (lengths .entry)))) ⌝ }
 {
     let mut from: usize = 0;
     for k in 0..lengths.len() {
         let to = from + 2 * wide(lengths[k]);
-        if edges::unturned(&corners[from..to]) {
+        if edges::crooked(&corners[from..to]) {
             return true;
         }
         from = to;

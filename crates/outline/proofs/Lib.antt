@@ -1,5 +1,7 @@
 pub mod Lines
 pub mod Inserting
+pub mod Searching
+pub mod Evens
 pub mod Gathering
 pub mod LineCount
 pub mod Inside

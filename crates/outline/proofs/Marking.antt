@@ -1,12 +1,16 @@
 -- How the walls mark the cells on their right, ring by ring and edge by edge. Assumes nothing.
 --
 --   right-length, right-lines        == a figure that passes 2 to 4 has 4 to 32 corners, and 2 to 16 lines each way
---   line-found                       == the first line at or above a line's place is that line
 --   right-whole                      == the same, said of the corners of the whole list
 --   marked-none, marked-more         == no wall turns nothing over; some walls, and then others
---   marked-bits                      == what turning over asks
---   marked-flat, marked-wall         == an edge that is no wall; one that is
---   ring-start, ring-more, ring-end  == no edge of a ring yet; one more; all
+--   ruled-listed, ruled-top, marked-bits   == what the search for a line asks, and what turning over does
+--   marked-wall                      == a wall is marked
+--   upright-before                   == the corner before a wall's end
+--   Edges, edges-start, edges-upright, edges-more, edges-end   == on the way over every other edge of a ring: none yet; the next one is a wall;
+--                                       it is marked, and the edge after it is none; all
+--   flat-walled, flat-ring           == a ring whose closing edge is no wall: the next one is; its walls are those after the closing edge
+--   wall-upright, wall-walled, wall-ring   == a ring whose closing edge is a wall; so is the one after the next; its walls are these
+--   turns-at                         == the edges of a ring that passes 3 and 4 keep x by turns
 --   lined-x, zeros-marks             == there are 1 to 16 x lines; all zeros are marks
 --   Rings, rings-start, rings-room, rings-ruled, rings-more, rings-end
 --                                    == the rings passed are marked: none yet; the next one's numbers are there, and its lines; it is
@@ -14,32 +18,33 @@
 use Prim.Native.Nat.{ℕ, zero, suc, _+_, _*_, _-_, _/_, _%_, _≤_, _<_, min, max}
 use native.Mathlib.Numerals.{add-one}
 use mathlib.Core.Path.{_≡_, refl, sym, _∙_, ap, ap₂, subst}
-use mathlib.Core.Bool.{Bool, true, false, _&&_}
-use mathlib.Core.List.{List, [], _∷_, _++_, map, append-nil, append-assoc, List·Memᴰ as Member, List·Memᴰ·head, List·Memᴰ·tail}
-use mathlib.Core.Logic.{inl, inr}
+use mathlib.Core.Bool.{Bool, true, false, not, _&&_}
+use mathlib.Core.List.{List, [], _∷_, _++_, map, append-nil, append-assoc, List·Memᴰ as Member}
+use mathlib.Core.Logic.{_⊎_, inl, inr}
 use native.Mathlib.Omega.{arith}
 use lib.Dec.{ltb, eqb}
-use lib.ListN.{length, getD, take, drop, replicate}
-use lib.Seq.{take-suc, take-all}
+use lib.ListN.{length, getD, take, drop, replicate, drop-of-length-le}
+use lib.Seq.{drop-cons}
 use borrow.Author.Tests.{lt-ltb, le-ltb, eq-eqb, ne-eqb, eqb-true, eqb-false}
 use Rattle.sum.specs.Sum.{only, sumOf, All, join}
 use Rattle.sum.proofs.Sum.{le-or}
-use Rattle.sum.proofs.Lists.{All-at, All-parts, join-append, sumOf-one}
+use Rattle.sum.proofs.Lists.{All-parts, join-append, sumOf-one}
 use Rattle.figure.specs.declared.Axis.{Axis}
 use Rattle.figure.specs.declared.Axis.the-variants.{X, Y}
-use Rattle.figure.specs.Corners.{Corner, Link, corners, coordinate, edges, changes, odd}
+use Rattle.figure.specs.Corners.{Corner, Link, corners, coordinate, around, edges, changes, odd, slanted, unturned}
 use Rattle.figure.specs.Figure.{Figure, figure, share, cornersOf, edgesOf, mostCorners}
 use Rattle.figure.specs.Inside.{Wall, wall, walls, count}
 use Rattle.figure.specs.Steps.{origin, still, corner, edge, before, Right}
-use Rattle.figure.proofs.Corners.{length-corners, length-edges, edge-at}
+use Rattle.figure.proofs.Corners.{length-corners, length-edges, length-around, around-at, edge-at, before-less, before-none, before-some}
 use Rattle.figure.proofs.Fault.{rings-good}
 use Rattle.figure.proofs.ByRings.{odd-bit}
 use Rattle.figure.proofs.Sharing.{corners-whole}
-use Rattle.figure.proofs.Together.{edges-half-all}
-use Rattle.figure.proofs.Walking.{Reached, reached-start, reached-room, reached-next, share-next, share-end}
+use Rattle.figure.proofs.Together.{RightAngled, right-angled, edges-half-all}
+use Rattle.figure.proofs.Turns.{All-both, turns-other}
+use Rattle.figure.proofs.Walking.{All-getD, Reached, reached-start, reached-room, reached-some, reached-next, share-next, share-end}
 use Rattle.figure.proofs.Inside.{count-append}
 use Rattle.outline.specs.Lines.{Up, lines, place}
-use Rattle.outline.specs.Steps.{flip, span, stands, Bits, Turned, Lined, Ruled, Marks, Marked}
+use Rattle.outline.specs.Steps.{flip, span, stands, Bits, Turned, Listed, Found, Lined, Upright, Walled, Ruled, Marks, Marked}
 use Rattle.outline.proofs.Lines.{place-at}
 use Rattle.outline.proofs.LineCount.{lines-some, lines-most}
 use Rattle.outline.proofs.Inside.{lines-up, corners-lines}
@@ -65,18 +70,6 @@ pub right-whole : (f : Figure) → Right f → (a : Axis)
 right-whole f right a =
     subst (λ cs. (2 ≤ length (lines a cs)) × (length (lines a cs) ≤ 16)) (corners-whole f (right .figure-good)) (right-lines f right a)
 
--- the first line at or above a line's place is that line
-pub line-found : (xs : List ℕ) (v r : ℕ) → Up xs → Member v xs → r ≤ length xs
-    → ((k : ℕ) → k < r → getD xs k 0 < v) → (r < length xs → v ≤ getD xs r 0)
-    → (r < length xs) × (getD xs r 0 ≡ v)
-line-found (u ∷ xs) v zero h (List·Memᴰ·head e) m b f = (omega arith, sym e)
-line-found (u ∷ xs) v (suc r) h (List·Memᴰ·head e) m b f = absurd (omega (arith, b 0 (omega arith)))
-line-found (u ∷ xs) v zero h (List·Memᴰ·tail i) m b f =
-    absurd (omega (arith, f (omega arith), All-at (λ w. u < w) i (h .0)))
-line-found (u ∷ xs) v (suc r) h (List·Memᴰ·tail i) m b f =
-    let g = line-found xs v r (h .1) i (omega arith) (λ k q. b (suc k) (omega arith)) (λ q. f (omega arith)) in
-    (omega (arith, g .0), g .1)
-
 -- rising lines are told apart by their places
 above-at : (u : ℕ) (l : List ℕ) (k : ℕ) → k < length l → All (λ v. u < v) l → u < getD l k 0
 above-at u [] k q a = absurd (omega arith)
@@ -101,11 +94,6 @@ stands-line xs x line m h q e = elim (le-or (length xs) m) [
     go : m < length xs → (t : Bool) → eqb m line ≡ t → eqb x (getD xs m 0) ≡ t
     go r true f = eq-eqb x (getD xs m 0) (sym e ∙ ap (λ i. getD xs i 0) (sym (eqb-true m line f)))
     go r false f = ne-eqb x (getD xs m 0) (λ z. eqb-false m line f (sym (up-same xs line m h q r (e ∙ z))))
-
-All-getD : {A : Type 0} (Q : A → Type 0) (d : A) (l : List A) (k : ℕ) → k < length l → All Q l → Q (getD l k d)
-All-getD Q d [] k h a = absurd (omega arith)
-All-getD Q d (s ∷ l) zero h a = a .0
-All-getD Q d (s ∷ l) (suc k) h a = All-getD Q d l k (omega arith) (a .1)
 
 -- the wall that an edge is, or none
 wall-none : (e : Link Corner) → changes X e ≡ true → wall e ≡ []
@@ -187,22 +175,32 @@ module _ (xs ys : List ℕ) where
             ∙ ap (λ c. flip (odd c) (getD cells n 0)) (sym (count-append (stands xs ys n) us vs));
       }
 
--- what the search for a line says, and what it comes to at a corner's place
-abbrev pub Sought : List ℕ → ℕ → ℕ → Type 0
-Sought xs x line = (line ≤ length xs) × (((i : ℕ) → i < line → getD xs i 0 < x) × (line < length xs → x ≤ getD xs line 0))
+-- the place of a corner of a ring is one of the lines
+ruled-held : (l xs ys : List ℕ) (k : ℕ) → k < length l / 2 → Ruled l xs ys
+    → Member (coordinate X (corner l k)) xs × Member (coordinate Y (corner l k)) ys
+unfolding corner
+ruled-held l xs ys k h ruled =
+    All-getD (λ c. Member (coordinate X c) xs × Member (coordinate Y c) ys) origin (corners l) k (omega (arith, length-corners l)) (ruled .hold)
+
+pub ruled-listed : (l xs ys : List ℕ) (k x : ℕ) → k < length l / 2 → Ruled l xs ys → x ≡ coordinate X (corner l k) → Listed xs x
+ruled-listed l xs ys k x h ruled at-corner =
+    record {
+      rise = ruled .rise-x;
+      among = subst (λ v. Member v xs) (sym at-corner) (ruled-held l xs ys k h ruled .0);
+    }
+
+-- so is the higher end of a wall
+pub ruled-top : (l xs ys : List ℕ) (b k s e hi : ℕ) → b < length l / 2 → k < length l / 2 → Ruled l xs ys
+    → s ≡ coordinate Y (corner l b) → e ≡ coordinate Y (corner l k) → hi ≡ max s e
+    → Listed ys hi
+ruled-top l xs ys b k s e hi p h ruled es ee ehi = record { rise = ruled .rise-y; among = go (le-or s e) }
+  where
+    go : (s ≤ e) ⊎ (e < s) → Member hi ys
+    go (inl q) = let z : hi ≡ e = omega arith in subst (λ v. Member v ys) (sym (z ∙ ee)) (ruled-held l xs ys k h ruled .1)
+    go (inr q) = let z : hi ≡ s = omega arith in subst (λ v. Member v ys) (sym (z ∙ es)) (ruled-held l xs ys b p ruled .1)
 
 module _ (l xs ys cells : List ℕ) (k line x : ℕ) (h : k < length l / 2) (ruled : Ruled l xs ys) (m : Marks cells)
-    (at-corner : x ≡ coordinate X (corner l k)) (sought : Sought xs x line) where
-  ruled-line : (line < length xs) × (getD xs line 0 ≡ x)
-  unfolding corner
-  ruled-line =
-      line-found xs x line (ruled .rise)
-      (subst (λ v. Member v xs) (sym at-corner)
-      (All-getD (λ c. Member (coordinate X c) xs) origin (corners l) k (omega (arith, length-corners l)) (ruled .hold)))
-      (sought .0)
-      (sought .1 .0)
-      (sought .1 .1)
-
+    (at-corner : x ≡ coordinate X (corner l k)) (found : Found xs x line) where
   pub marked-bits : Bits cells ys line
   marked-bits =
       record {
@@ -210,16 +208,15 @@ module _ (l xs ys cells : List ℕ) (k line x : ℕ) (h : k < length l / 2) (rul
         bit = m .bit;
         some = ruled .some;
         most = ruled .rows;
-        column = omega (arith, ruled .columns, ruled-line);
+        column = omega (arith, ruled .columns, found .within);
       }
 
-  -- an edge that is a wall
-  pub marked-wall : (b s e lo hi : ℕ) (t : Bool) (after : List ℕ) → t ≡ changes X (edge l k) → t ≡ false
-      → b ≡ before k (length l / 2) → s ≡ coordinate Y (corner l b) → e ≡ coordinate Y (corner l k) → lo ≡ min s e → hi ≡ max s e
+  pub marked-wall : (b s e lo hi : ℕ) (after : List ℕ) → Upright l b k
+      → s ≡ coordinate Y (corner l b) → e ≡ coordinate Y (corner l k) → lo ≡ min s e → hi ≡ max s e
       → Turned cells ys line lo hi after → length after ≡ length cells
       → Marked xs ys (wall (edge l k)) cells after
   unfolding stands coordinate
-  marked-wall b s e lo hi t after et ef eb es ee elo ehi turned same =
+  marked-wall b s e lo hi after upright es ee elo ehi turned same =
       record {
         marks =
             record {
@@ -235,59 +232,145 @@ module _ (l xs ys cells : List ℕ) (k line x : ℕ) (h : k < length l / 2) (rul
       w = record { x = x; lo = lo; hi = hi }
 
       ends : edge l k ≡ record { from = corner l b; to = corner l k }
-      ends = edge-at l k h ∙ ap (λ i. record { from = corner l i; to = corner l k }) (sym eb)
+      ends = edge-at l k h ∙ ap (λ i. record { from = corner l i; to = corner l k }) (sym (upright .from))
 
       is-wall : wall (edge l k) ≡ w ∷ []
       is-wall =
-          wall-some (edge l k) (sym et ∙ ef)
+          wall-some (edge l k) (upright .keeps)
           ∙ ap (λ z. record { x = z .to .x; lo = min (z .from .y) (z .to .y); hi = max (z .from .y) (z .to .y) } ∷ []) ends
           ∙ ap (λ z. record { x = z; lo = min (corner l b .y) (corner l k .y); hi = max (corner l b .y) (corner l k .y) } ∷ []) (sym at-corner)
           ∙ ap₂ (λ u v. record { x = x; lo = u; hi = v } ∷ []) (ap₂ min (sym es) (sym ee) ∙ sym elo) (ap₂ max (sym es) (sym ee) ∙ sym ehi)
 
       hit : (n : ℕ) → (eqb (n / 16) line && span ys lo hi (n % 16)) ≡ odd (count (stands xs ys n) (wall (edge l k)))
       hit n =
-          ap (λ b. b && span ys lo hi (n % 16)) (sym (stands-line xs x line (n / 16) (ruled .rise) (ruled-line .0) (ruled-line .1)))
+          ap (λ b. b && span ys lo hi (n % 16)) (sym (stands-line xs x line (n / 16) (ruled .rise-x) (found .within) (found .there)))
           ∙ sym (ap (λ ws. odd (count (stands xs ys n) ws)) is-wall ∙ ap odd (count-one (stands xs ys n) w) ∙ odd-only (stands xs ys n w))
 
--- an edge that is no wall
-pub marked-flat : (l xs ys cells : List ℕ) (k : ℕ) (t : Bool) → Marks cells → t ≡ changes X (edge l k) → t ≡ true
-    → Marked xs ys (wall (edge l k)) cells cells
-marked-flat l xs ys cells k t m e f =
-    subst (λ ws. Marked xs ys ws cells cells) (sym (wall-none (edge l k) (sym e ∙ f))) (marked-none xs ys cells m)
+-- the corner before a wall's end
+pub upright-before : (l : List ℕ) (b k : ℕ) → k < length l / 2 → Upright l b k → b < length l / 2
+upright-before l b k h u = omega (arith, u .from, before-less k (length l / 2) h)
 
--- the edges of a ring
-module _ (l xs ys cells : List ℕ) (m : Marks cells) where
-  pub ring-start : Marked xs ys (walls (take 0 (edges (corners l)))) cells cells
+-- the edges of a ring from the edge k on
+walls-drop : (l : List ℕ) (k : ℕ) → k < length l / 2 → walls (drop k (edges (corners l))) ≡ wall (edge l k) ++ walls (drop (k + 1) (edges (corners l)))
+unfolding walls join edge
+walls-drop l k h =
+    ap (join wall) (drop-cons (edges (corners l)) k (still origin) (omega (arith, length-edges l)))
+    ∙ ap (λ m. wall (getD (edges (corners l)) k (still origin)) ++ join wall (drop m (edges (corners l)))) (sym (add-one k))
+
+-- an edge that is no wall adds none
+walls-flat : (l : List ℕ) (k : ℕ) → (k < length l / 2 → changes X (edge l k) ≡ true)
+    → walls (drop k (edges (corners l))) ≡ walls (drop (k + 1) (edges (corners l)))
+walls-flat l k h = elim (le-or (length l / 2) k) [
+  | inl q ↦
+      ap walls
+      (drop-of-length-le (edges (corners l)) {i = k} (omega (arith, length-edges l))
+      ∙ sym (drop-of-length-le (edges (corners l)) {i = k + 1} (omega (arith, length-edges l))))
+  | inr q ↦ walls-drop l k q ∙ ap (λ ws. ws ++ walls (drop (k + 1) (edges (corners l)))) (wall-none (edge l k) (h q))
+]
+
+-- a wall, and the edge after it
+walls-two : (l xs ys : List ℕ) (k : ℕ) → Ruled l xs ys → k < length l / 2 → changes X (edge l k) ≡ false
+    → walls (drop k (edges (corners l))) ≡ wall (edge l k) ++ walls (drop (k + 2) (edges (corners l)))
+walls-two l xs ys k ruled h e =
+    let z : k + 1 + 1 ≡ k + 2 = omega arith in
+    walls-drop l k h
+    ∙ ap (λ ws. wall (edge l k) ++ ws)
+    (walls-flat l (k + 1) (λ p. ruled .by-turns k p ∙ ap not e) ∙ ap (λ n. walls (drop n (edges (corners l)))) z)
+
+walled-two : (l xs ys : List ℕ) (k : ℕ) → Ruled l xs ys → (k < length l / 2 → changes X (edge l k) ≡ false) → Walled l (k + 2)
+walled-two l xs ys k ruled e = record { some = omega arith; keeps = keeps }
+  where
+    keeps : k + 2 < length l / 2 → changes X (edge l (k + 2)) ≡ false
+    keeps p =
+        let z : k + 2 ≡ k + 1 + 1 = omega arith in
+        ap (λ n. changes X (edge l n)) z
+        ∙ ruled .by-turns (k + 1) (omega arith)
+        ∙ ap not (ruled .by-turns k (omega arith) ∙ ap not (e (omega arith)))
+
+-- on the way: once the walls from the edge k on are marked, those from the edge `first` on are
+pub record Edges (l xs ys cells : List ℕ) (first : ℕ) (after : List ℕ) (k : ℕ) : Type 0 where
+  pub walled : Walled l k
+  pub marks : Marks after
+  pub rest : (last : List ℕ) → Marked xs ys (walls (drop k (edges (corners l)))) after last
+      → Marked xs ys (walls (drop first (edges (corners l)))) cells last
+
+pub edges-start : (l xs ys cells : List ℕ) (first : ℕ) → Walled l first → Marks cells → Edges l xs ys cells first cells first
+edges-start l xs ys cells first w m = record { walled = w; marks = m; rest = λ last h. h }
+
+module _ (l xs ys cells : List ℕ) (first : ℕ) (middle : List ℕ) (k : ℕ) (ruled : Ruled l xs ys) (e : Edges l xs ys cells first middle k) where
+  pub edges-upright : k < length l / 2 → Upright l (k - 1) k
+  edges-upright h = record { from = before-some k (length l / 2) (λ z. omega (arith, e .walled .some)); keeps = e .walled .keeps h }
+
+  pub edges-more : (after : List ℕ) → k < length l / 2 → Marked xs ys (wall (edge l k)) middle after → Edges l xs ys cells first after (k + 2)
+  edges-more after h q =
+      record {
+        walled = walled-two l xs ys k ruled (e .walled .keeps);
+        marks = q .marks;
+        rest =
+            λ last r.
+            e .rest last
+            (subst (λ ws. Marked xs ys ws middle last) (sym (walls-two l xs ys k ruled h (e .walled .keeps h)))
+            (marked-more xs ys (wall (edge l k)) (walls (drop (k + 2) (edges (corners l)))) middle after last (e .marks) q r));
+      }
+
+  pub edges-end : length l / 2 ≤ k → Marked xs ys (walls (drop first (edges (corners l)))) cells middle
   unfolding walls join
-  ring-start = marked-none xs ys cells m
+  edges-end h =
+      e .rest middle
+      (subst (λ es. Marked xs ys (walls es) middle middle) (sym (drop-of-length-le (edges (corners l)) {i = k} (omega (arith, length-edges l))))
+      (marked-none xs ys middle (e .marks)))
 
-  walls-more : (k : ℕ) → k < length l / 2 → walls (take (k + 1) (edges (corners l))) ≡ walls (take k (edges (corners l))) ++ wall (edge l k)
-  unfolding walls edge
-  walls-more k h =
-      ap (λ m. join wall (take m (edges (corners l)))) (add-one k)
-      ∙ ap (join wall) (take-suc (edges (corners l)) k (still origin) (omega (arith, length-edges l)))
-      ∙ join-append wall (take k (edges (corners l))) (getD (edges (corners l)) k (still origin) ∷ [])
-      ∙ ap (λ z. join wall (take k (edges (corners l))) ++ z) (join-one wall (getD (edges (corners l)) k (still origin)))
+-- a ring whose closing edge is no wall; one whose closing edge is
+module _ (l xs ys : List ℕ) (t : Bool) (ruled : Ruled l xs ys) (told : t ≡ changes X (edge l 0)) where
+  pub flat-walled : t ≡ true → Walled l 1
+  flat-walled e = record { some = omega arith; keeps = λ h. ruled .by-turns 0 h ∙ ap not (sym told ∙ e) }
 
-  pub ring-more : (k : ℕ) (middle after : List ℕ) → k < length l / 2 → Marked xs ys (walls (take k (edges (corners l)))) cells middle
-      → Marked xs ys (wall (edge l k)) middle after
-      → Marked xs ys (walls (take (k + 1) (edges (corners l)))) cells after
-  ring-more k middle after h p q =
-      subst (λ ws. Marked xs ys ws cells after) (sym (walls-more k h))
-      (marked-more xs ys (walls (take k (edges (corners l)))) (wall (edge l k)) cells middle after m p q)
-
-  pub ring-end : (k : ℕ) (after : List ℕ) → length l / 2 ≤ k → Marked xs ys (walls (take k (edges (corners l)))) cells after
+  pub flat-ring : (cells after : List ℕ) → t ≡ true → Marked xs ys (walls (drop 1 (edges (corners l)))) cells after
       → Marked xs ys (walls (edges (corners l))) cells after
-  ring-end k after h p =
-      subst (λ es. Marked xs ys (walls es) cells after) (take-all k (edges (corners l)) (omega (arith, length-edges l))) p
+  flat-ring cells after e h =
+      subst (λ ws. Marked xs ys ws cells after) (sym (walls-flat l 0 (λ q. sym told ∙ e))) h
 
--- the rings of a figure: those passed are marked, and the lines hold the corners of the others
+  pub wall-upright : t ≡ false → Upright l (length l / 2 - 1) 0
+  wall-upright e = record { from = before-none 0 (length l / 2) refl; keeps = sym told ∙ e }
+
+  pub wall-walled : t ≡ false → Walled l 2
+  wall-walled e = walled-two l xs ys 0 ruled (λ h. sym told ∙ e)
+
+  pub wall-ring : (cells middle after : List ℕ) → t ≡ false → Marks cells → Marked xs ys (wall (edge l 0)) cells middle
+      → Marked xs ys (walls (drop 2 (edges (corners l)))) middle after
+      → Marked xs ys (walls (edges (corners l))) cells after
+  wall-ring cells middle after e m p q =
+      subst (λ ws. Marked xs ys ws cells after) (sym (walls-two l xs ys 0 ruled (ruled .corner-some) (sym told ∙ e)))
+      (marked-more xs ys (wall (edge l 0)) (walls (drop 2 (edges (corners l)))) cells middle after m p q)
+
+-- the edges of a ring that passes 3 and 4 keep x by turns
+turns-at : (l : List ℕ) → slanted (corners l) ≡ false → unturned (corners l) ≡ false → (k : ℕ) → k + 1 < length l / 2
+    → changes X (edge l (k + 1)) ≡ not (changes X (edge l k))
+unfolding edge
+turns-at l s u k h =
+    subst (λ t. changes X (t .to) ≡ not (changes X (t .from))) ends
+    (All-getD (λ t. changes X (t .to) ≡ not (changes X (t .from))) (still (still origin)) (around (edges (corners l))) (k + 1)
+    (omega (arith, length-around (edges (corners l)), length-edges l))
+    (turns-other (corners l) s u X))
+  where
+    last : before (k + 1) (length (edges (corners l))) ≡ k
+    last =
+        let z : k + 1 - 1 ≡ k = omega arith in
+        sym (before-some (k + 1) (length (edges (corners l))) (λ e. omega arith)) ∙ z
+
+    ends : getD (around (edges (corners l))) (k + 1) (still (still origin)) ≡ record { from = edge l k; to = edge l (k + 1) }
+    ends =
+        around-at (still origin) (edges (corners l)) (k + 1) (omega (arith, length-edges l))
+        ∙ ap (λ i. record { from = getD (edges (corners l)) i (still origin); to = getD (edges (corners l)) (k + 1) (still origin) }) last
+
+-- the rings of a figure: those passed are marked; the lines hold the corners of the others, and these pass 3 and 4
 pub record Rings (l ns xs ys cells : List ℕ) (after : List ℕ) (from k : ℕ) : Type 0 where
   pub reached : Reached l ns from k
   pub done : List Wall
   pub split : walls (edgesOf (figure l ns)) ≡ done ++ walls (join edges (map corners (share (drop k ns) (drop from l))))
   pub marked : Marked xs ys done cells after
-  pub hold : All (λ c. Member (coordinate X c) xs) (join (λ r. r) (map corners (share (drop k ns) (drop from l))))
+  pub hold : All (λ c. Member (coordinate X c) xs × Member (coordinate Y c) ys) (join (λ r. r) (map corners (share (drop k ns) (drop from l))))
+  pub turned : All RightAngled (map corners (share (drop k ns) (drop from l)))
 
 module _ (l ns xs ys cells : List ℕ) (lined : Lined (figure l ns) xs ys) (m : Marks cells) where
   pub rings-start : Rings l ns xs ys cells cells 0 0
@@ -298,8 +381,10 @@ module _ (l ns xs ys cells : List ℕ) (lined : Lined (figure l ns) xs ys) (m : 
         split = refl;
         marked = marked-none xs ys cells m;
         hold =
-            subst (λ us. All (λ c. Member (coordinate X c) us) (cornersOf (figure l ns))) (sym (lined .across-x))
-            (corners-lines X (cornersOf (figure l ns)));
+            All-both (λ c. Member (coordinate X c) xs) (λ c. Member (coordinate Y c) ys) (cornersOf (figure l ns))
+            (subst (λ us. All (λ c. Member (coordinate X c) us) (cornersOf (figure l ns))) (sym (lined .across-x)) (corners-lines X (cornersOf (figure l ns))))
+            (subst (λ us. All (λ c. Member (coordinate Y c) us) (cornersOf (figure l ns))) (sym (lined .across-y)) (corners-lines Y (cornersOf (figure l ns))));
+        turned = right-angled (figure l ns) (lined .right);
       }
 
   module _ (from k n to : ℕ) (after : List ℕ) (r : Rings l ns xs ys cells after from k) (here : k < length ns) (long : n ≡ getD ns k 0)
@@ -310,20 +395,28 @@ module _ (l ns xs ys cells : List ℕ) (lined : Lined (figure l ns) xs ys) (m : 
     pub rings-room : (from ≤ to) × (to ≤ length l)
     rings-room = reached-room l ns from k n to here long ends (r .reached)
 
-    held : All (λ c. Member (coordinate X c) xs) (corners (take (to - from) (drop from l)))
-        × All (λ c. Member (coordinate X c) xs) (join (λ r. r) (map corners (share (drop (k + 1) ns) (drop to l))))
+    abbrev Held : Corner → Type 0
+    Held c = Member (coordinate X c) xs × Member (coordinate Y c) ys
+
+    held : All Held (corners (take (to - from) (drop from l))) × All Held (join (λ r. r) (map corners (share (drop (k + 1) ns) (drop to l))))
     unfolding join
     held =
-        All-parts (λ c. Member (coordinate X c) xs) (corners (take (to - from) (drop from l))) (join (λ r. r) (map corners (share (drop (k + 1) ns) (drop to l))))
-        (subst (λ rs. All (λ c. Member (coordinate X c) xs) (join (λ r. r) (map corners rs))) next (r .hold))
+        All-parts Held (corners (take (to - from) (drop from l))) (join (λ r. r) (map corners (share (drop (k + 1) ns) (drop to l))))
+        (subst (λ rs. All Held (join (λ r. r) (map corners rs))) next (r .hold))
+
+    turned : RightAngled (corners (take (to - from) (drop from l))) × All RightAngled (map corners (share (drop (k + 1) ns) (drop to l)))
+    turned = subst (λ rs. All RightAngled (map corners rs)) next (r .turned)
 
     pub rings-ruled : Ruled (take (to - from) (drop from l)) xs ys
     rings-ruled =
         let x = right-lines (figure l ns) (lined .right) X in
         let y = right-lines (figure l ns) (lined .right) Y in
         record {
-          rise = subst Up (sym (lined .across-x)) (lines-up X (cornersOf (figure l ns)));
+          rise-x = subst Up (sym (lined .across-x)) (lines-up X (cornersOf (figure l ns)));
+          rise-y = subst Up (sym (lined .across-y)) (lines-up Y (cornersOf (figure l ns)));
           hold = held .0;
+          corner-some = reached-some l ns from k n to here long ends (r .reached) (lined .right .figure-good);
+          by-turns = turns-at (take (to - from) (drop from l)) (turned .0 .0) (turned .0 .1);
           columns = omega (arith, x, ap length (lined .across-x));
           some = omega (arith, y, ap length (lined .across-y));
           rows = omega (arith, y, ap length (lined .across-y));
@@ -343,6 +436,7 @@ module _ (l ns xs ys cells : List ℕ) (lined : Lined (figure l ns) xs ys) (m : 
               ∙ sym (append-assoc (r .done) ring (walls (join edges (map corners (share (drop (k + 1) ns) (drop to l))))));
           marked = marked-more xs ys (r .done) ring cells after last m (r .marked) h;
           hold = held .1;
+          turned = turned .1;
         }
       where
         ring : List Wall

@@ -1,15 +1,18 @@
--- How the marks reach to the right, cell by cell. Assumes nothing.
+-- How the marks reach to the right, column by column and cell by cell. Assumes nothing.
 --
---   Sweeping cells end now k    == on the way to the end: below k the cells have taken in those left of them, from k on they are as they were
---   sweeping-start, -more, -end == the first column stays; one more cell; all of them
+--   Sweeping cells first now j  == on the way: of the column whose cells begin at first, the first j have taken in those left of them; all
+--                                  others are as they were
+--   sweeping-start, -more, -end == none yet; one more cell; all of them, so one more column is swept
 --   sweeping-bits               == what is added are bits
+--   swept-start, -end           == the first column stays; all of them
+--   swept-marks                 == what is swept is marks again
 --   swept-bit                   == so is what comes of it
 --   lit-some, lit-none          == a cell that is inside is found, or there is none
 use Prim.Native.Nat.{ℕ, zero, suc, _+_, _*_, _-_, _/_, _%_, _≤_, _<_}
-use mathlib.Core.Path.{_≡_, refl, sym, _∙_, ap, ap₂}
+use mathlib.Core.Path.{_≡_, refl, sym, _∙_, ap, ap₂, subst}
 use mathlib.Core.Bool.{true, false, not}
 use mathlib.Core.List.{List}
-use mathlib.Core.Logic.{inl, inr}
+use mathlib.Core.Logic.{_⊎_, inl, inr}
 use native.Mathlib.Omega.{arith}
 use lib.ListN.{length, getD, set, length-set}
 use lib.Seq.{getD-set-same, getD-set-other}
@@ -24,69 +27,106 @@ unfolding swept
 swept-bit cells h zero j = h .bit j
 swept-bit cells h (suc i) j = omega arith
 
-pub record Sweeping (cells : List ℕ) (end : ℕ) (now : List ℕ) (k : ℕ) : Type 0 where
-  pub most : k ≤ end
-  pub some : 16 ≤ k
+-- one column
+pub record Sweeping (cells : List ℕ) (first : ℕ) (now : List ℕ) (j : ℕ) : Type 0 where
+  pub most : j ≤ 16
   pub same : length now ≡ length cells
-  pub done : (i j : ℕ) → j < 16 → 16 * i + j < k → getD now (16 * i + j) 0 ≡ swept cells i j
-  pub rest : (n : ℕ) → k ≤ n → getD now n 0 ≡ getD cells n 0
+  pub done : (k : ℕ) → k < j → getD now (first + k) 0 ≡ (getD cells (first + k - 16) 0 + getD cells (first + k) 0) % 2
+  pub rest : (n : ℕ) → (n < first) ⊎ (first + j ≤ n) → getD now n 0 ≡ getD cells n 0
 
-pub sweeping-start : (cells : List ℕ) (end : ℕ) → 16 ≤ end → Sweeping cells end cells 16
-unfolding swept
-sweeping-start cells end e =
-    record {
-      most = omega arith;
-      some = omega arith;
-      same = refl;
-      done = λ i j h q. first i j h q;
-      rest = λ n q. refl;
-    }
-  where
-    first : (i j : ℕ) → j < 16 → 16 * i + j < 16 → getD cells (16 * i + j) 0 ≡ swept cells i j
-    first zero j h q = let z : 16 * 0 + j ≡ j = omega arith in ap (λ n. getD cells n 0) z
-    first (suc i) j h q = absurd (omega arith)
+pub sweeping-start : (cells : List ℕ) (first : ℕ) → Sweeping cells first cells 0
+sweeping-start cells first = record { most = omega arith; same = refl; done = λ k q. absurd (omega arith); rest = λ n q. refl }
 
-module _ (cells : List ℕ) (end : ℕ) (now : List ℕ) (k : ℕ) (marks : Marks cells) (h : Sweeping cells end now k) where
-  -- the cell to the left is done
-  left : (i j : ℕ) → j < 16 → 16 * suc i + j ≡ k → getD now (k - 16) 0 ≡ swept cells i j
-  left i j q e = let z : k - 16 ≡ 16 * i + j = omega arith in ap (λ n. getD now n 0) z ∙ h .done i j q (omega (arith, h .some))
+module _ (cells : List ℕ) (first : ℕ) (now : List ℕ) (j : ℕ) (h : Sweeping cells first now j) where
+  -- the cell and the one on its left are as they were
+  left : 16 ≤ first → j < 16 → getD now (first + j - 16) 0 ≡ getD cells (first + j - 16) 0
+  left s q = h .rest (first + j - 16) (inl (omega arith))
 
-  pub sweeping-bits : (getD now (k - 16) 0 ≤ 1) × (getD now k 0 ≤ 1)
-  sweeping-bits =
-      let z : 16 * suc (k / 16 - 1) + k % 16 ≡ k = omega (arith, h .some) in (
-        omega (arith, left (k / 16 - 1) (k % 16) (omega arith) z, swept-bit cells marks (k / 16 - 1) (k % 16)),
-        omega (arith, h .rest k (omega arith), marks .bit k),
-      )
+  here : getD now (first + j) 0 ≡ getD cells (first + j) 0
+  here = h .rest (first + j) (inr (omega arith))
 
-  pub sweeping-more : k < end → end ≤ 256 → Sweeping cells end (set now k ((getD now (k - 16) 0 + getD now k 0) % 2)) (k + 1)
-  unfolding swept
-  sweeping-more q t =
+  pub sweeping-bits : Marks cells → 16 ≤ first → j < 16 → (getD now (first + j - 16) 0 ≤ 1) × (getD now (first + j) 0 ≤ 1)
+  sweeping-bits marks s q = (omega (arith, left s q, marks .bit (first + j - 16)), omega (arith, here, marks .bit (first + j)))
+
+  pub sweeping-more : 16 ≤ first → j < 16 → first + j < length cells
+      → Sweeping cells first (set now (first + j) ((getD now (first + j - 16) 0 + getD now (first + j) 0) % 2)) (j + 1)
+  sweeping-more s q t =
       record {
         most = omega arith;
-        some = omega (arith, h .some);
-        same = length-set now k v ∙ h .same;
-        done = λ i j p r. elim (le-or k (16 * i + j)) [
-          | inl s ↦ here i j p (omega arith)
-          | inr s ↦ other (16 * i + j) (λ z. omega arith) ∙ h .done i j p s
-        ];
-        rest = λ n p. other n (λ z. omega arith) ∙ h .rest n (omega arith);
+        same = length-set now (first + j) v ∙ h .same;
+        done = done′;
+        rest = λ n p. other n (away n p) ∙ h .rest n (part n p);
       }
     where
       v : ℕ
-      v = (getD now (k - 16) 0 + getD now k 0) % 2
+      v = (getD now (first + j - 16) 0 + getD now (first + j) 0) % 2
 
-      other : (n : ℕ) → (n ≡ k → ⊥) → getD (set now k v) n 0 ≡ getD now n 0
-      other n d = getD-set-other now k n v 0 d
+      other : (n : ℕ) → (n ≡ first + j → ⊥) → getD (set now (first + j) v) n 0 ≡ getD now n 0
+      other n d = getD-set-other now (first + j) n v 0 d
 
-      here : (i j : ℕ) → j < 16 → 16 * i + j ≡ k → getD (set now k v) (16 * i + j) 0 ≡ swept cells i j
-      here zero j p e = absurd (omega (arith, h .some))
-      here (suc i) j p e =
-          ap (λ n. getD (set now k v) n 0) e
-          ∙ getD-set-same now k v 0 (omega (arith, h .same, marks .length-cells))
-          ∙ ap₂ (λ a b. (a + b) % 2) (left i j p e) (h .rest k (omega arith) ∙ ap (λ n. getD cells n 0) (sym e))
+      away : (n : ℕ) → (n < first) ⊎ (first + (j + 1) ≤ n) → n ≡ first + j → ⊥
+      away n (inl p) z = omega arith
+      away n (inr p) z = omega arith
 
-  pub sweeping-end : (lines : ℕ) → end ≡ 16 * lines → end ≤ k → Swept lines cells now
-  sweeping-end lines e q = record { at = λ i j p r. h .done i j r (omega arith); rest = λ n p. h .rest n (omega (arith, h .most)) }
+      part : (n : ℕ) → (n < first) ⊎ (first + (j + 1) ≤ n) → (n < first) ⊎ (first + j ≤ n)
+      part n (inl p) = inl p
+      part n (inr p) = inr (omega arith)
+
+      done′ : (k : ℕ) → k < j + 1 → getD (set now (first + j) v) (first + k) 0 ≡ (getD cells (first + k - 16) 0 + getD cells (first + k) 0) % 2
+      done′ k p = elim (le-or j k) [
+        | inl r ↦
+            (let z : k ≡ j = omega arith in
+            rw z (getD-set-same now (first + j) v 0 (omega (arith, h .same)) ∙ ap₂ (λ a b. (a + b) % 2) (left s q) here))
+        | inr r ↦ other (first + k) (λ z. omega arith) ∙ h .done k r
+      ]
+
+  -- so one more column is swept
+  pub sweeping-end : (i : ℕ) → first ≡ 16 * i → 1 ≤ i → 16 ≤ j → (start : List ℕ) → Swept i start cells → Swept (i + 1) start now
+  unfolding swept
+  sweeping-end i e s q start w =
+      record {
+        at = λ m k p r. elim (le-or i m) [
+          | inl t ↦ (let z : m ≡ i = omega arith in column m k z r)
+          | inr t ↦ h .rest (16 * m + k) (inl (omega arith)) ∙ w .at m k t r
+        ];
+        rest = λ n p. h .rest n (inr (omega (arith, h .most))) ∙ w .rest n (omega arith);
+      }
+    where
+      column : (m k : ℕ) → m ≡ i → k < 16 → getD now (16 * m + k) 0 ≡ swept start m k
+      column zero k z r = absurd (omega arith)
+      column (suc m) k z r =
+          let a : 16 * suc m + k ≡ first + k = omega arith in
+          let b : first + k - 16 ≡ 16 * m + k = omega arith in
+          let c : first + k ≡ 16 * suc m + k = omega arith in
+          ap (λ n. getD now n 0) a
+          ∙ h .done k (omega arith)
+          ∙ ap₂ (λ u v. (u + v) % 2)
+          (ap (λ n. getD cells n 0) b ∙ w .at m k (omega arith) r)
+          (ap (λ n. getD cells n 0) c ∙ w .rest (16 * suc m + k) (omega arith))
+
+-- all columns
+pub swept-start : (cells : List ℕ) → Swept 1 cells cells
+unfolding swept
+swept-start cells = record { at = first; rest = λ n q. refl }
+  where
+    first : (i j : ℕ) → i < 1 → j < 16 → getD cells (16 * i + j) 0 ≡ swept cells i j
+    first zero j h q = let z : 16 * 0 + j ≡ j = omega arith in ap (λ n. getD cells n 0) z
+    first (suc i) j h q = absurd (omega arith)
+
+pub swept-marks : (cells now : List ℕ) (i : ℕ) → Marks cells → length now ≡ length cells → Swept i cells now → Marks now
+swept-marks cells now i marks same w =
+    record {
+      length-cells = same ∙ marks .length-cells;
+      bit = λ n. elim (le-or (16 * i) n) [
+        | inl q ↦ omega (arith, w .rest n q, marks .bit n)
+        | inr q ↦
+            (let z : 16 * (n / 16) + n % 16 ≡ n = omega arith in
+            omega (arith, ap (λ m. getD now m 0) z, w .at (n / 16) (n % 16) (omega arith) (omega arith), swept-bit cells marks (n / 16) (n % 16)))
+      ];
+    }
+
+pub swept-end : (cells now : List ℕ) (i lines : ℕ) → i ≤ lines → lines ≤ i → Swept i cells now → Swept lines cells now
+swept-end cells now i lines p q w = let z : i ≡ lines = omega arith in subst (λ n. Swept n cells now) z w
 
 -- a search of the cells
 pub lit-some : (cells : List ℕ) (k : ℕ) → k < length cells → (getD cells k 0 ≡ 0 → ⊥) → true ≡ any lit cells

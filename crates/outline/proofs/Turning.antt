@@ -2,8 +2,10 @@
 --
 --   Turning cells ys first lo hi now j   == on the way: of the cells from `first` on, the first j are turned over in `now`
 --   turning-start, -more, -end           == none; one more; all of them
---   covered-both, covered-not            == the test of a span, by its low end first
-use Prim.Native.Nat.{ℕ, _+_, _*_, _-_, _/_, _%_, _≤_, _<_}
+--   begins-both, begins-not              == the test of a row's bottom, by the low end of the span first
+--   begins-covered                       == a row that begins below a line ends there or below
+use Prim.Native.Nat.{ℕ, suc, _+_, _*_, _-_, _/_, _%_, _≤_, _<_}
+use native.Mathlib.Numerals.{add-one}
 use mathlib.Core.Path.{_≡_, refl, sym, _∙_, ap, ap₂}
 use mathlib.Core.Bool.{Bool, true, false, _&&_, and-false}
 use mathlib.Core.List.{List}
@@ -14,16 +16,44 @@ use lib.ListN.{length, getD, set, length-set}
 use lib.Seq.{getD-set-same, getD-set-other}
 use borrow.Author.Tests.{le-leb, lt-leb, lt-ltb, le-ltb, eq-eqb, ne-eqb}
 use Rattle.sum.proofs.Sum.{le-or}
-use Rattle.outline.specs.Steps.{flip, covered, span, Bits, Turned}
+use Rattle.sum.proofs.Lists.{All-at}
+use Rattle.figure.proofs.Inside.{Beside}
+use Rattle.outline.specs.Lines.{place}
+use Rattle.outline.specs.Steps.{flip, covered, begins, span, Listed, Bits, Turned}
+use Rattle.outline.proofs.Lines.{beside, place-at, place-rises}
 
-module _ (lo hi bottom top : ℕ) where
-  pub covered-both : lo ≤ bottom → leb top hi ≡ covered lo hi bottom top
-  unfolding covered
-  covered-both h = sym (ap (λ t. t && leb top hi) (le-leb lo bottom h))
+module _ (lo hi bottom : ℕ) where
+  pub begins-both : lo ≤ bottom → ltb bottom hi ≡ begins lo hi bottom
+  unfolding begins
+  begins-both h = sym (ap (λ t. t && ltb bottom hi) (le-leb lo bottom h))
 
-  pub covered-not : bottom < lo → leb lo bottom ≡ covered lo hi bottom top
-  unfolding covered
-  covered-not h = lt-leb lo bottom h ∙ sym (ap (λ t. t && leb top hi) (lt-leb lo bottom h))
+  pub begins-not : bottom < lo → leb lo bottom ≡ begins lo hi bottom
+  unfolding begins
+  begins-not h = lt-leb lo bottom h ∙ sym (ap (λ t. t && ltb bottom hi) (lt-leb lo bottom h))
+
+begins-covered : (ys : List ℕ) (lo hi j : ℕ) → Listed ys hi → j + 1 < length ys
+    → begins lo hi (getD ys j 0) ≡ covered lo hi (getD ys j 0) (getD ys (j + 1) 0)
+unfolding begins covered
+begins-covered ys lo hi j listed h =
+    ap (λ t. leb lo (getD ys j 0) && t)
+    (go (All-at (Beside (place ys j) (place ys (suc j))) (listed .among) (beside ys (listed .rise) j (omega arith))))
+  where
+    bottom : place ys j ≡ getD ys j 0
+    bottom = place-at ys j (omega arith)
+
+    top : place ys (suc j) ≡ getD ys (j + 1) 0
+    top = place-at ys (suc j) (omega arith) ∙ ap (λ n. getD ys n 0) (sym (add-one j))
+
+    rises : place ys j < place ys (suc j)
+    rises = place-rises ys (listed .rise) j (omega arith)
+
+    go : Beside (place ys j) (place ys (suc j)) hi → ltb (getD ys j 0) hi ≡ leb (getD ys (j + 1) 0) hi
+    go (inl q) =
+        le-ltb (getD ys j 0) hi (omega (arith, bottom))
+        ∙ sym (lt-leb (getD ys (j + 1) 0) hi (omega (arith, bottom, top, rises)))
+    go (inr q) =
+        lt-ltb (getD ys j 0) hi (omega (arith, bottom, top, rises))
+        ∙ sym (le-leb (getD ys (j + 1) 0) hi (omega (arith, top)))
 
 pub flip-true : (t : Bool) (n : ℕ) → t ≡ true → 1 - n ≡ flip t n
 unfolding flip
@@ -50,11 +80,11 @@ module _ (cells ys : List ℕ) (first lo hi : ℕ) (now : List ℕ) (j : ℕ) (h
   pub turning-bit : (line : ℕ) → Bits cells ys line → getD now (first + j) 0 ≤ 1
   turning-bit line b = omega (arith, turning-here, b .bit (first + j))
 
-  pub turning-more : (b : Bool) (v bottom top : ℕ) → bottom ≡ getD ys j 0 → top ≡ getD ys (j + 1) 0 → b ≡ covered lo hi bottom top
+  pub turning-more : Listed ys hi → (b : Bool) (v bottom : ℕ) → bottom ≡ getD ys j 0 → b ≡ begins lo hi bottom
       → v ≡ flip b (getD now (first + j) 0)
       → first + j < length cells → j + 1 < length ys
       → Turning cells ys first lo hi (set now (first + j) v) (j + 1)
-  turning-more b v bottom top eb et e f k m =
+  turning-more listed b v bottom eb e f k m =
       record {
         most = omega arith;
         same = length-set now (first + j) v ∙ h .same;
@@ -77,7 +107,7 @@ module _ (cells ys : List ℕ) (first lo hi : ℕ) (now : List ℕ) (j : ℕ) (h
       done′ i q = elim (le-or j i) [
         | inl r ↦
             (let z : i ≡ j = omega arith in
-            rw z (getD-set-same now (first + j) v 0 (omega (arith, h .same)) ∙ f ∙ ap₂ flip (e ∙ ap₂ (covered lo hi) eb et) turning-here))
+            rw z (getD-set-same now (first + j) v 0 (omega (arith, h .same)) ∙ f ∙ ap₂ flip (e ∙ ap (begins lo hi) eb ∙ begins-covered ys lo hi j listed m) turning-here))
         | inr r ↦ other (first + i) (λ z. omega arith) ∙ h .done i r
       ]
 

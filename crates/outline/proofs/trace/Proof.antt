@@ -6,6 +6,7 @@ use borrow.Author.Needs.{needs}
 use Rattle.figure.specs.declared.Axis.the-variants.{X, Y}
 use Rattle.figure.proofs.Sharing.{corners-whole}
 use Rattle.outline.specs.Lines.{lines}
+use Rattle.outline.proofs.Evens.{right-halved}
 use Rattle.outline.proofs.Marking.{right-whole}
 use Rattle.outline.proofs.Promise.{front-within, front-lines, front-length, sheet-whole}
 use Rattle.outline.proofs.trace.Statement.{statement}
@@ -14,12 +15,12 @@ use Rattle.outline.proofs.trace.Tie as tie
 gather-requires : tie.Need-gather-requires
 gather-requires c κs =
     let p = c .before .before .before .before .before .before .pre in
-    omega (arith, right-whole _ (p .0) X .1, ap length (p .1 .xs-clear))
+    right-halved _ (p .0) X _ (omega (arith, right-whole _ (p .0) X .1, ap length (p .1 .xs-clear)))
 
 gather-requires-2 : tie.Need-gather-requires-2
 gather-requires-2 c κs =
     let p = c .before .before .before .before .before .before .before .before .before .before .pre in
-    omega (arith, right-whole _ (p .0) Y .1, ap length (p .1 .ys-clear))
+    right-halved _ (p .0) Y _ (omega (arith, right-whole _ (p .0) Y .1, ap length (p .1 .ys-clear)))
 
 slice-reshare-prefix-shade : tie.Need-slice-reshare-prefix-shade
 slice-reshare-prefix-shade c =

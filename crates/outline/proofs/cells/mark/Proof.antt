@@ -1,22 +1,11 @@
--- `outline::cells::mark` meets its contract. An edge that is no wall marks nothing; a wall turns over the cells that it covers. Assumes nothing.
+-- `outline::cells::mark` meets its contract. A wall turns over the cells that it covers. Assumes nothing.
 use borrow.Author.Needs.{needs}
-use Rattle.outline.proofs.Marking.{marked-bits, marked-flat, marked-wall}
+use Rattle.outline.proofs.Marking.{upright-before, ruled-listed, ruled-top, marked-bits, marked-wall}
 use Rattle.outline.proofs.cells.mark.Statement.{statement}
 use Rattle.outline.proofs.cells.mark.Tie as tie
 
-changes-requires : tie.Need-changes-requires
-changes-requires c κs = search needs
-
-returns : tie.Need-returns
-returns c =
-    let s = c .before .before .before .before .before .before in
-    marked-flat _ _ _ _ _ _ (s .pre .1 .1) (c .before .changes .ensures) (c .if1 .taken)
-
-before-requires : tie.Need-before-requires
-before-requires c κs = search needs
-
 along-requires : tie.Need-along-requires
-along-requires c κs = search needs
+along-requires c κs = let s = c .before .before .before .before in upright-before _ _ _ (s .pre .0) (s .pre .1 .0)
 
 along-requires-2 : tie.Need-along-requires-2
 along-requires-2 c κs = search needs
@@ -25,7 +14,9 @@ along-requires-3 : tie.Need-along-requires-3
 along-requires-3 c κs = search needs
 
 line-of-requires : tie.Need-line-of-requires
-line-of-requires c κs = search needs
+line-of-requires c κs =
+    let s = c .before .before .before .before .before .before .before in
+    ruled-listed _ _ _ _ _ (s .pre .0) (s .pre .1 .1 .0) (c .along3 .ensures)
 
 lower-requires : tie.Need-lower-requires
 lower-requires c κs = search needs
@@ -36,23 +27,24 @@ higher-requires c κs = search needs
 turn-over-requires : tie.Need-turn-over-requires
 turn-over-requires c κs =
     let d = c .before .before .before in
-    let s = d .before .before .before .before .before .before .before .before .before .before .before in
-    marked-bits _ _ _ _ _ _ _ (s .pre .0) (s .pre .1 .0) (s .pre .1 .1) (d .before .along3 .ensures) (d .line-of .ensures)
+    let a = d .before .before .before in
+    let s = a .before .before .before .before .before in (
+      marked-bits _ _ _ _ _ _ _ (s .pre .0) (s .pre .1 .1 .0) (s .pre .1 .1 .1) (d .before .along3 .ensures) (d .line-of .ensures),
+      ruled-top _ _ _ _ _ _ _ _ (upright-before _ _ _ (s .pre .0) (s .pre .1 .0)) (s .pre .0) (s .pre .1 .1 .0) (a .along .ensures) (d .before .before .along2 .ensures) (c .higher .ensures),
+    )
 
 same-length : tie.Need-same-length
 same-length c = search needs
 
-returns-2 : tie.Need-returns-2
-returns-2 c =
+returns : tie.Need-returns
+returns c =
     let h = c .before .before .before in
     let d = h .before .before .before in
     let a = d .before .before .before in
-    let s = a .before .before .before .before .before .before .before .before in
-    marked-wall _ _ _ _ _ _ _ (s .pre .0) (s .pre .1 .0) (s .pre .1 .1) (d .before .along3 .ensures) (d .line-of .ensures)
-    _ _ _ _ _ _ _
-    (a .before .before .before .changes .ensures)
-    (a .before .before .if1 .left)
-    (a .before .before2 .ensures .0)
+    let s = a .before .before .before .before .before in
+    marked-wall _ _ _ _ _ _ _ (s .pre .0) (s .pre .1 .1 .0) (s .pre .1 .1 .1) (d .before .along3 .ensures) (d .line-of .ensures)
+    _ _ _ _ _ _
+    (s .pre .1 .0)
     (a .along .ensures)
     (d .before .before .along2 .ensures)
     (h .before .lower .ensures)
@@ -64,9 +56,6 @@ pub mark-spec : {M : Type 1} → statement M
 mark-spec =
     tie.close
     (tie.spec
-    changes-requires
-    returns
-    before-requires
     along-requires
     along-requires-2
     along-requires-3
@@ -75,4 +64,4 @@ mark-spec =
     higher-requires
     turn-over-requires
     same-length
-    returns-2)
+    returns)

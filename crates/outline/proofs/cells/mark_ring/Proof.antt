@@ -1,61 +1,64 @@
--- `outline::cells::mark_ring` meets its contract. The invariant: the edges passed are marked. Assumes nothing.
-use Prim.Native.Nat.{_≤_, _-_}
-use mathlib.Core.Path.{_≡_}
-use lib.ListN.{length, take}
+-- `outline::cells::mark_ring` meets its contract. The closing edge is a wall, or the edge after it. Assumes nothing.
 use borrow.Author.Needs.{needs}
-use Rattle.figure.specs.Corners as corner
-use Rattle.figure.specs.Corners.{edges}
-use Rattle.figure.specs.Inside.{walls}
-use Rattle.outline.specs.Steps.{Marked}
-use Rattle.outline.proofs.Marking.{ring-start, ring-more, ring-end}
+use Rattle.outline.proofs.Marking.{flat-walled, flat-ring, wall-upright, wall-walled, wall-ring}
 use Rattle.outline.proofs.cells.mark_ring.Statement.{statement}
 use Rattle.outline.proofs.cells.mark_ring.Tie as tie
 
-abbrev Inv-loop : tie.InvT-loop
-Inv-loop corners xs ys cells₀ count edge₀ cells edge = (edge ≤ count) × (length cells ≡ length cells₀) × Marked xs ys (walls (take edge (edges (corner.corners corners)))) cells₀ cells
+changes-requires : tie.Need-changes-requires
+changes-requires c κs = c .before .before .before .before .pre .0 .corner-some
 
-abbrev μ-loop : tie.MeasureT-loop
-μ-loop corners xs ys cells₀ count edge₀ cells edge = count - edge
+mark-from-requires : tie.Need-mark-from-requires
+mark-from-requires c κs =
+    let t = c .before in
+    let s = t .before .before .before .before .before .before in
+    (flat-walled _ _ _ _ (s .pre .0) (t .before .changes .ensures) (t .if1 .taken), (s .pre .0, s .pre .1))
 
-loop-holds : tie.Need-loop-holds Inv-loop μ-loop
-loop-holds c =
-    let s = c .before .before .before .before in
-    (search needs, search needs, ring-start (s .args .corners .now) _ _ _ (s .pre .1))
-
-mark-requires : tie.Need-mark-requires Inv-loop μ-loop
-mark-requires c κs = (search needs, (search needs, c .before .before .loop .inv .2 .marks))
-
-add-edge : tie.Need-add-edge Inv-loop μ-loop
-add-edge c = search needs
-
-loop-less : tie.Need-loop-less Inv-loop μ-loop
-loop-less c = search needs
-
-loop-again : tie.Need-loop-again Inv-loop μ-loop
-loop-again c =
-    let m = c .before .before in
-    let l = m .before .before .before in (
-      search needs,
-      search needs,
-      ring-more _ _ _ _ (l .before .before .before .before .before .pre .1) _ _ _ (search needs) (l .loop .inv .2) (m .mark .ensures),
-    )
-
-same-length : tie.Need-same-length Inv-loop μ-loop
+same-length : tie.Need-same-length
 same-length c = search needs
 
-returns : tie.Need-returns Inv-loop μ-loop
-returns c = ring-end _ _ _ _ (c .before .before .before .before .before .before .pre .1) _ _ (c .loop-test .left) (c .before .loop .inv .2)
+returns : tie.Need-returns
+returns c =
+    let m = c .before .before in
+    let t = m .before .before in
+    flat-ring _ _ _ _ (t .before .before .before .before .before .before .pre .0) (t .before .changes .ensures) _ _ (t .if1 .taken) (m .mark-from .ensures)
+
+sub-mark : tie.Need-sub-mark
+sub-mark c = let h = c .before .before .before .before .before .before .pre .0 .corner-some in search (needs, h)
+
+mark-requires : tie.Need-mark-requires
+mark-requires c κs =
+    let t = c .before in
+    let s = t .before .before .before .before .before .before in
+    (s .pre .0 .corner-some, (wall-upright _ _ _ _ (s .pre .0) (t .before .changes .ensures) (t .if1 .left), (s .pre .0, s .pre .1)))
+
+mark-from-requires-2 : tie.Need-mark-from-requires-2
+mark-from-requires-2 c κs =
+    let m = c .before .before .before in
+    let t = m .before .before in
+    let s = t .before .before .before .before .before .before in
+    (wall-walled _ _ _ _ (s .pre .0) (t .before .changes .ensures) (t .if1 .left), (s .pre .0, m .mark .ensures .marks))
+
+same-length-2 : tie.Need-same-length-2
+same-length-2 c = search needs
+
+returns-2 : tie.Need-returns-2
+returns-2 c =
+    let f = c .before .before in
+    let m = f .before .before .before .before in
+    let t = m .before .before in
+    let s = t .before .before .before .before .before .before in
+    wall-ring _ _ _ _ (s .pre .0) (t .before .changes .ensures) _ _ _ (t .if1 .left) (s .pre .1) (m .mark .ensures) (f .mark-from2 .ensures)
 
 pub mark-ring-spec : {M : Type 1} → statement M
 mark-ring-spec =
     tie.close
     (tie.spec
-    Inv-loop
-    μ-loop
-    loop-holds
-    mark-requires
-    add-edge
-    loop-less
-    loop-again
+    changes-requires
+    mark-from-requires
     same-length
-    returns)
+    returns
+    sub-mark
+    mark-requires
+    mark-from-requires-2
+    same-length-2
+    returns-2)

@@ -24,12 +24,6 @@ loop-holds c = turning-start _ _ _ _ _ (search needs)
 place-of-requires : tie.Need-place-of-requires Inv-loop μ-loop
 place-of-requires c κs = search needs
 
-add-t16 : tie.Need-add-t16 Inv-loop μ-loop
-add-t16 c = search needs
-
-place-of-requires-2 : tie.Need-place-of-requires-2 Inv-loop μ-loop
-place-of-requires-2 c κs = search needs
-
 covers-requires : tie.Need-covers-requires Inv-loop μ-loop
 covers-requires c κs = search needs
 
@@ -41,8 +35,8 @@ slice-read-turned c = search needs
 
 turned-requires : tie.Need-turned-requires Inv-loop μ-loop
 turned-requires c κs =
-    let s = c .before .before .before .before .before in
-    turning-bit _ _ _ _ _ _ _ (s .loop .inv) _ (s .before .before .before .before .pre)
+    let s = c .before .before .before .before in
+    turning-bit _ _ _ _ _ _ _ (s .loop .inv) _ (s .before .before .before .before .pre .0)
 
 slice-write-cells : tie.Need-slice-write-cells Inv-loop μ-loop
 slice-write-cells c = search needs
@@ -56,10 +50,9 @@ loop-less c = search needs
 loop-again : tie.Need-loop-again Inv-loop μ-loop
 loop-again c =
     let d = c .before .before in
-    let s = d .before .before .before .before in
-    turning-more _ _ _ _ _ _ _ (s .loop .inv) _ _ _ _
-    (d .before .before .place-of .ensures)
-    (d .before .place-of2 .ensures)
+    let s = d .before .before .before in
+    turning-more _ _ _ _ _ _ _ (s .loop .inv) (s .before .before .before .before .pre .1) _ _ _
+    (d .before .place-of .ensures)
     (d .covers .ensures)
     (c .turned .ensures)
     (search needs)
@@ -71,7 +64,7 @@ same-length c = search needs
 returns : tie.Need-returns Inv-loop μ-loop
 returns c =
     let s = c .before in
-    turning-end _ _ _ _ _ _ _ _ (s .before .before .before .before .pre) refl (s .loop .inv) (search needs)
+    turning-end _ _ _ _ _ _ _ _ (s .before .before .before .before .pre .0) refl (s .loop .inv) (search needs)
 
 pub turn-over-spec : {M : Type 1} → statement M
 turn-over-spec =
@@ -83,8 +76,6 @@ turn-over-spec =
     sub-rows
     loop-holds
     place-of-requires
-    add-t16
-    place-of-requires-2
     covers-requires
     add-at
     slice-read-turned
