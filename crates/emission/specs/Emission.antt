@@ -1,24 +1,24 @@
 -- Inner: what emission writes (nobody has to believe these).
 --
 --   InLists xs ys p          == the lines of the piece p are lines of the lists xs and ys
---   Written g r u v at l t   == by writing the shots l from the index at on the list u becomes v, and t are their count and sliver length
+--   Written g u v at l n     == by writing the shots l from the index at on the list u becomes v, and n is the index behind them
 --   Walk g r ..              == the table, the cells, the places and the plan are those of the grid g and the rule r
---   Emittable .. at p        == they are those of some grid and rule, and from the index at on there is room for the shots of the piece p
+--   Emittable .. at p        == they are those of some grid and rule, p is one of its pieces with its entry, and from the index at on
+--                               there is room for the shots of p
 use Prim.Native.Nat.{ℕ, _+_, _*_, _≤_, _<_}
 use mathlib.Core.Path.{_≡_}
 use mathlib.Core.List.{List}
 use lib.ListN.{length}
 use lib.Seq.{sets}
-use Rattle.sum.specs.Sum.{sumOf}
 use Rattle.outline.specs.Grid.{Grid, Drawn}
 use Rattle.rule.specs.declared.Rule.{Rule}
 use Rattle.piece.specs.declared.Piece as stored
-use Rattle.piece.specs.Piece.{Piece, sliver}
+use Rattle.piece.specs.Piece.{Piece}
+use Rattle.piece.specs.Meant.{meant}
 use Rattle.piece.specs.Straight.{shots, numbersOf}
-use Rattle.table.specs.Entry.{Valid}
 use Rattle.verdict.specs.declared.Plan.{Plan}
-use Rattle.verdict.specs.Memory.{Costed}
-use Rattle.emission.specs.declared.Tally.{Tally}
+use Rattle.verdict.specs.declared.Numbered.{Numbered}
+use Rattle.verdict.specs.Memory.{Costed, Known}
 
 pub record InLists (xs ys : List ℕ) (p : stored.Piece) : Type 0 where
   pub a : p .a .0 < length xs
@@ -26,9 +26,8 @@ pub record InLists (xs ys : List ℕ) (p : stored.Piece) : Type 0 where
   pub b : p .b .0 < length ys
   pub d : p .d .0 < length ys
 
-pub record Written (g : Grid) (r : Rule) (u v : List ℕ) (at : ℕ) (l : List Piece) (t : Tally) : Type 0 where
-  pub count : t .shots ≡ length l
-  pub slivers : t .sliver ≡ sumOf (sliver g r) l
+pub record Written (g : Grid) (u v : List ℕ) (at : ℕ) (l : List Piece) (n : ℕ) : Type 0 where
+  pub behind : n ≡ at + 4 * length l
   pub list : v ≡ sets u at (numbersOf g l)
 
 pub record Walk (g : Grid) (r : Rule) (table cells xs ys : List ℕ) (plan : Plan) : Type 0 where
@@ -36,9 +35,9 @@ pub record Walk (g : Grid) (r : Rule) (table cells xs ys : List ℕ) (plan : Pla
   pub drawn : Drawn g xs ys cells
   pub rule : plan .rule ≡ r
 
-pub record Emittable (table cells xs ys : List ℕ) (room : ℕ) (plan : Plan) (at : ℕ) (p : Piece) : Type 0 where
+pub record Emittable (table cells xs ys : List ℕ) (room : ℕ) (plan : Plan) (at : ℕ) (p : Numbered) : Type 0 where
   pub grid : Grid
   pub rule : Rule
   pub walk : Walk grid rule table cells xs ys plan
-  pub valid : Valid (plan .columns) (plan .rows) p
-  pub fits : at + 4 * length (shots grid rule p) ≤ room
+  pub known : Known plan p
+  pub fits : at + 4 * length (shots grid rule (meant (p .piece))) ≤ room

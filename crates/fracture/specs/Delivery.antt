@@ -1,6 +1,7 @@
 -- Inner: what the call delivers once it has a grid (nobody has to believe these).
 --
 --   roomOf n m               == whether n numbers have room for m shots, four for each
+--   Sized plan               == the plan's size is that of a grid, and it has the count of its pairs of y lines
 --   Walkable ..              == what is lent speaks of some grid and rule
 --   Laid g m                 == the sound grid g lies in memory as m, and is read back as itself
 --   Fillable m r             == there is such a grid, and the weight of the rule r is within its limit
@@ -12,6 +13,7 @@ use lib.Dec.{ltb}
 use Rattle.outline.specs.Grid.{Grid, Sound, Drawn, Memory, stored}
 use Rattle.rule.specs.declared.Rule.{Rule}
 use Rattle.rule.specs.Rules.{limit}
+use Rattle.table.specs.Entry.{pairCount}
 use Rattle.verdict.specs.declared.Plan.{Plan}
 use Rattle.emission.specs.Emission.{Walk}
 use Rattle.fracture.specs.declared.delivery.Room.{Room}
@@ -19,6 +21,13 @@ use Rattle.fracture.specs.declared.delivery.Room.the-variants.{Enough, S
 
 unfoldable pub roomOf : ℕ → ℕ → Room
 roomOf n m = cond (ltb n (4 * m)) (Short m) Enough
+
+pub record Sized (plan : Plan) : Type 0 where
+  pub columns-some : 1 ≤ plan .columns
+  pub columns-most : plan .columns ≤ 15
+  pub rows-some : 1 ≤ plan .rows
+  pub rows-most : plan .rows ≤ 15
+  pub pairs : plan .pairs ≡ pairCount (plan .rows)
 
 pub record Walkable (table cells xs ys : List ℕ) (plan : Plan) : Type 0 where
   pub grid : Grid

@@ -1,10 +1,11 @@
 // From a filled table to the list: is there room for the shots, and then the shots.
 use super::Fractured;
 use emission::emit;
+use emission::measuring::slivers;
 use outline::Line;
 use piece::Piece;
 use refusal::Refusal;
-use table::numbering::entry;
+use verdict::Numbered;
 use verdict::Plan;
 ghost use mathlib.Core.Path.{_≡_};
 ghost use lib.ListN.{length};
@@ -13,9 +14,10 @@ ghost use Rattle.rule.specs.declared.Rule.{Rule};
 ghost use Rattle.piece.specs.Meant.{meant};
 ghost use Rattle.piece.specs.Piece.{box};
 ghost use Rattle.piece.specs.Straight.{shots};
+ghost use Rattle.verdict.specs.Memory.{Known};
 ghost use Rattle.emission.specs.Emission.{Walk, Emittable};
 ghost use Rattle.demands.specs.Promise.{delivered};
-ghost use Rattle.fracture.specs.Delivery.{roomOf, Walkable};
+ghost use Rattle.fracture.specs.Delivery.{roomOf, Sized, Walkable};
 ghost use Rattle.fracture.specs.Told.{told};
 
 // Whether a list has room for the shots, and how many there are where it has not.
@@ -24,17 +26,23 @@ pub enum Room {
     Short(usize),
 }
 
-// The piece from the lowest lines to the highest.
-fn frame_of(plan: Plan) -> Piece
-    ensures { λ p. ⌜ meant p ≡ box 0 (plan .columns) 0 (plan .rows) ⌝ }
+// The piece from the lowest lines to the highest. The pair of the lowest and the highest line is the last that begins at the lowest.
+fn frame_of(plan: Plan) -> Numbered
+    requires { ⌜ Sized plan ⌝ }
+    ensures { λ p. ⌜ (meant (p .piece) ≡ box 0 (plan .columns) 0 (plan .rows)) × Known plan p ⌝ }
 {
     let columns = plan.columns;
     let rows = plan.rows;
-    Piece {
-        a: Line(0),
-        c: Line(columns),
-        b: Line(0),
-        d: Line(rows),
+    let pairs = plan.pairs;
+    let entry = (columns - 1) * pairs + (rows - 1);
+    Numbered {
+        piece: Piece {
+            a: Line(0),
+            c: Line(columns),
+            b: Line(0),
+            d: Line(rows),
+        },
+        entry,
     }
 }
 
@@ -46,11 +54,11 @@ fn room_for(
     xs: &[u16],
     ys: &[u16],
     plan: Plan,
-    frame: Piece,
+    frame: Numbered,
     numbers: usize,
 ) -> Room
-    requires { ⌜ Emittable (now costs) (now cells) (now xs) (now ys) 900 plan 0 (meant frame) ⌝ }
-    ensures { λ a. ⌜ ((g : Grid) (r : Rule) → Walk g r (now (costs .entry)) (now (cells .entry)) (now (xs .entry)) (now (ys .entry)) plan → a ≡ roomOf numbers (length (shots g r (meant frame)))) ⌝ }
+    requires { ⌜ Emittable (now costs) (now cells) (now xs) (now ys) 900 plan 0 frame ⌝ }
+    ensures { λ a. ⌜ ((g : Grid) (r : Rule) → Walk g r (now (costs .entry)) (now (cells .entry)) (now (xs .entry)) (now (ys .entry)) plan → a ≡ roomOf numbers (length (shots g r (meant (frame .piece))))) ⌝ }
 {
     let columns = plan.columns;
     let rows = plan.rows;
@@ -58,8 +66,8 @@ fn room_for(
         return Room::Enough;
     }
     let mut aside = [0u16; 900];
-    let tally = emit(costs, cells, xs, ys, &mut aside, plan, 0, frame);
-    let needed = tally.shots;
+    let end = emit(costs, cells, xs, ys, &mut aside, plan, 0, frame);
+    let needed = end / 4;
     if numbers < 4 * needed {
         Room::Short(needed)
     } else {
@@ -84,15 +92,16 @@ pub fn deliver(
     match room {
         Room::Short(needed) => Fractured::Refused(Refusal::List, needed as u32),
         Room::Enough => {
-            let tally = emit(costs, cells, xs, ys, list, plan, 0, frame);
-            let columns = plan.columns;
-            let rows = plan.rows;
-            let at = entry(columns, rows, frame.a, frame.c, frame.b, frame.d);
+            let end = emit(costs, cells, xs, ys, list, plan, 0, frame);
+            let shots = end / 4;
+            let rule = plan.rule;
+            let at = frame.entry;
             let cost = costs[at];
+            let sliver = slivers(cells, xs, ys, list, rule, shots, cost);
             Fractured::Done {
-                shots: tally.shots as u32,
+                shots: shots as u32,
                 cost,
-                sliver: tally.sliver,
+                sliver,
             }
         }
     }

@@ -1,18 +1,19 @@
 -- The verdict of a piece from what lies in memory. Assumes nothing.
 --
---   entry-at, entry-within, cost-here   : the piece's entry, that it is the table's, and what it has
+--   cuts-x, cuts-y                      : the piece's cuts in each direction, as the code has them
+--   part-x, part-y                      : the entries of their parts
+--   entry-within, cost-here             : the piece's entry is the table's, and what it has
 --   verdict-outside, verdict-shot       : a piece that costs nothing; a piece that is inside in all cells
 --   weighable-x, weighable-y            : its cuts in each direction are the table's
 --   verdict-vertical, verdict-horizontal : the first line whose parts cost what the piece costs
-use Prim.Native.Nat.{ℕ, _+_, _*_, _≤_, _<_}
+use Prim.Native.Nat.{ℕ, _+_, _*_, _-_, _≤_, _<_}
 use mathlib.Core.Path.{_≡_, refl, ap, ap₂, sym, _∙_}
 use mathlib.Core.Bool.{Bool, true, false}
 use mathlib.Core.List.{List}
 use mathlib.Core.Logic.{inl, inr}
 use native.Mathlib.Omega.{arith}
-use native.Mathlib.Nat.{mul-comm, add-comm, one-mul}
+use native.Mathlib.Nat.{mul-comm}
 use lib.ListN.{length, getD}
-use lib.Arith.{digits-lt}
 use Rattle.sum.specs.Sum.{only}
 use Rattle.sum.proofs.Sum.{le-or}
 use Rattle.recurrence.specs.Scheme.{Kind, outside, full, mixed}
@@ -26,54 +27,55 @@ use Rattle.piece.proofs.Kind.{kind-all, full-cell}
 use Rattle.piece.proofs.Straight.{cost-zero, cost-outside}
 use Rattle.piece.proofs.Choice.{choice-vertical, choice-horizontal, choice-some}
 use Rattle.piece.proofs.Bound.{cost-most}
-use Rattle.table.specs.Entry.{pairCount, pairNo, entryCount, entryOf, Valid}
-use Rattle.table.proofs.Entry.{entry-below, pair-below}
+use Rattle.table.specs.Entry.{pairCount, pairNo, entryOf, Valid}
+use Rattle.table.proofs.Entry.{entry-below, count-most}
 use Rattle.piece.specs.declared.Piece as stored
 use Rattle.verdict.specs.declared.Plan.{Plan}
-use Rattle.verdict.specs.declared.Direction.the-variants.{Vertical, Horizontal}
+use Rattle.verdict.specs.declared.Numbered.{Numbered}
 use Rattle.verdict.specs.declared.Verdict.the-variants as verdict
 use Rattle.verdict.specs.declared.Cuts.{Cuts}
-use Rattle.verdict.specs.Verdict.{direction, verdictOf}
-use Rattle.verdict.specs.Memory.{Costed}
-use Rattle.verdict.specs.Search.{FirstWith, Within, AllInside, across, Weighable}
-
--- the pair numbers of a piece, as the code has found them
-pub record Numbered (plan : Plan) (p : Piece) (u v m : ℕ) : Type 0 where
-  pub x : u ≡ pairNo (plan .columns) (p .a) (p .c)
-  pub y : v ≡ pairNo (plan .rows) (p .b) (p .d)
-  pub count : m ≡ pairCount (plan .rows)
+use Rattle.verdict.specs.declared.Found.{Found}
+use Rattle.verdict.specs.Verdict.{lowPart, highPart, numbered, verdictOf}
+use Rattle.verdict.specs.Memory.{Costed, Known}
+use Rattle.verdict.specs.Search.{Within, AllInside, baseOf, partEntry, across, Weighable, Finds}
 
 -- its cuts in each direction
-abbrev pub cuts-x : Plan → Piece → ℕ → ℕ → ℕ → Cuts
-cuts-x plan p u v m = record { last = plan .columns; low = record { 0 = p .a }; high = record { 0 = p .c }; pair = u; stride = m; base = v }
+abbrev pub cuts-x : Plan → stored.Piece → ℕ → Cuts
+cuts-x plan p n = record { last = plan .columns; low = p .a; high = p .c; entry = n; stride = plan .pairs }
 
-abbrev pub cuts-y : Plan → Piece → ℕ → ℕ → ℕ → Cuts
-cuts-y plan p u v m = record { last = plan .rows; low = record { 0 = p .b }; high = record { 0 = p .d }; pair = v; stride = 1; base = u * m }
+abbrev pub cuts-y : Plan → stored.Piece → ℕ → Cuts
+cuts-y plan p n = record { last = plan .rows; low = p .b; high = p .d; entry = n; stride = 1 }
 
-module _ (plan : Plan) (p : Piece) (w : Valid (plan .columns) (plan .rows) p) (u v m : ℕ) (n : Numbered plan p u v m) where
-  pub entry-at : u * m + v ≡ entryOf (plan .columns) (plan .rows) p
-  unfolding entryOf
-  entry-at = rw (n .x, n .y, n .count)
-
-  -- the parts of a cut, by the numbers of their pairs
-  part-x : (a c : ℕ) → v + m * pairNo (plan .columns) a c ≡ entryOf (plan .columns) (plan .rows) (box a c (p .b) (p .d))
-  unfolding entryOf
+-- the entries of their parts, n being the piece's own
+module _ (plan : Plan) (p : stored.Piece) (n : ℕ) (e : n ≡ entryOf (plan .columns) (plan .rows) (meant p)) (m : plan .pairs ≡ pairCount (plan .rows)) where
+  part-x : (a c : ℕ) → partEntry (cuts-x plan p n) a c ≡ entryOf (plan .columns) (plan .rows) (box a c (p .b .0) (p .d .0))
+  unfolding partEntry baseOf entryOf
   part-x a c =
-      add-comm v (m * pairNo (plan .columns) a c) ∙ rw (n .y, n .count, mul-comm (pairCount (plan .rows)) (pairNo (plan .columns) a c))
+      omega (
+        arith,
+        e,
+        mul-comm (plan .pairs) (pairNo (plan .columns) (p .a .0) (p .c .0)),
+        ap (λ i. pairNo (plan .columns) (p .a .0) (p .c .0) * i) m,
+        mul-comm (plan .pairs) (pairNo (plan .columns) a c),
+        ap (λ i. pairNo (plan .columns) a c * i) m,
+      )
 
-  part-y : (b d : ℕ) → u * m + 1 * pairNo (plan .rows) b d ≡ entryOf (plan .columns) (plan .rows) (box (p .a) (p .c) b d)
-  unfolding entryOf
-  part-y b d = rw (one-mul, n .x, n .count)
+  part-y : (b d : ℕ) → partEntry (cuts-y plan p n) b d ≡ entryOf (plan .columns) (plan .rows) (box (p .a .0) (p .c .0) b d)
+  unfolding partEntry baseOf entryOf
+  part-y b d = omega (arith, e)
 
 module _ (g : Grid) (r : Rule) (t cells : List ℕ) (plan : Plan) (f : Costed g r t cells plan)
-    (p : stored.Piece) (w : Valid (plan .columns) (plan .rows) (meant p)) (u v m : ℕ) (n : Numbered plan (meant p) u v m) where
-  pub entry-within : u * m + v < length t
-  entry-within = omega (arith, entry-at plan (meant p) w u v m n, entry-below _ _ (meant p) w, f .entries)
+    (p : stored.Piece) (n : ℕ) (z : Known plan (record { piece = p; entry = n })) where
+  w : Valid (plan .columns) (plan .rows) (meant p)
+  w = z .valid
 
-  pub cost-here : getD t (u * m + v) 0 ≡ cost g r (meant p)
-  cost-here = ap (λ i. getD t i 0) (entry-at plan (meant p) w u v m n) ∙ f .cost-at (meant p) w
+  pub entry-within : n < length t
+  entry-within = omega (arith, z .entry, entry-below _ _ (meant p) w, f .entries)
 
-  pub verdict-outside : getD t (u * m + v) 0 ≡ 0 → verdict.Outside ≡ verdictOf g r (meant p)
+  pub cost-here : getD t n 0 ≡ cost g r (meant p)
+  cost-here = ap (λ i. getD t i 0) (z .entry) ∙ f .cost-at (meant p) w
+
+  pub verdict-outside : getD t n 0 ≡ 0 → verdict.Outside ≡ verdictOf g r (meant p)
   unfolding verdictOf
   verdict-outside e = rw (cost-zero g r (meant p) (sym cost-here ∙ e), verdictOf)
 
@@ -97,7 +99,7 @@ module _ (g : Grid) (r : Rule) (t cells : List ℕ) (plan : Plan) (f : Costed g 
   verdict-shot h =
       rw (kind-all g (meant p) (w .ac) (w .bd) (λ i j q. let z : Within p i j = record { a = q .a; c = q .c; b = q .b; d = q .d } in in-cell i j z (h i j z)), verdictOf)
 
-  is-mixed : (getD t (u * m + v) 0 ≡ 0 → ⊥) → AllInside cells p false → kind g (meant p) ≡ mixed
+  is-mixed : (getD t n 0 ≡ 0 → ⊥) → AllInside cells p false → kind g (meant p) ≡ mixed
   is-mixed e h = go (kind g (meant p)) refl
     where
       go : (k : Kind) → kind g (meant p) ≡ k → kind g (meant p) ≡ mixed
@@ -134,99 +136,121 @@ module _ (g : Grid) (r : Rule) (t cells : List ℕ) (plan : Plan) (f : Costed g 
   )
 
   across-x : (j : ℕ) → p .a .0 < j → j < p .c .0
-      → across t (cuts-x plan (meant p) u v m) j ≡ cost g r (leftPart (meant p) j) + cost g r (rightPart (meant p) j)
+      → across t (cuts-x plan p n) j ≡ cost g r (leftPart (meant p) j) + cost g r (rightPart (meant p) j)
   unfolding across
   across-x j h k =
-      let z = left-valid j h k in
-      ap₂ (λ a b. a + b) (part-cost (leftPart (meant p) j) (z .0) _ (part-x plan (meant p) w u v m n (p .a .0) j))
-      (part-cost (rightPart (meant p) j) (z .1) _ (part-x plan (meant p) w u v m n j (p .c .0)))
+      let v = left-valid j h k in
+      ap₂ (λ a b. a + b) (part-cost (leftPart (meant p) j) (v .0) _ (part-x plan p n (z .entry) (f .pairs) (p .a .0) j))
+      (part-cost (rightPart (meant p) j) (v .1) _ (part-x plan p n (z .entry) (f .pairs) j (p .c .0)))
 
   across-y : (j : ℕ) → p .b .0 < j → j < p .d .0
-      → across t (cuts-y plan (meant p) u v m) j ≡ cost g r (lowerPart (meant p) j) + cost g r (upperPart (meant p) j)
+      → across t (cuts-y plan p n) j ≡ cost g r (lowerPart (meant p) j) + cost g r (upperPart (meant p) j)
   unfolding across
   across-y j h k =
-      let z = lower-valid j h k in
-      ap₂ (λ a b. a + b) (part-cost (lowerPart (meant p) j) (z .0) _ (part-y plan (meant p) w u v m n (p .b .0) j))
-      (part-cost (upperPart (meant p) j) (z .1) _ (part-y plan (meant p) w u v m n j (p .d .0)))
+      let v = lower-valid j h k in
+      ap₂ (λ a b. a + b) (part-cost (lowerPart (meant p) j) (v .0) _ (part-y plan p n (z .entry) (f .pairs) (p .b .0) j))
+      (part-cost (upperPart (meant p) j) (v .1) _ (part-y plan p n (z .entry) (f .pairs) j (p .d .0)))
 
-  pub weighable-x : Weighable t (cuts-x plan (meant p) u v m)
-  unfolding entryCount
+  -- the entry of a part is the table's
+  in-table : (q : Piece) → Valid (plan .columns) (plan .rows) q → (i : ℕ) → i ≡ entryOf (plan .columns) (plan .rows) q → i < length t
+  in-table q v i e = omega (arith, e, entry-below _ _ q v, f .entries)
+
+  pub weighable-x : Weighable t (cuts-x plan p n)
   weighable-x = record {
     ordered = w .ac;
     some = w .cx;
     few = few .0;
-    pair = n .x;
-    within = λ k h. within k h;
+    short = omega (arith, f .pairs, count-most (plan .rows) (few .1));
+    here = z .entry ∙ sym (part-x plan p n (z .entry) (f .pairs) (p .a .0) (p .c .0));
+    within = λ a c h k.
+        in-table (box a c (p .b .0) (p .d .0)) (record { ac = h; cx = k; bd = w .bd; dy = w .dy }) _
+        (part-x plan p n (z .entry) (f .pairs) a c);
     small = λ j h k.
-        let z = left-valid j h k in
-        omega (arith, across-x j h k, part-most (leftPart (meant p) j) (z .0), part-most (rightPart (meant p) j) (z .1));
+        let v = left-valid j h k in
+        omega (arith, across-x j h k, part-most (leftPart (meant p) j) (v .0), part-most (rightPart (meant p) j) (v .1));
   }
-    where
-      within : (k : ℕ) → k < pairCount (plan .columns) → v + m * k < length t
-      within k h =
-          let y : v < m = omega (arith, n .y, n .count, pair-below (plan .rows) (p .b .0) (p .d .0) (w .bd) (w .dy)) in
-          omega (arith, digits-lt h y, mul-comm m k, ap (λ (i : ℕ). pairCount (plan .columns) * i) (n .count), f .entries)
 
-  pub weighable-y : Weighable t (cuts-y plan (meant p) u v m)
-  unfolding entryCount
+  pub weighable-y : Weighable t (cuts-y plan p n)
   weighable-y = record {
     ordered = w .bd;
     some = w .dy;
     few = few .1;
-    pair = n .y;
-    within = λ k h. within k h;
+    short = omega arith;
+    here = z .entry ∙ sym (part-y plan p n (z .entry) (f .pairs) (p .b .0) (p .d .0));
+    within = λ b d h k.
+        in-table (box (p .a .0) (p .c .0) b d) (record { ac = w .ac; cx = w .cx; bd = h; dy = k }) _
+        (part-y plan p n (z .entry) (f .pairs) b d);
     small = λ j h k.
-        let z = lower-valid j h k in
-        omega (arith, across-y j h k, part-most (lowerPart (meant p) j) (z .0), part-most (upperPart (meant p) j) (z .1));
+        let v = lower-valid j h k in
+        omega (arith, across-y j h k, part-most (lowerPart (meant p) j) (v .0), part-most (upperPart (meant p) j) (v .1));
   }
-    where
-      within : (k : ℕ) → k < pairCount (plan .rows) → u * m + 1 * k < length t
-      within k h =
-          let x : u < pairCount (plan .columns) = omega (arith, n .x, pair-below (plan .columns) (p .a .0) (p .c .0) (w .ac) (w .cx)) in
-          let y : k < m = omega (arith, n .count) in
-          omega (arith, digits-lt x y, ap (λ (i : ℕ). pairCount (plan .columns) * i) (n .count), f .entries)
 
-  module _ (e : getD t (u * m + v) 0 ≡ 0 → ⊥) (h : AllInside cells p false) (i : ℕ)
-      (s : FirstWith (λ j. across t (cuts-x plan (meant p) u v m) j ≡ getD t (u * m + v) 0) (p .a .0 + 1) (p .c .0) i) where
+  -- the same entry by the grid's size
+  sized : (q : Piece) (i : ℕ) → i ≡ entryOf (plan .columns) (plan .rows) q → i ≡ entryOf (g .columns) (g .rows) q
+  sized q i e = e ∙ ap₂ (λ x y. entryOf x y q) (f .columns) (f .rows)
+
+  module _ (e : getD t n 0 ≡ 0 → ⊥) (h : AllInside cells p false) (u : Found)
+      (o : Finds t (cuts-x plan p n) (getD t n 0) u) where
     met-x : (j : ℕ) → p .a .0 < j → j < p .c .0 → cost g r (leftPart (meant p) j) + cost g r (rightPart (meant p) j) ≡ cost g r (meant p)
-        → across t (cuts-x plan (meant p) u v m) j ≡ getD t (u * m + v) 0
+        → across t (cuts-x plan p n) j ≡ getD t n 0
     met-x j a b q = across-x j a b ∙ q ∙ sym cost-here
 
-    pub verdict-vertical : i < p .c .0 → verdict.Cut (Vertical (record { 0 = i })) ≡ verdictOf g r (meant p)
+    pub verdict-vertical : u .line .0 < p .c .0
+        → verdict.Cut (record { piece = record { a = p .a; c = u .line; b = p .b; d = p .d }; entry = u .lower })
+        (record { piece = record { a = u .line; c = p .c; b = p .b; d = p .d }; entry = u .upper })
+        ≡ verdictOf g r (meant p)
     unfolding verdictOf
     verdict-vertical l =
+        let i = u .line .0 in
+        let s = o .first in
         let a : p .a .0 < i = omega (arith, s .least) in
         rw (is-mixed e h, verdictOf)
-        (ap (λ k. verdict.Cut (direction k))
+        (ap₂ (λ x y.
+        verdict.Cut (record { piece = record { a = p .a; c = u .line; b = p .b; d = p .d }; entry = x })
+        (record { piece = record { a = u .line; c = p .c; b = p .b; d = p .d }; entry = y }))
+        (sized (leftPart (meant p) i) (u .lower) (o .lower l ∙ part-x plan p n (z .entry) (f .pairs) (p .a .0) i))
+        (sized (rightPart (meant p) i) (u .upper) (o .upper l ∙ part-x plan p n (z .entry) (f .pairs) i (p .c .0)))
+        ∙ ap (λ k. verdict.Cut (numbered g (lowPart (meant p) k)) (numbered g (highPart (meant p) k)))
         (sym
         (choice-vertical g r (meant p) i a l (λ j b c q. s .passed j (omega arith) c (met-x j b (omega arith) q))
         (sym (across-x i a l) ∙ s .found l ∙ cost-here))))
 
-    module _ (j : ℕ) (o : FirstWith (λ k. across t (cuts-y plan (meant p) u v m) k ≡ getD t (u * m + v) 0) (p .b .0 + 1) (p .d .0) j) where
+    module _ (v : Found) (y : Finds t (cuts-y plan p n) (getD t n 0) v) where
       met-y : (k : ℕ) → p .b .0 < k → k < p .d .0 → cost g r (lowerPart (meant p) k) + cost g r (upperPart (meant p) k) ≡ cost g r (meant p)
-          → across t (cuts-y plan (meant p) u v m) k ≡ getD t (u * m + v) 0
+          → across t (cuts-y plan p n) k ≡ getD t n 0
       met-y k a b q = across-y k a b ∙ q ∙ sym cost-here
 
-      pub verdict-horizontal : p .c .0 ≤ i → verdict.Cut (Horizontal (record { 0 = j })) ≡ verdictOf g r (meant p)
+      none : p .c .0 ≤ u .line .0 → (k : ℕ) → p .a .0 < k → k < p .c .0
+          → cost g r (leftPart (meant p) k) + cost g r (rightPart (meant p) k) ≡ cost g r (meant p)
+          → ⊥
+      none l k a b q = o .first .passed k (omega arith) (omega arith) (met-x k a b q)
+
+      under : p .c .0 ≤ u .line .0 → v .line .0 < p .d .0
+      under l = elim (le-or (p .d .0) (v .line .0)) [
+        | inr q ↦ q
+        | inl q ↦
+            absurd
+            (choice-some g r (meant p) (is-mixed e h) (none l)
+            (λ k a b c. y .first .passed k (omega arith) (omega arith) (met-y k a b c)))
+      ]
+
+      pub verdict-horizontal : p .c .0 ≤ u .line .0
+          → verdict.Cut (record { piece = record { a = p .a; c = p .c; b = p .b; d = v .line }; entry = v .lower })
+          (record { piece = record { a = p .a; c = p .c; b = v .line; d = p .d }; entry = v .upper })
+          ≡ verdictOf g r (meant p)
       unfolding verdictOf
       verdict-horizontal l =
+          let j = v .line .0 in
+          let s = y .first in
+          let a : p .b .0 < j = omega (arith, s .least) in
+          let b = under l in
           rw (is-mixed e h, verdictOf)
-          (ap (λ k. verdict.Cut (direction k))
+          (ap₂ (λ i k.
+          verdict.Cut (record { piece = record { a = p .a; c = p .c; b = p .b; d = v .line }; entry = i })
+          (record { piece = record { a = p .a; c = p .c; b = v .line; d = p .d }; entry = k }))
+          (sized (lowerPart (meant p) j) (v .lower) (y .lower b ∙ part-y plan p n (z .entry) (f .pairs) (p .b .0) j))
+          (sized (upperPart (meant p) j) (v .upper) (y .upper b ∙ part-y plan p n (z .entry) (f .pairs) j (p .d .0)))
+          ∙ ap (λ k. verdict.Cut (numbered g (lowPart (meant p) k)) (numbered g (highPart (meant p) k)))
           (sym
-          (choice-horizontal g r (meant p) none j above under (λ k b c q. o .passed k (omega arith) c (met-y k b (omega (arith, o .most)) q))
-          (sym (across-y j above under) ∙ o .found under ∙ cost-here))))
-        where
-          none : (k : ℕ) → p .a .0 < k → k < p .c .0 → cost g r (leftPart (meant p) k) + cost g r (rightPart (meant p) k) ≡ cost g r (meant p) → ⊥
-          none k a b q = s .passed k (omega arith) (omega arith) (met-x k a b q)
-
-          above : p .b .0 < j
-          above = omega (arith, o .least)
-
-          under : j < p .d .0
-          under = elim (le-or (p .d .0) j) [
-            | inr z ↦ z
-            | inl z ↦
-                absurd
-                (choice-some g r (meant p) (is-mixed e h) none
-                (λ k a b q. o .passed k (omega arith) (omega arith) (met-y k a b q)))
-          ]
+          (choice-horizontal g r (meant p) (none l) j a b (λ k c d q. s .passed k (omega arith) d (met-y k c (omega (arith, s .most)) q))
+          (sym (across-y j a b) ∙ s .found b ∙ cost-here))))

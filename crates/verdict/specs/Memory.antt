@@ -2,7 +2,8 @@
 --
 --   Costed g r table cells plan   == the table begins with the cost of every piece of the grid g under the rule r, cells are g's cells,
 --                                    and plan has its size
---   Judgeable table cells plan p  == there are such a grid and such a rule, and p is one of the grid's pieces
+--   Known plan p                  == p is one of the pieces of a grid of that size, and has its own entry
+--   Judgeable table cells plan p  == there are such a grid and such a rule, and p is one of the grid's pieces with its entry
 use Prim.Native.Nat.{ℕ, _+_, _*_, _≤_, _<_}
 use mathlib.Core.Path.{_≡_}
 use mathlib.Core.List.{List}
@@ -12,9 +13,11 @@ use Rattle.outline.specs.Grid.{Grid, Sound}
 use Rattle.rule.specs.declared.Rule.{Rule}
 use Rattle.rule.specs.Rules.{limit}
 use Rattle.piece.specs.Piece.{Piece}
+use Rattle.piece.specs.Meant.{meant}
 use Rattle.piece.specs.Straight.{cost}
 use Rattle.table.specs.Entry.{Valid, pairCount, entryOf, entryCount}
 use Rattle.verdict.specs.declared.Plan.{Plan}
+use Rattle.verdict.specs.declared.Numbered.{Numbered}
 
 pub record Costed (g : Grid) (r : Rule) (table cells : List ℕ) (plan : Plan) : Type 0 where
   pub sound : Sound g
@@ -27,8 +30,12 @@ pub record Costed (g : Grid) (r : Rule) (table cells : List ℕ) (plan : Plan) :
   pub entries : entryCount (plan .columns) (plan .rows) ≤ length table
   pub cost-at : (p : Piece) → Valid (plan .columns) (plan .rows) p → getD table (entryOf (plan .columns) (plan .rows) p) 0 ≡ cost g r p
 
-pub record Judgeable (table cells : List ℕ) (plan : Plan) (p : Piece) : Type 0 where
+pub record Known (plan : Plan) (p : Numbered) : Type 0 where
+  pub valid : Valid (plan .columns) (plan .rows) (meant (p .piece))
+  pub entry : p .entry ≡ entryOf (plan .columns) (plan .rows) (meant (p .piece))
+
+pub record Judgeable (table cells : List ℕ) (plan : Plan) (p : Numbered) : Type 0 where
   pub grid : Grid
   pub rule : Rule
   pub costed : Costed grid rule table cells plan
-  pub valid : Valid (plan .columns) (plan .rows) p
+  pub known : Known plan p

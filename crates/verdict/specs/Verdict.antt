@@ -1,31 +1,37 @@
 -- To believe: the verdict of a piece (document 01, "Pieces, slivers, cost").
 --
---   direction k       == a cut as the code names it, with its line
---   verdictOf g r p   == outside where no cell of p is inside; a shot where all of them are; else a cut: of the cuts in the tie order
---                        the first whose parts cost what p costs, which is the least
 --   lowPart p k, highPart p k == the two parts of the piece p at the cut k: left or bottom is low
+--   numbered g p      == the piece p as the code holds it, with its entry in the table of the grid g
+--   verdictOf g r p   == outside where no cell of p is inside; a shot where all of them are; else a cut, into the two parts of the first
+--                        cut in the tie order whose parts cost what p costs, which is the least
 use Rattle.recurrence.specs.Scheme.{outside, full, mixed}
 use Rattle.outline.specs.Grid.{Grid}
 use Rattle.rule.specs.declared.Rule.{Rule}
 use Rattle.piece.specs.Piece.{Piece, kind, leftPart, rightPart, lowerPart, upperPart}
 use Rattle.piece.specs.Straight.{Cut, vertical, horizontal, choice}
-use Rattle.verdict.specs.declared.Direction.{Direction}
-use Rattle.verdict.specs.declared.Direction.the-variants.{Vertical, Horizontal}
+use Rattle.table.specs.Entry.{entryOf}
+use Rattle.verdict.specs.declared.Numbered.{Numbered}
 use Rattle.verdict.specs.declared.Verdict.{Verdict}
 use Rattle.verdict.specs.declared.Verdict.the-variants as verdict
 
-abbrev pub direction : Cut → Direction
-direction (vertical j) = Vertical (record { 0 = j })
-direction (horizontal j) = Horizontal (record { 0 = j })
+abbrev pub lowPart : Piece → Cut → Piece
+lowPart p (vertical j) = leftPart p j
+lowPart p (horizontal j) = lowerPart p j
+
+abbrev pub highPart : Piece → Cut → Piece
+highPart p (vertical j) = rightPart p j
+highPart p (horizontal j) = upperPart p j
+
+abbrev pub numbered : Grid → Piece → Numbered
+numbered g p = record {
+  piece = record { a = record { 0 = p .a }; c = record { 0 = p .c }; b = record { 0 = p .b }; d = record { 0 = p .d } };
+  entry = entryOf (g .columns) (g .rows) p;
+}
 
 unfoldable pub verdictOf : Grid → Rule → Piece → Verdict
 verdictOf g r p =
-    elim (kind g p) [ outside ↦ verdict.Outside | full ↦ verdict.Shot | mixed ↦ verdict.Cut (direction (choice g r p)) ]
-
-abbrev pub lowPart : Piece → Direction → Piece
-lowPart p (Vertical j) = leftPart p (j .0)
-lowPart p (Horizontal j) = lowerPart p (j .0)
-
-abbrev pub highPart : Piece → Direction → Piece
-highPart p (Vertical j) = rightPart p (j .0)
-highPart p (Horizontal j) = upperPart p (j .0)
+    elim (kind g p) [
+      | outside ↦ verdict.Outside
+      | full ↦ verdict.Shot
+      | mixed ↦ verdict.Cut (numbered g (lowPart p (choice g r p))) (numbered g (highPart p (choice g r p)))
+    ]

@@ -3,27 +3,26 @@ use outline::Line;
 use outline::MOST_LINES;
 use piece::Piece;
 use rule::Rule;
-use table::numbering::pair_number;
 ghost use mathlib.Core.Path.{_≡_};
 ghost use Prim.Native.Nat.{_+_, _*_, _≤_};
 ghost use lib.ListN.{length, getD};
 ghost use Rattle.outline.specs.Grid.{Grid};
 ghost use Rattle.piece.specs.Meant.{meant};
 ghost use Rattle.verdict.specs.Memory.{Costed, Judgeable};
-ghost use Rattle.verdict.specs.Search.{FirstWith, AllInside, across, Weighable};
+ghost use Rattle.verdict.specs.Search.{FirstWith, AllInside, Weighable, Finds};
 ghost use Rattle.verdict.specs.Verdict.{verdictOf};
 
-// A cut names its direction and its line: a vertical cut lies on an x line, a horizontal one on a y line.
-pub enum Direction {
-    Vertical(Line),
-    Horizontal(Line),
+// A piece with its entry in the table: the parts of a cut get theirs from the search, so that no entry is reckoned anew.
+pub struct Numbered {
+    pub piece: Piece,
+    pub entry: usize,
 }
 
-// What becomes of a piece: nothing of it is inside, or all of it is one shot, or it is cut.
+// What becomes of a piece: nothing of it is inside, or all of it is one shot, or it is cut, into its low and its high part.
 pub enum Verdict {
     Outside,
     Shot,
-    Cut(Direction),
+    Cut(Numbered, Numbered),
 }
 
 // What a walk over the pieces goes by besides the lent slices: the size of the grid, the count of its pairs of y lines, and the rule.
@@ -70,90 +69,117 @@ fn all_inside(cells: &[u8], p: Piece) -> bool
 }
 
 // The cuts of a piece in one direction, as the table has them: they lie on the lines between low and high, of the lines 0 to
-// last; pair is the number of the pair (low, high), and the part between a pair of lines has its cost at base + stride x its number.
+// last; the piece has its cost at entry, and the next pair of lines has its own a stride on.
 struct Cuts {
     pub last: usize,
     pub low: Line,
     pub high: Line,
-    pub pair: usize,
+    pub entry: usize,
     pub stride: usize,
-    pub base: usize,
 }
 
-// The first line whose two parts cost so much together, or high where there is none.
-fn first_line(table: &[u32], cuts: Cuts, cost: u32) -> Line
+// A cut that was found: its line, and the entries of its two parts.
+struct Found {
+    pub line: Line,
+    pub lower: usize,
+    pub upper: usize,
+}
+
+// The first line whose two parts cost so much together, or high where there is none. The entries of the parts run along.
+fn first_line(table: &[u32], cuts: Cuts, cost: u32) -> Found
     requires { ⌜ Weighable (now table) cuts ⌝ }
-    ensures { λ r. ⌜ FirstWith (λ j. across (now (table .entry)) cuts j ≡ cost) (cuts .low .0 + 1) (cuts .high .0) (r .0) ⌝ }
+    ensures { λ f. ⌜ Finds (now (table .entry)) cuts cost f ⌝ }
 {
     let last = cuts.last;
     let low = cuts.low.0;
     let high = cuts.high.0;
-    let pair = cuts.pair;
+    let entry = cuts.entry;
     let stride = cuts.stride;
-    let base = cuts.base;
     let mut j = low + 1;
-    let mut lower = pair - (high - j);
-    let mut upper = pair + (last - 1 - low);
+    let mut lower = entry - stride * (high - j);
+    let mut upper = entry + stride * (last - j);
     while j < high {
-        if table[base + stride * lower] + table[base + stride * upper] == cost {
-            return Line(j);
+        if table[lower] + table[upper] == cost {
+            return Found {
+                line: Line(j),
+                lower,
+                upper,
+            };
         }
-        lower += 1;
-        upper += last - 1 - j;
         j += 1;
+        lower += stride;
+        upper += stride * (last - j);
     }
-    Line(high)
+    Found {
+        line: Line(high),
+        lower,
+        upper,
+    }
 }
 
 // The verdict of a piece. What costs nothing is outside; what is inside in all cells is a shot; else the cut is the first, vertical ones first and
 // the lower line first, whose parts cost together what the piece costs.
-pub fn judge(costs: &[u32], cells: &[u8], plan: Plan, p: Piece) -> Verdict
-    requires { ⌜ Judgeable (now costs) (now cells) plan (meant p) ⌝ }
-    ensures { λ v. ⌜ ((g : Grid) (r : Rule) → Costed g r (now (costs .entry)) (now (cells .entry)) plan → v ≡ verdictOf g r (meant p)) ⌝ }
+pub fn judge(costs: &[u32], cells: &[u8], plan: Plan, p: Numbered) -> Verdict
+    requires { ⌜ Judgeable (now costs) (now cells) plan p ⌝ }
+    ensures { λ v. ⌜ ((g : Grid) (r : Rule) → Costed g r (now (costs .entry)) (now (cells .entry)) plan → v ≡ verdictOf g r (meant (p .piece))) ⌝ }
 {
-    let columns = plan.columns;
-    let rows = plan.rows;
-    let a = p.a;
-    let b = p.b;
-    let c = p.c;
-    let d = p.d;
-    let x_pair = pair_number(columns, a, c);
-    let y_pair = pair_number(rows, b, d);
-    let y_pairs = plan.pairs;
-    let row = x_pair * y_pairs;
-    let cost = costs[row + y_pair];
+    let piece = p.piece;
+    let entry = p.entry;
+    let cost = costs[entry];
     if cost == 0 {
         return Verdict::Outside;
     }
-    if all_inside(cells, p) {
+    if all_inside(cells, piece) {
         return Verdict::Shot;
     }
-    let i = first_line(
+    let a = piece.a;
+    let c = piece.c;
+    let upright = first_line(
         costs,
         Cuts {
-            last: columns,
+            last: plan.columns,
             low: a,
             high: c,
-            pair: x_pair,
-            stride: y_pairs,
-            base: y_pair,
+            entry,
+            stride: plan.pairs,
         },
         cost,
     );
+    let i = upright.line;
     if i.0 < c.0 {
-        return Verdict::Cut(Direction::Vertical(i));
+        return Verdict::Cut(
+            Numbered {
+                piece: Piece { c: i, ..piece },
+                entry: upright.lower,
+            },
+            Numbered {
+                piece: Piece { a: i, ..piece },
+                entry: upright.upper,
+            },
+        );
     }
-    let j = first_line(
+    let b = piece.b;
+    let d = piece.d;
+    let level = first_line(
         costs,
         Cuts {
-            last: rows,
+            last: plan.rows,
             low: b,
             high: d,
-            pair: y_pair,
+            entry: p.entry,
             stride: 1,
-            base: row,
         },
         cost,
     );
-    Verdict::Cut(Direction::Horizontal(j))
+    let j = level.line;
+    Verdict::Cut(
+        Numbered {
+            piece: Piece { d: j, ..piece },
+            entry: level.lower,
+        },
+        Numbered {
+            piece: Piece { b: j, ..piece },
+            entry: level.upper,
+        },
+    )
 }

@@ -1,4 +1,5 @@
 -- `emission::write_shot` meets its contract. Assumes nothing.
+use mathlib.Core.Path.{refl}
 use native.Mathlib.Omega.{arith}
 use borrow.Author.Needs.{needs}
 use lib.ListN.{length-set}
@@ -51,14 +52,19 @@ mul-list-4 c = search needs
 slice-write-list-4 : tie.Need-slice-write-list-4
 slice-write-list-4 c = simp length-set (omega arith)
 
+add-result : tie.Need-add-result
+add-result c = search needs
+
 same-length : tie.Need-same-length
 same-length c = search needs
 
 returns : tie.Need-returns
 returns c =
-    let s = c .before .before .before .before .before .before .before .args in
-    sets-four (s .list .now) (s .at) (c .before .before .before .place-of .ensures) (c .before .before .place-of2 .ensures) (c .before .place-of3 .ensures)
-    (c .place-of4 .ensures)
+    let s = c .before .before .before .before .before .before .before .args in (
+      sets-four (s .list .now) (s .at) (c .before .before .before .place-of .ensures) (c .before .before .place-of2 .ensures) (c .before .place-of3 .ensures)
+          (c .place-of4 .ensures),
+      refl,
+    )
 
 pub write-shot-spec : {M : Type 1} → statement M
 write-shot-spec =
@@ -79,5 +85,6 @@ write-shot-spec =
     add-list-3
     mul-list-4
     slice-write-list-4
+    add-result
     same-length
     returns)

@@ -1,8 +1,7 @@
 -- `fracture::delivery::room_for` meets its contract. Assumes nothing.
 use native.Mathlib.Omega.{arith}
 use borrow.Author.Needs.{needs}
-use Rattle.emission.proofs.Emitted.{count-few}
-use Rattle.fracture.proofs.Delivered.{area-few, room-all, room-fits, room-short}
+use Rattle.fracture.proofs.Delivered.{area-few, room-all, room-fits, room-short, count-written}
 use Rattle.fracture.proofs.delivery.room_for.Statement.{statement}
 use Rattle.fracture.proofs.delivery.room_for.Tie as tie
 
@@ -13,7 +12,7 @@ mul-if1-2 : tie.Need-mul-if1-2
 mul-if1-2 c = omega (arith, area-few _ _ _ _ _ (c .before .before .before .before .pre .walk .costed))
 
 returns : tie.Need-returns
-returns c g r w = room-all g r _ _ _ (w .costed) _ (c .before .before .before .before .before .pre .valid) _ (c .if1 .taken)
+returns c g r w = room-all g r _ _ _ (w .costed) _ (c .before .before .before .before .before .pre .known .valid) _ (c .if1 .taken)
 
 slice-aggregate-emit : tie.Need-slice-aggregate-emit
 slice-aggregate-emit c = search needs
@@ -22,19 +21,13 @@ emit-requires : tie.Need-emit-requires
 emit-requires c κs = search needs
 
 mul-if2 : tie.Need-mul-if2
-mul-if2 c =
-    let e = c .before .before .before .before .before .before .before .before .pre in
-    omega (
-      arith,
-      c .before .emit .ensures (e .grid) (e .rule) (e .walk) .count,
-      count-few _ _ _ _ _ (e .walk .costed) _ (e .valid),
-    )
+mul-if2 c = search needs
 
 returns-2 : tie.Need-returns-2
-returns-2 c g r w = room-short _ (c .before .before .emit .ensures g r w .count) (c .if2 .taken)
+returns-2 c g r w = room-short _ (count-written g (c .before .before .emit .ensures g r w)) (c .if2 .taken)
 
 returns-3 : tie.Need-returns-3
-returns-3 c g r w = room-fits _ (c .before .before .emit .ensures g r w .count) (c .if2 .left)
+returns-3 c g r w = room-fits _ (count-written g (c .before .before .emit .ensures g r w)) (c .if2 .left)
 
 pub room-for-spec : {M : Type 1} → statement M
 room-for-spec =
