@@ -1,5 +1,6 @@
 // From a figure to its shots: the fill, the delivery, and the two calls.
 use delivery::deliver;
+use fill::fill;
 use outline::Answer;
 use outline::MOST_CELLS;
 use outline::MOST_LINES;
@@ -8,7 +9,6 @@ use refusal::Refusal;
 use rule::Made;
 use rule::Preset;
 use rule::Rule;
-use table::filling::fill;
 use table::numbering::entries;
 use table::numbering::pair_count;
 use verdict::Plan;

@@ -1,8 +1,6 @@
 pub mod Entry
 pub mod Run
-pub mod Strip
-pub mod Height
-pub mod Vertical
-pub mod Tally
-pub mod Measure
+pub mod Pairs
+pub mod Judging
+pub mod Side
 pub mod Fill

@@ -2,15 +2,11 @@
 --
 --   wrote-none, wrote-more   == a run that is written from the front, one store after the other
 --   wrote-end                == where the run is at its end
---   weigh-*, apart-more
---                            == weighing a cut of several pieces: the sums fit, and one piece more
+--   apart-more               == weighing a cut of several pieces: one piece more
 --   bare-*                   == the three ways of a stretch: outside, exposed, covered
 --   lowest-none, lowest-more == the least so far, with no line weighed yet, and with one more
 --   lowest-same              == for equal values, the same least
---   lowest-between, lowest-out
---                            == with no line between, and with the two outer lines more
---   lowest-on                == the same least where the lines are numbered from b on
---   lowest-min               == with the least of other cuts besides
+--   lowest-between           == with no line between
 use Prim.Native.Nat.{ℕ, _+_, _-_, _≤_, _<_, _^_, min}
 use mathlib.Core.Path.{_≡_, refl, sym, _∙_, ap, subst}
 use mathlib.Core.Logic.{_⊎_, inl, inr}
@@ -20,7 +16,7 @@ use lib.ListN.{length, getD, set, length-set}
 use lib.Seq.{getD-set-same, getD-set-other}
 use borrow.Author.Tests.{eq-eqb, ne-eqb}
 use Rattle.sum.proofs.Sum.{le-or}
-use Rattle.table.specs.Run.{Wrote, bare, weighed, weighedApart, Lowest}
+use Rattle.table.specs.Run.{Wrote, bare, weighedApart, Lowest}
 
 pub wrote-none : (f : ℕ → ℕ) (at : ℕ) (t : List ℕ) → Wrote f at 0 t t
 wrote-none f at t = record { long = refl; made = λ i h. absurd (omega arith); kept = λ k h. refl }
@@ -49,22 +45,6 @@ wrote-more f at i t u v room e w =
 
 pub wrote-end : (f : ℕ → ℕ) (at i n : ℕ) (t u : List ℕ) → i ≤ n → n ≤ i → Wrote f at i t u → Wrote f at n t u
 wrote-end f at i n t u h k w = subst (λ m. Wrote f at m t u) (omega arith) w
-
-module _ (t u : List ℕ) (at low high n i : ℕ) where
-  pub weigh-fits : low + n ≤ at → at + n ≤ high → i < n → ((k : ℕ) → k < n → getD t (low + k) 0 + getD t (high + k) 0 < 2 ^ 32)
-      → Wrote (weighed t at low high) at i t u
-      → getD u (low + i) 0 + getD u (high + i) 0 < 2 ^ 32
-  weigh-fits h k l fit w = omega (arith, w .kept (low + i) (inl (omega arith)), w .kept (high + i) (inr (omega arith)), fit i l)
-
-  pub weigh-more : (r : ℕ) → low + n ≤ at → at + n ≤ high → high + n ≤ length t → i < n
-      → r ≡ min (getD u (at + i) 0) (getD u (low + i) 0 + getD u (high + i) 0)
-      → Wrote (weighed t at low high) at i t u
-      → Wrote (weighed t at low high) at (i + 1) t (set u (at + i) r)
-  unfolding weighed
-  weigh-more r h k m l e w =
-      wrote-more (weighed t at low high) at i t u r (omega (arith, w .long))
-      (omega (arith, w .kept (at + i) (inr (omega arith)), w .kept (low + i) (inl (omega arith)), w .kept (high + i) (inr (omega arith))))
-      w
 
 pub apart-more : (t side u : List ℕ) (low high n i r : ℕ) → n ≤ length t → i < n
     → r ≡ min (getD u i 0) (getD side (low + i) 0 + getD side (high + i) 0)
@@ -124,52 +104,3 @@ lowest-same f g a c m n r s h e z l =
 
 pub lowest-between : (f : ℕ → ℕ) (a c m : ℕ) → c ≤ a + 1 → Lowest f a c m m
 lowest-between f a c m h = record { first = omega arith; each = λ j p q. absurd (omega arith); one = inl refl }
-
-pub lowest-out : (f : ℕ → ℕ) (a c m r : ℕ) → 0 < a → a ≤ c → Lowest f a c m r → Lowest f (a - 1) (c + 1) m (min (min r (f a)) (f c))
-lowest-out f a c m r z h l =
-    record {
-      first = omega (arith, l .first);
-      each = λ j p q. elim (le-or j a) [
-        | inl s ↦ (let e : j ≡ a = omega arith in omega (arith, ap f e))
-        | inr s ↦ elim (le-or c j) [
-          | inl t ↦ (let e : j ≡ c = omega arith in omega (arith, ap f e))
-          | inr t ↦ omega (arith, l .each j s t)
-        ]
-      ];
-      one = go (le-or (min r (f a)) (f c)) (le-or r (f a)) (l .one);
-    }
-  where
-    go : (min r (f a) ≤ f c) ⊎ (f c < min r (f a)) → (r ≤ f a) ⊎ (f a < r) → (r ≡ m) ⊎ ((j : ℕ) × (a < j) × (j < c) × (r ≡ f j))
-        → (min (min r (f a)) (f c) ≡ m) ⊎ ((j : ℕ) × (a - 1 < j) × (j < c + 1) × (min (min r (f a)) (f c) ≡ f j))
-    go (inr s) t o = inr (c, omega arith, omega arith, omega arith)
-    go (inl s) (inr t) o = inr (a, omega arith, omega arith, omega arith)
-    go (inl s) (inl t) (inl o) = inl (omega arith)
-    go (inl s) (inl t) (inr o) = inr (o .0, omega (arith, o .1), omega (arith, o .2), omega (arith, o .3))
-
-pub lowest-on : (f g : ℕ → ℕ) (b h m r : ℕ) → ((k : ℕ) → 0 < k → k < h → f k ≡ g (b + k)) → Lowest f 0 h m r → Lowest g b (b + h) m r
-lowest-on f g b h m r e l =
-    record {
-      first = l .first;
-      each =
-          λ j p q.
-          let z : b + (j - b) ≡ j = omega arith in
-          omega (arith, l .each (j - b) (omega arith) (omega arith), e (j - b) (omega arith) (omega arith), ap g z);
-      one = go (l .one);
-    }
-  where
-    go : (r ≡ m) ⊎ ((k : ℕ) × (0 < k) × (k < h) × (r ≡ f k)) → (r ≡ m) ⊎ ((j : ℕ) × (b < j) × (j < b + h) × (r ≡ g j))
-    go (inl z) = inl z
-    go (inr z) = inr (b + z .0, omega (arith, z .1), omega (arith, z .2), z .3 ∙ e (z .0) (z .1) (z .2))
-
-pub lowest-min : (f : ℕ → ℕ) (a c m n r : ℕ) → n ≤ m → Lowest f a c m r → Lowest f a c n (min n r)
-lowest-min f a c m n r h l =
-    record {
-      first = omega arith;
-      each = λ j p q. omega (arith, l .each j p q);
-      one = go (le-or n r) (l .one);
-    }
-  where
-    go : (n ≤ r) ⊎ (r < n) → (r ≡ m) ⊎ ((j : ℕ) × (a < j) × (j < c) × (r ≡ f j)) → (min n r ≡ n) ⊎ ((j : ℕ) × (a < j) × (j < c) × (min n r ≡ f j))
-    go (inl q) o = inl (omega arith)
-    go (inr q) (inl z) = absurd (omega arith)
-    go (inr q) (inr z) = inr (z .0, z .1, z .2, omega (arith, z .3))

@@ -1,7 +1,5 @@
 pub mod Entry
 pub mod Run
-pub mod Strip
-pub mod Height
-pub mod Vertical
-pub mod Tally
+pub mod Cuts
+pub mod Side
 pub mod Fill

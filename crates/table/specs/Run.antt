@@ -4,10 +4,9 @@
 --   Wrote f at n t u     == u is the list t with f i at the place at + i for each i < n, and as t everywhere else
 --   bare near far len    == the exposed length of a stretch of len nm: len where the cell within (near) is inside and the cell
 --                           across (far) is not, else 0; a cell is 1 where it is inside, else 0
---   weighed t at low high i
---                        == what a piece at at + i costs at most, with the cut weighed whose parts are at low + i and high + i
 --   weighedApart t side low high i
---                        == the same where the parts are at low + i and high + i of another list, side
+--                        == what the i-th of several pieces costs at most, with the cut weighed whose parts are at low + i and high + i
+--                           of another list, side
 --   Lowest f a c m r     == r is the least of m and of f at the lines strictly between a and c
 use Prim.Native.Nat.{ℕ, _+_, _≤_, _<_, min}
 use mathlib.Core.Path.{_≡_}
@@ -25,9 +24,6 @@ pub record Wrote (f : ℕ → ℕ) (at n : ℕ) (t u : List ℕ) : Type 0 where
 
 unfoldable pub bare : ℕ → ℕ → ℕ → ℕ
 bare near far len = only (not (eqb near 0) && eqb far 0) len
-
-unfoldable pub weighed : List ℕ → ℕ → ℕ → ℕ → ℕ → ℕ
-weighed t at low high i = min (getD t (at + i) 0) (getD t (low + i) 0 + getD t (high + i) 0)
 
 unfoldable pub weighedApart : List ℕ → List ℕ → ℕ → ℕ → ℕ → ℕ
 weighedApart t side low high i = min (getD t i 0) (getD side (low + i) 0 + getD side (high + i) 0)

@@ -1,9 +1,4 @@
-// The cost table: the entry of each piece, and the fill.
-mod charging;
-pub mod filling;
-mod heights;
+// The cost table: the entry of each piece, and the steps that the fills of it share.
 pub mod numbering;
-mod runs;
-mod settling;
-mod tallying;
-mod weighing;
+pub mod runs;
+pub mod sides;

@@ -1,0 +1,33 @@
+// The fill: the cost of every piece of a grid, into a table that the caller lends. A grid of one to three rows of cells is filled straight
+// through, a higher one by widths: both promise the same.
+use rule::Rule;
+ghost use mathlib.Core.Path.{_≡_};
+ghost use mathlib.Core.List.{_++_};
+ghost use lib.ListN.{length, drop};
+ghost use Rattle.outline.specs.Grid.{stored};
+ghost use Rattle.table.specs.Entry.{costs};
+ghost use Rattle.table.specs.Fill.{Ready};
+
+// So many rows of cells are filled straight through.
+const FEW_ROWS: usize = 3;
+
+// Fills the table with the cost of every piece of the grid, in the order of entries. What it held there has no influence, and what lies
+// beyond the entries stays as it was.
+pub fn fill(
+    xs: &[u16],
+    ys: &[u16],
+    cells: &[u8],
+    columns: usize,
+    rows: usize,
+    rule: Rule,
+    table: &mut [u32],
+)
+    requires { ⌜ Ready (stored columns rows (now xs) (now ys) (now cells)) rule (now xs) (now ys) (now cells) (now table) ⌝ }
+    ensures { λ _. ⌜ now (table .exit) ≡ costs (stored columns rows (now (xs .entry)) (now (ys .entry)) (now (cells .entry))) rule ++ drop (length (costs (stored columns rows (now (xs .entry)) (now (ys .entry)) (now (cells .entry))) rule)) (now (table .entry)) ⌝ }
+{
+    if rows <= FEW_ROWS {
+        shallow::fill(xs, ys, cells, columns, rows, rule, table);
+    } else {
+        widths::fill_by_widths(xs, ys, cells, columns, rows, rule, table);
+    }
+}

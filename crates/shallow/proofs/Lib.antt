@@ -1,0 +1,4 @@
+pub mod Parting
+pub mod Summing
+pub mod Settling
+pub mod Filling

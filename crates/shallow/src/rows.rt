@@ -1,0 +1,223 @@
+// The pieces of a strip of one, two or three rows of cells, and the strips that begin at one x line. Every piece is settled when all of
+// its parts are: in the table stand those of its vertical cuts, in single numbers those of its horizontal ones.
+use crate::cuts;
+use crate::cuts::Strip;
+use crate::cuts::Three;
+use crate::sums;
+use crate::sums::Sums;
+use outline::Line;
+use rule::Rule;
+use table::runs;
+use table::sides;
+ghost use mathlib.Core.Path.{_≡_};
+ghost use Prim.Native.Nat.{ℕ, _+_, _*_, _≤_, _<_};
+ghost use lib.ListN.{length};
+ghost use Rattle.outline.specs.Grid.{Grid, stored};
+ghost use Rattle.piece.specs.Piece.{box};
+ghost use Rattle.piece.specs.Straight.{cost};
+ghost use Rattle.table.specs.Entry.{pairsBelow, entryCount};
+ghost use Rattle.table.specs.Run.{Wrote};
+ghost use Rattle.table.specs.Fill.{Ready, Reached, Beyond};
+ghost use Rattle.shallow.specs.Rows.{OneRow, TwoRows, ThreeRows, TopTwo, LowThree, threeAt};
+
+// The cost of a strip of one row of cells.
+fn one_row(table: &[u32], strip: Strip, rule: Rule, row: Sums) -> u32
+    requires { ⌜ ((g : Grid) × OneRow g rule strip row (now table)) ⌝ }
+    ensures { λ x. ⌜ ((g : Grid) → OneRow g rule strip row (now (table .entry)) → x ≡ cost g rule (box (strip .a .0) (strip .c .0) 0 1)) ⌝ }
+{
+    let best = cuts::least_cut(table, strip, 0);
+    sums::settled(row, rule, strip.width, best)
+}
+
+// The costs of the three pieces of the two highest rows of a strip: they stand last in it.
+fn two_rows(table: &[u32], strip: Strip, rule: Rule, low: Sums, high: Sums) -> Three
+    requires { ⌜ ((g : Grid) × (b : ℕ) × TwoRows g rule strip b low high (now table)) ⌝ }
+    ensures { λ x. ⌜ ((g : Grid) (b : ℕ) → TwoRows g rule strip b low high (now (table .entry)) → TopTwo g rule (strip .a .0) (strip .c .0) b x) ⌝ }
+{
+    let width = strip.width;
+    let least = cuts::least_cuts(table, strip, strip.pairs - 3);
+    let first = sums::settled(low, rule, width, least.first);
+    let third = sums::settled(high, rule, width, least.third);
+    let both = sums::stacked(low, high);
+    let cut = runs::lesser(least.second, first + third);
+    let second = sums::settled(both, rule, width, cut);
+    Three {
+        first,
+        second,
+        third,
+    }
+}
+
+// What a third row below the two highest adds, whose costs are known: the costs of the three pieces that begin at the lowest line. They
+// stand first in the strip.
+fn third_row(
+    table: &[u32],
+    strip: Strip,
+    rule: Rule,
+    low: Sums,
+    middle: Sums,
+    high: Sums,
+    above: Three,
+) -> Three
+    requires { ⌜ ((g : Grid) × ThreeRows g rule strip low middle high above (now table)) ⌝ }
+    ensures { λ x. ⌜ ((g : Grid) → ThreeRows g rule strip low middle high above (now (table .entry)) → LowThree g rule (strip .a .0) (strip .c .0) x) ⌝ }
+{
+    let width = strip.width;
+    let least = cuts::least_cuts(table, strip, 0);
+    let first = sums::settled(low, rule, width, least.first);
+    let two = sums::stacked(low, middle);
+    let cut = runs::lesser(least.second, first + above.first);
+    let second = sums::settled(two, rule, width, cut);
+    let all = sums::stacked(two, high);
+    let lower = runs::lesser(least.third, first + above.second);
+    let upper = runs::lesser(lower, second + above.third);
+    let third = sums::settled(all, rule, width, upper);
+    Three {
+        first,
+        second,
+        third,
+    }
+}
+
+// Puts three numbers side by side.
+fn store(table: &mut [u32], at: usize, three: Three)
+    requires { ⌜ at + 3 ≤ length (now table) ⌝ }
+    ensures { λ _. ⌜ Wrote (threeAt three) at 3 (now (table .entry)) (now (table .exit)) ⌝ }
+{
+    table[at] = three.first;
+    table[at + 1] = three.second;
+    table[at + 2] = three.third;
+}
+
+// Fills the strips that begin at the x line a, the narrowest first, where all that begin above it are filled, in a grid of one row of
+// cells. `first` is the number of the first pair whose low line is a.
+pub fn fill_one(
+    xs: &[u16],
+    ys: &[u16],
+    cells: &[u8],
+    columns: usize,
+    rule: Rule,
+    a: Line,
+    first: usize,
+    table: &mut [u32],
+)
+    requires { ⌜ Ready (stored columns 1 (now xs) (now ys) (now cells)) rule (now xs) (now ys) (now cells) (now table) ⌝ }
+    requires { ⌜ (a .0 < columns) × (first ≡ pairsBelow columns (a .0)) ⌝ }
+    requires { ⌜ Reached (stored columns 1 (now xs) (now ys) (now cells)) rule (now table) (a .0) (a .0 + 1) ⌝ }
+    ensures { λ _. ⌜ Reached (stored columns 1 (now (xs .entry)) (now (ys .entry)) (now (cells .entry))) rule (now (table .exit)) (a .0) (columns + 1) ⌝ }
+    ensures { λ _. ⌜ Beyond (entryCount columns 1) (now (table .entry)) (now (table .exit)) ⌝ }
+{
+    let mut row = sums::empty(ys, 0);
+    let mut at = first;
+    let mut c = a.0 + 1;
+    while c <= columns {
+        let last = c - 1;
+        let width = sides::span(xs, a, Line(c));
+        let step = sides::span(xs, Line(last), Line(c));
+        let strip = Strip {
+            columns,
+            pairs: 1,
+            a,
+            c: Line(c),
+            first,
+            at,
+            width,
+        };
+        row = sums::grown(cells, rule, strip, step, 0, row);
+        table[at] = one_row(table, strip, rule, row);
+        at += 1;
+        c += 1;
+    }
+}
+
+// The same in a grid of two rows of cells.
+pub fn fill_two(
+    xs: &[u16],
+    ys: &[u16],
+    cells: &[u8],
+    columns: usize,
+    rule: Rule,
+    a: Line,
+    first: usize,
+    table: &mut [u32],
+)
+    requires { ⌜ Ready (stored columns 2 (now xs) (now ys) (now cells)) rule (now xs) (now ys) (now cells) (now table) ⌝ }
+    requires { ⌜ (a .0 < columns) × (first ≡ pairsBelow columns (a .0)) ⌝ }
+    requires { ⌜ Reached (stored columns 2 (now xs) (now ys) (now cells)) rule (now table) (a .0) (a .0 + 1) ⌝ }
+    ensures { λ _. ⌜ Reached (stored columns 2 (now (xs .entry)) (now (ys .entry)) (now (cells .entry))) rule (now (table .exit)) (a .0) (columns + 1) ⌝ }
+    ensures { λ _. ⌜ Beyond (entryCount columns 2) (now (table .entry)) (now (table .exit)) ⌝ }
+{
+    let start = 3 * first;
+    let mut low = sums::empty(ys, 0);
+    let mut high = sums::empty(ys, 1);
+    let mut at = start;
+    let mut c = a.0 + 1;
+    while c <= columns {
+        let last = c - 1;
+        let width = sides::span(xs, a, Line(c));
+        let step = sides::span(xs, Line(last), Line(c));
+        let strip = Strip {
+            columns,
+            pairs: 3,
+            a,
+            c: Line(c),
+            first: start,
+            at,
+            width,
+        };
+        low = sums::grown(cells, rule, strip, step, 0, low);
+        high = sums::grown(cells, rule, strip, step, 1, high);
+        let costs = two_rows(table, strip, rule, low, high);
+        store(table, at, costs);
+        at += 3;
+        c += 1;
+    }
+}
+
+// The same in a grid of three rows of cells.
+pub fn fill_three(
+    xs: &[u16],
+    ys: &[u16],
+    cells: &[u8],
+    columns: usize,
+    rule: Rule,
+    a: Line,
+    first: usize,
+    table: &mut [u32],
+)
+    requires { ⌜ Ready (stored columns 3 (now xs) (now ys) (now cells)) rule (now xs) (now ys) (now cells) (now table) ⌝ }
+    requires { ⌜ (a .0 < columns) × (first ≡ pairsBelow columns (a .0)) ⌝ }
+    requires { ⌜ Reached (stored columns 3 (now xs) (now ys) (now cells)) rule (now table) (a .0) (a .0 + 1) ⌝ }
+    ensures { λ _. ⌜ Reached (stored columns 3 (now (xs .entry)) (now (ys .entry)) (now (cells .entry))) rule (now (table .exit)) (a .0) (columns + 1) ⌝ }
+    ensures { λ _. ⌜ Beyond (entryCount columns 3) (now (table .entry)) (now (table .exit)) ⌝ }
+{
+    let start = 6 * first;
+    let mut low = sums::empty(ys, 0);
+    let mut middle = sums::empty(ys, 1);
+    let mut high = sums::empty(ys, 2);
+    let mut at = start;
+    let mut c = a.0 + 1;
+    while c <= columns {
+        let last = c - 1;
+        let width = sides::span(xs, a, Line(c));
+        let step = sides::span(xs, Line(last), Line(c));
+        let strip = Strip {
+            columns,
+            pairs: 6,
+            a,
+            c: Line(c),
+            first: start,
+            at,
+            width,
+        };
+        low = sums::grown(cells, rule, strip, step, 0, low);
+        middle = sums::grown(cells, rule, strip, step, 1, middle);
+        high = sums::grown(cells, rule, strip, step, 2, high);
+        let above = two_rows(table, strip, rule, middle, high);
+        let costs = third_row(table, strip, rule, low, middle, high, above);
+        store(table, at, costs);
+        store(table, at + 3, above);
+        at += 6;
+        c += 1;
+    }
+}
