@@ -4,7 +4,7 @@
     tests/gdsii/make.py
 
 writes *.element beside itself, each the bytes of one boundary from its BOUNDARY record to its ENDEL as that tool wrote them. The gate does not
-run it (it needs both packages): it reads the stored bytes. The drawings are those of tests/compare/src/gdsii.rs.
+run it (it needs both packages): it reads the stored bytes. The drawings are those of tests/drawings/src/elements.rs.
 """
 import os
 import subprocess
