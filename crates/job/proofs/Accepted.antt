@@ -1,5 +1,6 @@
 -- A header that is read is in range. This stands before all laws, so that a reader with wider ranges is refused here. Assumes nothing.
 --
+--   value-begins     == a number that is out of range is told by the place where it starts
 --   value-most       == a value that is read is no more than it may be
 --   three-most       == three values that are read as a header, each no more than it may be
 --   Headed, header-range == a header that is read has a threshold and a weight up to 1,000, and 255 figures at most
@@ -17,6 +18,10 @@ use Rattle.number.proofs.Reading.{then-inv}
 use Rattle.job.specs.Job.{value, Header, header}
 
 module _ (s : List ℕ) where
+  pub value-begins : (low high at : ℕ) {v next : ℕ} → number s at ≡ read v next → (leb low v && leb v high) ≡ false → value s low high at ≡ fault Range at
+  unfolding value
+  value-begins low high at e q = rw (e, q)
+
   pub value-most : (low high at : ℕ) {v next : ℕ} → value s low high at ≡ read v next → v ≤ high
   unfolding value
   value-most low high at {v} {next} e =

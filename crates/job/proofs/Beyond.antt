@@ -4,6 +4,7 @@
 --   written-beyond   == bytes at the front of a buffer: every place behind them is as it was
 --   Kept out u       == what a writer leaves of a buffer: the places behind the bytes written as they came in, all of them beside a
 --                       refusal, and its length
+--   header-rule      == 1 comes before 10: a rule that is out of range is told whatever the count is
 --   header-beyond, outline-beyond == that holds of `write_header` and of `write_outline`
 --   Unspoiled l ns u == the same of the two lists of `unpack`: behind the two numbers of each corner, and behind one for each ring
 --   unpack-beyond    == that holds of `unpack`
@@ -64,6 +65,11 @@ written-kept out b =
       same = written-length b out (leb-true (length b) (length out) p);
     })
     (λ p. untouched out _ refl)
+
+-- 1 comes before 10: a rule that is out of range is told whatever the count is
+pub header-rule : (t w k : ℕ) (out : List ℕ) → inRange t w ≡ false → headerWritten t w k out .number ≡ 1
+unfolding headerWritten
+header-rule t w k out e = rw e
 
 pub header-beyond : (t w k : ℕ) (out : List ℕ) → Kept out (headerWritten t w k out)
 unfolding headerWritten
