@@ -36,11 +36,10 @@
 --   tie-order            == the cut made at a mixed piece: of those that cost least it is vertical if any is, and no lower line of its
 --                           direction costs the same
 -- Demand 3: no way to cut is cheaper
---   never-cheaper        == no way to cut the frame at the nanometre, each cut at a corner's coordinate and right across, good shots cut
---                           again or not, totals less than the reported cost
---   recut                == among the ways: a rectangle that is all inside, cut again at any corner's coordinate into two shots
---                           (proofs/Ways.antt)
---   recut-dearer         == so a piece that is all inside has an entry of no more than what its two parts cost, cut again
+--   never-cheaper        == no way to cut the frame at the nanometre, each cut at a corner's coordinate and right across, what is wholly
+--                           inside being kept whole, totals less than the reported cost (proofs/Ways.antt)
+--   entry-whole          == the entry of a piece that is wholly inside is its charge as one shot, though cut again it might be cheaper (the
+--                           row of the bar of 30 by 20 nm)
 --   attained             == one such way has the reported shots, and totals the reported cost
 --   entry-never-cheaper, entry-attained == so is each table entry for its piece: the least total of any way to cut it
 --   never-cheaper-grid, attained-grid   == the same of cuttings of the grid by its lines
@@ -58,9 +57,9 @@ use mir.Syntax.{w16}
 use mir.Val.{Fits}
 use lib.ListN.{length, take, getD, length-map}
 use Rattle.sum.specs.Sum.{only, sumOf}
-use Rattle.sum.proofs.Sum.{only-most}
+use Rattle.sum.proofs.Sum.{only-most, rise}
 use Rattle.sum.proofs.Lists.{sumOf-member, sumOf-two, sumOf-some}
-use Rattle.recurrence.specs.Scheme.{mixed}
+use Rattle.recurrence.specs.Scheme.{full, mixed}
 use Rattle.recurrence.specs.Cutting.{Cutting, shotsIn as shotsOfCutting, price}
 use Rattle.refusal.specs.declared.Refusal.{Refusal}
 use Rattle.refusal.specs.declared.Refusal.the-variants as because
@@ -73,6 +72,7 @@ use Rattle.figure.specs.Inside.{insideAt}
 use Rattle.figure.specs.Steps.{Right}
 use Rattle.piece.specs.Piece.{Piece, box, rectangle, frame, kind, sliver, charge}
 use Rattle.piece.specs.Straight.{Cut, straight, shots, cost}
+use Rattle.piece.proofs.Kind.{mixed-count, full-count}
 use Rattle.piece.proofs.Straight.{no-cheaper, attained as attained-by}
 use Rattle.piece.proofs.Choice.{numbers-length, numbers-shots}
 use Rattle.piece.proofs.Bound.{cost-most}
@@ -81,7 +81,7 @@ use Rattle.table.proofs.Entry.{pair-closed, count-closed, entry-join}
 use Rattle.demands.specs.Promise.{Asked, drawn, ruleOf, frameShots, frameCost, frameSliver, frameNumbers, Outcome, written, refused, outcome}
 use Rattle.demands.specs.Refusals.{Condition, First}
 use Rattle.demands.specs.Square.{shotSliver, shotCharge}
-use Rattle.demands.specs.Ways.{westOf, eastOf, southOf, northOf, Way, shotsOf, total, On, frameOf}
+use Rattle.demands.specs.Ways.{Whole, Way, shotsOf, total, On, frameOf}
 use Rattle.demands.specs.Demands.{Words, PieceOf, reported, entry, pairAt, answer, Filled, Chosen, Recurrence}
 use Rattle.demands.proofs.Outcome.{accepted, short, written-front, outcome-zero, outcome-seven, outcome-other, with-buffers, answer-same}
 use Rattle.demands.proofs.Refusals.{test, outcome-number, test-false, number-first, first-number, number-none, none-number, number-known}
@@ -284,19 +284,19 @@ module _ (ask : Asked) where
             ∙ sym (entry-cost f p v),
       )
 
-  pub recut-dearer : Words (ask .figure) → Filled o → (p : Piece) → PieceOf (drawn ask) p
-      → (let s = rectangle (drawn ask) p in
-      let c = shotCharge F (ruleOf ask) in
-      ((x y : ℕ) → holds x y s ≡ true → F x y ≡ true)
-      → ((v : ℕ) → OnX v → s .xlow < v → v < s .xhigh → E p ≤ c (westOf s v) + c (eastOf s v))
-      × ((v : ℕ) → OnY v → s .ylow < v → v < s .yhigh → E p ≤ c (southOf s v) + c (northOf s v)))
+  pub entry-whole : Words (ask .figure) → Filled o → (p : Piece) → PieceOf (drawn ask) p
+      → (let s = rectangle (drawn ask) p in Whole F s → E p ≡ shotCharge F (ruleOf ask) s)
   unfolding total sumOf
-  recut-dearer words f p v good =
-      let n = entry-never-cheaper words f p v in
-      let m = ways.recut F OnX OnY (rectangle (drawn ask) p) good in (
-        λ u w h k. let q = m .0 u w h k in omega (arith, n (q .0), ap (sumOf (shotCharge F (ruleOf ask))) (q .1)),
-        λ u w h k. let q = m .1 u w h k in omega (arith, n (q .0), ap (sumOf (shotCharge F (ruleOf ask))) (q .1)),
-      )
+  entry-whole words f p v whole =
+      let g = sound ask words f in
+      let m = entry-attained words f p v in
+      let x : drawn ask .x (p .a) < drawn ask .x (p .c) =
+      omega (arith, g .x-rises (p .a) (omega (arith, v .ac, v .cx)), rise (drawn ask .x) (g .x-up) (suc (p .a)) (p .c) (v .ac))
+      in
+      let y : drawn ask .y (p .b) < drawn ask .y (p .d) =
+      omega (arith, g .y-rises (p .b) (omega (arith, v .bd, v .dy)), rise (drawn ask .y) (g .y-up) (suc (p .b)) (p .d) (v .bd))
+      in
+      omega (arith, m .2, ap (sumOf (shotCharge F (ruleOf ask))) (ways.kept-whole F OnX OnY (rectangle (drawn ask) p) whole x y (m .0)))
 
   pub never-cheaper : Words (ask .figure) → o .number ≡ 0 → (way : Way F OnX OnY (frameOf (cornersOf (ask .figure)))) → o .cost ≤ total F OnX OnY (ruleOf ask) way
   never-cheaper words e =
@@ -313,23 +313,22 @@ module _ (ask : Asked) where
       (framed ask words (inl e))
       (m .0, m .1 ∙ sym (reported-is e), m .2 ∙ frame-entry words e)
 
-  -- good shots may be cut again: every piece may be cut
-  abbrev Any : Piece → Type 0
-  Any p = Unit {0}
+  -- a piece that is wholly inside is kept whole; every other one may be cut
+  abbrev Keeps : Piece → Type 0
+  Keeps p = kind (drawn ask) p ≡ full → ⊥
 
-  pub never-cheaper-grid : Words (ask .figure) → o .number ≡ 0
-      → (c : Cutting (straight (drawn ask) (ruleOf ask)) Any (frame (drawn ask))) → o .cost ≤ price (straight (drawn ask) (ruleOf ask)) Any c
-  never-cheaper-grid words e c =
-      let s = sound ask words (inl e) in
-      omega (arith, cost-frame e, no-cheaper (drawn ask) (ruleOf ask) s Any (frame (drawn ask)) c)
+  pub never-cheaper-grid : o .number ≡ 0
+      → (c : Cutting (straight (drawn ask) (ruleOf ask)) Keeps (frame (drawn ask))) → o .cost ≤ price (straight (drawn ask) (ruleOf ask)) Keeps c
+  never-cheaper-grid e c =
+      omega (arith, cost-frame e, no-cheaper (drawn ask) (ruleOf ask) Keeps (λ p u. u) (frame (drawn ask)) c)
 
   pub attained-grid : o .number ≡ 0
-      → (c : Cutting (straight (drawn ask) (ruleOf ask)) Any (frame (drawn ask)))
-      × (map (rectangle (drawn ask)) (shotsOfCutting (straight (drawn ask) (ruleOf ask)) Any c) ≡ reported o)
-      × (price (straight (drawn ask) (ruleOf ask)) Any c ≡ o .cost)
+      → (c : Cutting (straight (drawn ask) (ruleOf ask)) Keeps (frame (drawn ask)))
+      × (map (rectangle (drawn ask)) (shotsOfCutting (straight (drawn ask) (ruleOf ask)) Keeps c) ≡ reported o)
+      × (price (straight (drawn ask) (ruleOf ask)) Keeps c ≡ o .cost)
   unfolding price frameShots cost
   attained-grid e =
-      let m = attained-by (drawn ask) (ruleOf ask) Any (λ p k. tt) (frame (drawn ask)) in (
+      let m = attained-by (drawn ask) (ruleOf ask) Keeps (λ p e f. omega (arith, mixed-count (drawn ask) p e, full-count (drawn ask) p f)) (frame (drawn ask)) in (
         m .0,
         ap (map (rectangle (drawn ask))) (m .1) ∙ sym (reported-is e),
         ap (sumOf (charge (drawn ask) (ruleOf ask))) (m .1) ∙ sym (cost-frame e),

@@ -18,7 +18,7 @@ use Rattle.rule.specs.Rules.{inRange}
 use Rattle.recurrence.specs.Scheme.{shotsBy}
 use Rattle.recurrence.specs.Choice.{cheapest, least}
 use Rattle.rule.specs.declared.Rule.{Rule}
-use Rattle.rule.specs.Charge.{sliverOf, chargeOf}
+use Rattle.rule.specs.Charge.{longer, sliverOf, chargeOf}
 use Rattle.shot.specs.Shot.{numbers}
 use Rattle.figure.specs.Corners.{corners, coordinate, last, steps, around, any, edges, threes, lastButOne, turns, changes, odd, slanted, unturned, both, neither, alike, same as same-coordinate}
 use Rattle.figure.specs.Figure.{Figure, share, badLength, badFigure, fault}
@@ -89,7 +89,7 @@ weighed-all f r (k ∷ ks) e =
     (eqb-true _ _ (s .0), weighed-all f r ks (s .1))
 
 rows-pass : (right-all rows && same (costs (grid L) (rule 25 40)) entriesOfL) ≡ true
-unfolding right-all rightBy same weighed refusal fault frameShots frameCost frameSliver frameNumbers entryCount pairCount pairsBelow pairs costs sumOf over join shotsBy cheapest least cells kind frame cellSum kindOf width height left right bottom top lowSide highSide cost shots cuts parts between run numbersOf numbers grid gridOf corners coordinate last steps around any edges threes lastButOne turns changes odd share badLength badFigure slanted unturned both neither alike same-coordinate insert rising lines place wall walls covers count within empty inside.insideCells piece.insideCells piece.sliver piece.charge sliverOf chargeOf
+unfolding right-all rightBy same weighed refusal fault frameShots frameCost frameSliver frameNumbers entryCount pairCount pairsBelow pairs costs sumOf over join shotsBy cheapest least cells kind frame cellSum kindOf width height left right bottom top lowSide highSide cost shots cuts parts between run numbersOf numbers grid gridOf corners coordinate last steps around any edges threes lastButOne turns changes odd share badLength badFigure slanted unturned both neither alike same-coordinate insert rising lines place wall walls covers count within empty inside.insideCells piece.insideCells piece.sliver piece.charge longer sliverOf chargeOf
 rows-pass = refl
 
 list-length : (g : Grid) (r : Rule) → length (frameNumbers g r) ≡ 4 * length (frameShots g r)

@@ -1,6 +1,6 @@
 -- Ways to cut at the nanometre and the cost of pieces: no way is cheaper, and one attains the cost. Assumes nothing.
 --
---   recut                == a rectangle that is all inside may be cut again, at any place that is allowed, into two shots
+--   kept-whole           == a rectangle that is wholly inside has one way: it is one shot
 --   Lined g onX onY      == the places that may be cut at are those of the grid's lines
 --   locate               == a place between two lines lies between two neighbours of them
 --   square-cell          == a unit square that a piece holds lies in one of its cells
@@ -19,19 +19,20 @@ use borrow.Author.Tests.{leb-true, ltb-true, le-leb, lt-ltb}
 use Rattle.sum.specs.Sum.{sumOf, All, join}
 use Rattle.sum.proofs.Sum.{le-or, rise}
 use Rattle.sum.proofs.Lists.{sumOf-append, All-at}
+use Rattle.recurrence.specs.Scheme.{full, mixed}
 use Rattle.recurrence.proofs.Scheme as scheme
 use Rattle.outline.specs.Grid.{Grid, Sound}
-use Rattle.piece.specs.Piece.{Piece, rectangle, leftPart, rightPart, lowerPart, upperPart, cells}
+use Rattle.piece.specs.Piece.{Piece, rectangle, leftPart, rightPart, lowerPart, upperPart, cells, kind}
 use Rattle.piece.specs.Straight.{Cut, vertical, horizontal, parts, straight, shots, cost}
 use Rattle.piece.proofs.Cells.{Within}
-use Rattle.piece.proofs.Kind.{outside-cell, full-cell, kind-none, kind-all}
+use Rattle.piece.proofs.Kind.{outside-cell, full-cell, kind-none, kind-all, mixed-count, full-count}
 use Rattle.piece.proofs.Straight.{ends, cuts-all, cuts-at, fair, cost-outside, cost-full, across-vertical, across-horizontal}
 use Rattle.piece.proofs.Choice.{InPiece}
 use Rattle.table.specs.Entry.{Valid}
 use Rattle.rule.specs.declared.Rule.{Rule}
 use Rattle.shot.specs.Shot.{Shot, holds}
 use Rattle.demands.specs.Square.{shotCharge}
-use Rattle.demands.specs.Ways.{westOf, eastOf, southOf, northOf, Way, leave, shoot, upright, level, shotsOf}
+use Rattle.demands.specs.Ways.{Whole, westOf, eastOf, southOf, northOf, Way, leave, shoot, upright, level, shotsOf}
 use Rattle.demands.proofs.Square.{Shows, charge-squares}
 
 pub record Lined (g : Grid) (onX onY : ℕ → Type 0) : Type 0 where
@@ -74,35 +75,17 @@ pub holding : (x y : ℕ) (s : Shot) → s .xlow ≤ x → x < s .xhigh → s .y
 unfolding holds
 holding x y s a b c d = ap₂ _&&_ (ap₂ _&&_ (le-leb _ _ a) (lt-ltb _ _ b)) (ap₂ _&&_ (le-leb _ _ c) (lt-ltb _ _ d))
 
--- A good shot may be cut again
+-- What is wholly inside is kept whole
 
--- what a part of a rectangle holds the rectangle holds
-held-part : (s t : Shot) → s .xlow ≤ t .xlow → t .xhigh ≤ s .xhigh → s .ylow ≤ t .ylow → t .yhigh ≤ s .yhigh
-    → (x y : ℕ) → holds x y t ≡ true → holds x y s ≡ true
-held-part s t a b c d x y q =
-    let k = held x y t q in
-    holding x y s (omega (arith, k .0)) (omega (arith, k .1)) (omega (arith, k .2)) (omega (arith, k .3))
-
-module _ (F : ℕ → ℕ → Bool) (onX onY : ℕ → Type 0) (s : Shot) (good : (x y : ℕ) → holds x y s ≡ true → F x y ≡ true) where
-  pub recut : ((v : ℕ) → onX v → s .xlow < v → v < s .xhigh
-      → (way : Way F onX onY s) × (shotsOf F onX onY way ≡ westOf s v ∷ eastOf s v ∷ []))
-      × ((v : ℕ) → onY v → s .ylow < v → v < s .yhigh
-      → (way : Way F onX onY s) × (shotsOf F onX onY way ≡ southOf s v ∷ northOf s v ∷ []))
+module _ (F : ℕ → ℕ → Bool) (onX onY : ℕ → Type 0) (s : Shot) (whole : Whole F s) where
+  pub kept-whole : s .xlow < s .xhigh → s .ylow < s .yhigh → (way : Way F onX onY s) → shotsOf F onX onY way ≡ s ∷ []
   unfolding shotsOf
-  recut = (
-    λ v o h k. (
-      upright {s = s} v o (omega arith) (omega arith)
-          (shoot (λ x y q. cc (good x y (held-part s (westOf s v) (omega arith) (omega arith) (omega arith) (omega arith) x y q))))
-          (shoot (λ x y q. cc (good x y (held-part s (eastOf s v) (omega arith) (omega arith) (omega arith) (omega arith) x y q)))),
-      refl,
-    ),
-    λ v o h k. (
-      level {s = s} v o (omega arith) (omega arith)
-          (shoot (λ x y q. cc (good x y (held-part s (southOf s v) (omega arith) (omega arith) (omega arith) (omega arith) x y q))))
-          (shoot (λ x y q. cc (good x y (held-part s (northOf s v) (omega arith) (omega arith) (omega arith) (omega arith) x y q)))),
-      refl,
-    ),
-  )
+  kept-whole x y (leave h) =
+      let q = holding (s .xlow) (s .ylow) s (omega arith) x (omega arith) y in
+      absurd (true≢false (sym (whole (s .xlow) (s .ylow) q) ∙ h (s .xlow) (s .ylow) q))
+  kept-whole x y (shoot h) = refl
+  kept-whole x y (upright m v o h k low high) = absurd (m whole)
+  kept-whole x y (level m v o h k low high) = absurd (m whole)
 
 -- the rectangles of two lists, as a join of two has them
 two : (f : Piece → Shot) (l m : List Piece) → map f l ++ map f m ≡ map f (l ++ (m ++ []))
@@ -162,6 +145,19 @@ module _ (g : Grid) (F : ℕ → ℕ → Bool) (sound : Sound g) (shows : Shows 
   squares-nothing h i j hi hj =
       sym (shows .cell i j (g .x i) (g .y j) hi hj (omega arith) (sound .x-rises i hi) (omega arith) (sound .y-rises j hj)) ∙ h (g .x i) (g .y j)
 
+  -- a piece whose rectangle is not wholly inside is not full, and back
+  keeps : {s : Shot} (p : Piece) → Valid (g .columns) (g .rows) p → rectangle g p ≡ s → (Whole F s → ⊥) → kind g p ≡ full → ⊥
+  keeps p v e m f =
+      m (λ x y h. let n = square-cell p v x y (ap (holds x y) e ∙ h) in n .3 ∙ full-cell g p f (n .0) (n .1) (n .2))
+
+  parted : (p : Piece) → Valid (g .columns) (g .rows) p → kind g p ≡ mixed → Whole F (rectangle g p) → ⊥
+  parted p v e h =
+      omega (
+        arith,
+        mixed-count g p e,
+        full-count g p (kind-all g p (v .ac) (v .bd) (cell-square p v true h)),
+      )
+
   module _ (onX onY : ℕ → Type 0) (lined : Lined g onX onY) (r : Rule) where
     pub never-cheaper : {s : Shot} (way : Way F onX onY s) (p : Piece) → Valid (g .columns) (g .rows) p → rectangle g p ≡ s
         → cost g r p ≤ sumOf (shotCharge F r) (shotsOf F onX onY way)
@@ -177,25 +173,25 @@ module _ (g : Grid) (F : ℕ → ℕ → Bool) (sound : Sound g) (shows : Shows 
           charge-squares g F sound shows r p (omega arith) (v .cx) (omega arith) (v .dy),
           ap (shotCharge F r) e,
         )
-    never-cheaper (upright u o h k low high) p v e =
+    never-cheaper (upright part u o h k low high) p v e =
         let m = lined .x-line u o in
         let ai : p .a < m .0 = between-lines (g .x) (sound .x-up) (p .a) (m .0) (omega (arith, m .2, ap (λ s. s .xlow) e)) in
         let ic : m .0 < p .c = between-lines (g .x) (sound .x-up) (m .0) (p .c) (omega (arith, m .2, ap (λ s. s .xhigh) e)) in
         omega (
           arith,
-          cuts-at _ p (fair g r sound p) .0 (m .0) ai ic,
+          cuts-at _ p (fair g r p (keeps p v e part)) .0 (m .0) ai ic,
           across-vertical g r p (m .0),
           never-cheaper low (leftPart p (m .0)) (record { ac = ai; cx = m .1; bd = v .bd; dy = v .dy }) (ap₂ westOf e (m .2)),
           never-cheaper high (rightPart p (m .0)) (record { ac = ic; cx = v .cx; bd = v .bd; dy = v .dy }) (ap₂ eastOf e (m .2)),
           sumOf-append (shotCharge F r) (shotsOf F onX onY low) (shotsOf F onX onY high),
         )
-    never-cheaper (level u o h k low high) p v e =
+    never-cheaper (level part u o h k low high) p v e =
         let m = lined .y-line u o in
         let bj : p .b < m .0 = between-lines (g .y) (sound .y-up) (p .b) (m .0) (omega (arith, m .2, ap (λ s. s .ylow) e)) in
         let jd : m .0 < p .d = between-lines (g .y) (sound .y-up) (m .0) (p .d) (omega (arith, m .2, ap (λ s. s .yhigh) e)) in
         omega (
           arith,
-          cuts-at _ p (fair g r sound p) .1 (m .0) bj jd,
+          cuts-at _ p (fair g r p (keeps p v e part)) .1 (m .0) bj jd,
           across-horizontal g r p (m .0),
           never-cheaper low (lowerPart p (m .0)) (record { ac = v .ac; cx = v .cx; bd = bj; dy = m .1 }) (ap₂ southOf e (m .2)),
           never-cheaper high (upperPart p (m .0)) (record { ac = v .ac; cx = v .cx; bd = jd; dy = v .dy }) (ap₂ northOf e (m .2)),
@@ -206,25 +202,25 @@ module _ (g : Grid) (F : ℕ → ℕ → Bool) (sound : Sound g) (shows : Shows 
     Reached : Piece → List Piece → Type 0
     Reached p l = Valid (g .columns) (g .rows) p → (way : Way F onX onY (rectangle g p)) × (shotsOf F onX onY way ≡ map (rectangle g) l)
 
-    reached-cut : (p : Piece) (k : Cut) → InPiece p k → All (λ q. Reached q (shots g r q)) (parts p k)
+    reached-cut : (p : Piece) (k : Cut) → kind g p ≡ mixed → InPiece p k → All (λ q. Reached q (shots g r q)) (parts p k)
         → Reached p (join (shots g r) (parts p k))
     unfolding parts join Reached shotsOf
-    reached-cut p (vertical i) k h v =
+    reached-cut p (vertical i) m k h v =
         let i-most : i ≤ g .columns = omega (arith, v .cx, k .1) in
         let low = h .0 (record { ac = k .0; cx = i-most; bd = v .bd; dy = v .dy }) in
         let high = h .1 .0 (record { ac = k .1; cx = v .cx; bd = v .bd; dy = v .dy }) in (
-          upright {s = rectangle g p} (g .x i) (lined .x-on i i-most)
+          upright {s = rectangle g p} (parted p v m) (g .x i) (lined .x-on i i-most)
               (omega (arith, rise (g .x) (sound .x-up) (suc (p .a)) i (k .0), sound .x-rises (p .a) (omega (arith, v .cx, k .0, k .1))))
               (omega (arith, rise (g .x) (sound .x-up) (suc i) (p .c) (k .1), sound .x-rises i (omega (arith, v .cx, k .1))))
               (low .0)
               (high .0),
           ap₂ _++_ (low .1) (high .1) ∙ two (rectangle g) (shots g r (leftPart p i)) (shots g r (rightPart p i)),
         )
-    reached-cut p (horizontal j) k h v =
+    reached-cut p (horizontal j) m k h v =
         let j-most : j ≤ g .rows = omega (arith, v .dy, k .1) in
         let low = h .0 (record { ac = v .ac; cx = v .cx; bd = k .0; dy = j-most }) in
         let high = h .1 .0 (record { ac = v .ac; cx = v .cx; bd = k .1; dy = v .dy }) in (
-          level {s = rectangle g p} (g .y j) (lined .y-on j j-most)
+          level {s = rectangle g p} (parted p v m) (g .y j) (lined .y-on j j-most)
               (omega (arith, rise (g .y) (sound .y-up) (suc (p .b)) j (k .0), sound .y-rises (p .b) (omega (arith, v .dy, k .0, k .1))))
               (omega (arith, rise (g .y) (sound .y-up) (suc j) (p .d) (k .1), sound .y-rises j (omega (arith, v .dy, k .1))))
               (low .0)
@@ -239,4 +235,4 @@ module _ (g : Grid) (F : ℕ → ℕ → Bool) (sound : Sound g) (shows : Shows 
         scheme.along (straight g r) cells (ends g r) Reached
         (λ p e v. (leave (λ x y h. let m = square-cell p v x y h in m .3 ∙ outside-cell g p e (m .0) (m .1) (m .2)), refl))
         (λ p e v. (shoot (λ x y h. let m = square-cell p v x y h in m .3 ∙ full-cell g p e (m .0) (m .1) (m .2)), refl))
-        (λ p k e m h. reached-cut p k (All-at (InPiece p) m (cuts-all (InPiece p) p (λ j a b. (a, b)) (λ j a b. (a, b)))) h)
+        (λ p k e m h. reached-cut p k e (All-at (InPiece p) m (cuts-all (InPiece p) p (λ j a b. (a, b)) (λ j a b. (a, b)))) h)

@@ -1,4 +1,5 @@
--- To believe: the ten proved rows of document 01, "Drawings to test on", four with rings, and one of a tie.
+-- To believe: the ten proved rows of document 01, "Drawings to test on" (that of the 10 nm square as document 02's Item 4 has it), four with rings,
+-- one of a tie, and three of flecks.
 --
 --   By                 == the rule that a row is for: one of threshold and weight, or any in range
 --   Meant b t w        == the row is for the rule of threshold t and weight w
@@ -10,6 +11,7 @@
 --                         outcome
 --   outline l          == the figure of one ring with the corners of the list l
 --   entriesOfL         == all entries of L's table by the rule of 25 nm and 40, in the order of entries
+--   bar, foot          == a bar that is kept whole though its halves would cost less; a block on a foot of 10 nm
 --   L, B, framed, windowed   == the drawing of "The job program", the block with a nose, a frame with a window, the same with its window first
 --   Z                  == two blocks that share a strip, of which only the order of lines says how it is cut
 --   rows               == the table
@@ -96,6 +98,14 @@ windowed = figure (30 ∷ 30 ∷ 70 ∷ 30 ∷ 70 ∷ 70 ∷ 30 ∷ 70 ∷ 0 ∷
 abbrev pub Z : Figure
 Z = outline (0 ∷ 0 ∷ 60 ∷ 0 ∷ 60 ∷ 20 ∷ 110 ∷ 20 ∷ 110 ∷ 100 ∷ 50 ∷ 100 ∷ 50 ∷ 80 ∷ 0 ∷ 80 ∷ [])
 
+-- a bar that is wholly inside, with the line x = 15 across it: kept whole, though its two halves would be squares that cost less
+abbrev pub bar : Figure
+bar = outline (15 ∷ 0 ∷ 0 ∷ 0 ∷ 0 ∷ 20 ∷ 15 ∷ 20 ∷ 15 ∷ 0 ∷ 30 ∷ 0 ∷ 30 ∷ 20 ∷ 15 ∷ 20 ∷ [])
+
+-- a block on a foot of 10 nm, which is a square that is exposed over 20 nm upright and 10 nm level
+abbrev pub foot : Figure
+foot = outline (15 ∷ 0 ∷ 25 ∷ 0 ∷ 25 ∷ 10 ∷ 100 ∷ 10 ∷ 100 ∷ 60 ∷ 0 ∷ 60 ∷ 0 ∷ 10 ∷ 15 ∷ 10 ∷ [])
+
 -- the line of y = 20 is the second y line of L
 abbrev pub rows : List Row
 rows =
@@ -106,9 +116,12 @@ rows =
     ∷ good B 25 9 2900 100 (0 ∷ 0 ∷ 200 ∷ 200 ∷ 200 ∷ 50 ∷ 210 ∷ 150 ∷ []) []
     ∷ good (outline (0 ∷ 0 ∷ 100 ∷ 0 ∷ 100 ∷ 24 ∷ 0 ∷ 24 ∷ [])) 25 40 9000 200 (0 ∷ 0 ∷ 100 ∷ 24 ∷ []) []
     ∷ good (outline (0 ∷ 0 ∷ 100 ∷ 0 ∷ 100 ∷ 24 ∷ 0 ∷ 24 ∷ [])) 24 40 1000 0 (0 ∷ 0 ∷ 100 ∷ 24 ∷ []) []
-    ∷ good (outline (0 ∷ 0 ∷ 10 ∷ 0 ∷ 10 ∷ 10 ∷ 0 ∷ 10 ∷ [])) 25 40 2600 40 (0 ∷ 0 ∷ 10 ∷ 10 ∷ []) []
+    ∷ good (outline (0 ∷ 0 ∷ 10 ∷ 0 ∷ 10 ∷ 10 ∷ 0 ∷ 10 ∷ [])) 25 40 1800 20 (0 ∷ 0 ∷ 10 ∷ 10 ∷ []) []
+    ∷ good (outline (0 ∷ 0 ∷ 10 ∷ 0 ∷ 10 ∷ 20 ∷ 0 ∷ 20 ∷ [])) 25 40 2600 40 (0 ∷ 0 ∷ 10 ∷ 20 ∷ []) []
+    ∷ good bar 25 100 7000 60 (0 ∷ 0 ∷ 30 ∷ 20 ∷ []) (record { cut = vertical 1; cost = 6000 } ∷ [])
+    ∷ good foot 25 40 2800 20 (15 ∷ 0 ∷ 25 ∷ 10 ∷ 0 ∷ 10 ∷ 100 ∷ 60 ∷ []) []
     ∷ good (outline (0 ∷ 0 ∷ 10 ∷ 0 ∷ 10 ∷ 20 ∷ 20 ∷ 20 ∷ 20 ∷ 10 ∷ 0 ∷ 10 ∷ [])) 0 40 2000 0 (0 ∷ 0 ∷ 10 ∷ 10 ∷ 10 ∷ 10 ∷ 20 ∷ 20 ∷ []) []
-    ∷ good Z 25 40 4200 30 (0 ∷ 0 ∷ 50 ∷ 80 ∷ 50 ∷ 0 ∷ 60 ∷ 20 ∷ 50 ∷ 20 ∷ 110 ∷ 100 ∷ []) (record { cut = vertical 1; cost = 4200 } ∷ record { cut = vertical 2; cost = 4200 } ∷ record { cut = horizontal 1; cost = 5400 } ∷ record { cut = horizontal 2; cost = 5400 } ∷ [])
+    ∷ good Z 25 40 3800 20 (0 ∷ 0 ∷ 50 ∷ 80 ∷ 50 ∷ 0 ∷ 60 ∷ 20 ∷ 50 ∷ 20 ∷ 110 ∷ 100 ∷ []) (record { cut = vertical 1; cost = 3800 } ∷ record { cut = vertical 2; cost = 3800 } ∷ record { cut = horizontal 1; cost = 5400 } ∷ record { cut = horizontal 2; cost = 5400 } ∷ [])
     ∷ good framed 25 40 4000 0 (0 ∷ 0 ∷ 30 ∷ 100 ∷ 30 ∷ 0 ∷ 70 ∷ 30 ∷ 30 ∷ 70 ∷ 70 ∷ 100 ∷ 70 ∷ 0 ∷ 100 ∷ 100 ∷ []) []
     ∷ good framed 40 40 21600 440 (0 ∷ 0 ∷ 30 ∷ 100 ∷ 30 ∷ 0 ∷ 70 ∷ 30 ∷ 30 ∷ 70 ∷ 70 ∷ 100 ∷ 70 ∷ 0 ∷ 100 ∷ 100 ∷ []) []
     ∷ good windowed 25 40 4000 0 (0 ∷ 0 ∷ 30 ∷ 100 ∷ 30 ∷ 0 ∷ 70 ∷ 30 ∷ 30 ∷ 70 ∷ 70 ∷ 100 ∷ 70 ∷ 0 ∷ 100 ∷ 100 ∷ []) []

@@ -2,9 +2,11 @@
 --
 --   westOf, eastOf s v     == the two parts of the rectangle s left and right of the place v
 --   southOf, northOf s v   == the two parts of it below and above v
+--   Whole F s              == every unit square of the rectangle s is inside the figure F
 --   Way F onX onY s        == a way to cut the rectangle s until no part is partly in the figure F and partly out: leave it where no unit
---                             square of it is inside; shoot it where all are; or cut right across it, at a place in x that onX allows
---                             or one in y that onY allows, and cut both parts in turn. A rectangle that is all inside may be cut too
+--                             square of it is inside; shoot it where all are; or, where it is not wholly inside, cut right across it, at
+--                             a place in x that onX allows or one in y that onY allows, and cut both parts in turn. What is wholly inside
+--                             is kept whole
 --   shotsOf                == the shots of a way, low part first
 --   total F onX onY r way  == what they cost together: the sum of their charges
 --   On a cs v              == v is the coordinate of a corner along the axis a
@@ -34,18 +36,21 @@ southOf s v = record { xlow = s .xlow; ylow = s .ylow; xhigh = s .xhigh; yhigh =
 abbrev pub northOf : Shot → ℕ → Shot
 northOf s v = record { xlow = s .xlow; ylow = v; xhigh = s .xhigh; yhigh = s .yhigh }
 
+abbrev pub Whole : (ℕ → ℕ → Bool) → Shot → Type 0
+Whole F s = (x y : ℕ) → holds x y s ≡ true → F x y ≡ true
+
 module _ (F : ℕ → ℕ → Bool) (onX onY : ℕ → Type 0) where
   pub data Way : Shot → Type 0 where
     leave : {s : Shot} → ((x y : ℕ) → holds x y s ≡ true → F x y ≡ false) → Way s
-    shoot : {s : Shot} → ((x y : ℕ) → holds x y s ≡ true → F x y ≡ true) → Way s
-    upright : {s : Shot} (v : ℕ) → onX v → s .xlow < v → v < s .xhigh → Way (westOf s v) → Way (eastOf s v) → Way s
-    level : {s : Shot} (v : ℕ) → onY v → s .ylow < v → v < s .yhigh → Way (southOf s v) → Way (northOf s v) → Way s
+    shoot : {s : Shot} → Whole F s → Way s
+    upright : {s : Shot} → (Whole F s → ⊥) → (v : ℕ) → onX v → s .xlow < v → v < s .xhigh → Way (westOf s v) → Way (eastOf s v) → Way s
+    level : {s : Shot} → (Whole F s → ⊥) → (v : ℕ) → onY v → s .ylow < v → v < s .yhigh → Way (southOf s v) → Way (northOf s v) → Way s
 
   unfoldable pub shotsOf : {s : Shot} → Way s → List Shot
   shotsOf (leave e) = []
   shotsOf (shoot {s = s} e) = s ∷ []
-  shotsOf (upright v o h k low high) = shotsOf low ++ shotsOf high
-  shotsOf (level v o h k low high) = shotsOf low ++ shotsOf high
+  shotsOf (upright m v o h k low high) = shotsOf low ++ shotsOf high
+  shotsOf (level m v o h k low high) = shotsOf low ++ shotsOf high
 
   unfoldable pub total : {s : Shot} → Rule → Way s → ℕ
   total r way = sumOf (shotCharge F r) (shotsOf way)

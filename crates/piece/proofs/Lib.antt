@@ -1,7 +1,6 @@
 pub mod Cells
 pub mod Kind
 pub mod Turn
-pub mod Side
 pub mod Cover
 pub mod Straight
 pub mod Choice

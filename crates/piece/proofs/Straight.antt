@@ -13,7 +13,7 @@
 --   Part s p, shots-part, shots-all-full == a shot lies within its piece, between rising lines, and is full
 --   cover, cell-once                     == the shots have together what the inside cells have; each inside cell is in one shot
 -- Cuttings
---   fair                                 == no cut leads to parts that cost less together, of whatever kind the piece is
+--   fair                                 == no cut of a piece that is not full leads to parts that cost less together
 --   no-cheaper, attained                 == no cutting has a lower price than the cost; one has these very shots
 use Prim.Native.Nat.{ℕ, zero, suc, _+_, _-_, _≤_, _<_}
 use mathlib.Core.Path.{_≡_, refl, sym, _∙_, subst}
@@ -27,14 +27,13 @@ use Rattle.recurrence.specs.Scheme.{Kind, outside, full, mixed, Solves, Ends}
 use Rattle.recurrence.specs.Cutting.{Cutting, shotsIn, price}
 use Rattle.recurrence.proofs.Scheme as scheme
 use Rattle.recurrence.proofs.Cutting as cutting
-use Rattle.outline.specs.Grid.{Grid, Sound}
+use Rattle.outline.specs.Grid.{Grid}
 use Rattle.rule.specs.declared.Rule.{Rule}
 use Rattle.rule.proofs.Charge.{charge-least}
 use Rattle.piece.specs.Piece.{Piece, leftPart, rightPart, lowerPart, upperPart, holds, cellSum, cells, insideCells, kind, sliver, charge}
 use Rattle.piece.specs.Straight.{Cut, vertical, horizontal, run, between, cuts, parts, straight, shots, cost}
 use Rattle.piece.proofs.Cells.{sum-vertical, sum-horizontal, cells-some, cells-short, cells-a, cells-b}
-use Rattle.piece.proofs.Kind.{mixed-count, full-count, inside-most, full-vertical, full-horizontal, kind-outside}
-use Rattle.piece.proofs.Side.{charge-vertical, charge-horizontal}
+use Rattle.piece.proofs.Kind.{mixed-count, full-count, inside-most, kind-outside}
 use Rattle.piece.proofs.Cover as cover-by
 
 -- The cuts of a piece
@@ -275,39 +274,19 @@ module _ (g : Grid) (r : Rule) where
 
   -- Cuttings
 
-  module _ (sound : Sound g) where
-    pub fair : (p : Piece) → All (λ k. cost g r p ≤ sumOf (cost g r) (parts p k)) (cuts p)
-    fair p = go (kind g p) refl
-      where
-        go : (t : Kind) → kind g p ≡ t → All (λ k. cost g r p ≤ sumOf (cost g r) (parts p k)) (cuts p)
-        go outside e = cuts-all _ p (λ j h k. omega (arith, cost-outside p e)) (λ j h k. omega (arith, cost-outside p e))
-        go full e =
-            cuts-all _ p
-            (λ j h k.
-            let f = full-vertical g p e j h k in
-            omega (
-              arith,
-              across-vertical p j,
-              cost-full p e,
-              cost-full (leftPart p j) (f .0),
-              cost-full (rightPart p j) (f .1),
-              charge-vertical g r sound p j (omega arith) (omega arith),
-            ))
-            (λ j h k.
-            let f = full-horizontal g p e j h k in
-            omega (
-              arith,
-              across-horizontal p j,
-              cost-full p e,
-              cost-full (lowerPart p j) (f .0),
-              cost-full (upperPart p j) (f .1),
-              charge-horizontal g r sound p j (omega arith) (omega arith),
-            ))
-        go mixed e = cost-cuts p e
+  -- what is wholly inside is kept whole
+  pub fair : (p : Piece) → (kind g p ≡ full → ⊥) → All (λ k. cost g r p ≤ sumOf (cost g r) (parts p k)) (cuts p)
+  fair p keeps = go (kind g p) refl
+    where
+      go : (t : Kind) → kind g p ≡ t → All (λ k. cost g r p ≤ sumOf (cost g r) (parts p k)) (cuts p)
+      go outside e = cuts-all _ p (λ j h k. omega (arith, cost-outside p e)) (λ j h k. omega (arith, cost-outside p e))
+      go full e = absurd (keeps e)
+      go mixed e = cost-cuts p e
 
-    pub no-cheaper : (May : Piece → Type 0) (p : Piece) (t : Cutting (straight g r) May p) → cost g r p ≤ price (straight g r) May t
-    unfolding cost shots price
-    no-cheaper May p t = cutting.no-cheaper (straight g r) cells ends May (λ q u. fair q) t
+  pub no-cheaper : (May : Piece → Type 0) → ((p : Piece) → May p → kind g p ≡ full → ⊥) → (p : Piece) (t : Cutting (straight g r) May p)
+      → cost g r p ≤ price (straight g r) May t
+  unfolding cost shots price
+  no-cheaper May keeps p t = cutting.no-cheaper (straight g r) cells ends May (λ q u. fair q (keeps q u)) t
 
   pub attained : (May : Piece → Type 0) → ((p : Piece) → kind g p ≡ mixed → May p)
       → (p : Piece) → (t : Cutting (straight g r) May p) × (shotsIn (straight g r) May t ≡ shots g r p)

@@ -1,48 +1,112 @@
 -- Laws of the charge: all that anybody above knows of how it is reckoned. Assumes nothing.
 --
+--   sliver-square    == of a square below the threshold the greater exposed length counts
+--   sliver-flecks    == where not both extents are below the threshold it is document 01's length
 --   sliver-turn      == x for y
 --   sliver-most      == no more than what is exposed
 --   spared-x, spared-y == sides that are spared have no influence on it
---   narrow           == where a wider extent is below the threshold, so is a narrower one
---   sliver-cut       == a cut across the width never lowers it, whatever the new sides have
 --   charge-least     == a shot costs something
---   charge-cut       == nor does it lower the charge
+--   charge-cut       == a shorter sliver than two others together costs no more than they
 --   charge-most      == a longer sliver costs no less
-use Prim.Native.Nat.{ℕ, _+_, _≤_}
-use mathlib.Core.Path.{_≡_, refl}
-use mathlib.Core.Bool.{Bool, true, false}
+use Prim.Native.Nat.{ℕ, _+_, _<_, _≤_, min, max}
+use mathlib.Core.Path.{_≡_, refl, sym, _∙_, ap, ap₂}
+use mathlib.Core.Bool.{Bool, true, false, cond}
+use mathlib.Core.Logic.{_⊎_, inl, inr}
 use native.Mathlib.Omega.{arith}
 use native.Mathlib.Nat.{mul-le-mul-left}
 use lib.Dec.{ltb}
-use borrow.Author.Tests.{ltb-true, lt-ltb, le-ltb, leb-true}
+use borrow.Author.Tests.{ltb-true, ltb-false, lt-ltb, le-ltb, leb-true}
 use Rattle.sum.specs.Sum.{only}
-use Rattle.sum.proofs.Sum.{only-most, only-add}
+use Rattle.sum.proofs.Sum.{only-most, le-or}
 use Rattle.rule.specs.declared.Rule.{Rule}
-use Rattle.rule.specs.Charge.{sliverOf, spared, chargeOf}
+use Rattle.rule.specs.Charge.{longer, sliverOf, spared, chargeOf}
 
-pub narrow : (v w t n : ℕ) → v ≤ w → only (ltb w t) n ≤ only (ltb v t) n
-narrow v w t n h = go (ltb w t) refl
+-- the longer sides, by which extent is the lesser
+pub longer-upright : (w h u l : ℕ) → w < h → longer w h u l ≡ u
+unfolding longer
+longer-upright w h u l q = rw (lt-ltb w h q)
+
+pub longer-level : (w h u l : ℕ) → h < w → longer w h u l ≡ l
+unfolding longer
+longer-level w h u l q = rw (le-ltb w h (omega arith), lt-ltb h w q)
+
+pub longer-square : (w u l : ℕ) → longer w w u l ≡ max u l
+unfolding longer
+longer-square w u l = rw (le-ltb w w (omega arith))
+
+-- of two extents that are not apart the greater exposed length
+pub longer-even : (v w h u l : ℕ) → w ≤ h → h ≤ w → v ≡ max u l → v ≡ longer w h u l
+longer-even v w h u l p q e =
+    let z : h ≡ w = omega arith in
+    e ∙ sym (longer-square w u l) ∙ ap (λ n. longer w n u l) (sym z)
+
+longer-turn : (w h u l : ℕ) → longer w h u l ≡ longer h w l u
+longer-turn w h u l = elim (le-or h w) [
+  | inl p ↦ elim (le-or w h) [
+    | inl q ↦ (
+        let e : w ≡ h = omega arith in
+        rw e (longer-square h u l ∙ (let m : max u l ≡ max l u = omega arith in m) ∙ sym (longer-square h l u))
+        )
+    | inr q ↦ longer-level w h u l q ∙ sym (longer-upright h w l u q)
+  ]
+  | inr p ↦ longer-upright w h u l p ∙ sym (longer-level h w l u p)
+]
+
+longer-most : (w h u l : ℕ) → longer w h u l ≤ u + l
+unfolding longer
+longer-most w h u l = go (ltb w h) (ltb h w)
   where
-    go : (s : Bool) → ltb w t ≡ s → only s n ≤ only (ltb v t) n
-    go true e = rw (lt-ltb v t (omega (arith, ltb-true w t e))) (omega arith)
-    go false e = omega arith
+    go : (a b : Bool) → cond a u (cond b l (max u l)) ≤ u + l
+    go true b = omega arith
+    go false true = omega arith
+    go false false = omega arith
 
 module _ (r : Rule) where
+  pub sliver-square : (w u l : ℕ) → w < r .threshold → sliverOf r w w u l ≡ max u l
+  unfolding sliverOf
+  sliver-square w u l h =
+      let e : min w w ≡ w = omega arith in
+      rw (e, lt-ltb w (r .threshold) h) (longer-square w u l)
+
+  pub sliver-flecks : (w h u l : ℕ) → (r .threshold ≤ w) ⊎ (r .threshold ≤ h)
+      → sliverOf r w h u l ≡ only (ltb w (r .threshold)) u + only (ltb h (r .threshold)) l
+  unfolding sliverOf
+  sliver-flecks w h u l (inl p) = elim (le-or (r .threshold) h) [
+    | inl q ↦ rw (le-ltb (min w h) (r .threshold) (omega arith), le-ltb w (r .threshold) p, le-ltb h (r .threshold) q)
+    | inr q ↦ rw (lt-ltb (min w h) (r .threshold) (omega arith), le-ltb w (r .threshold) p, lt-ltb h (r .threshold) q) (longer-level w h u l (omega arith) ∙ (let e : l ≡ 0 + l = omega arith in e))
+  ]
+  sliver-flecks w h u l (inr q) = elim (le-or (r .threshold) w) [
+    | inl p ↦ rw (le-ltb (min w h) (r .threshold) (omega arith), le-ltb w (r .threshold) p, le-ltb h (r .threshold) q)
+    | inr p ↦ rw (lt-ltb (min w h) (r .threshold) (omega arith), lt-ltb w (r .threshold) p, le-ltb h (r .threshold) q)
+        (longer-upright w h u l (omega arith) ∙ (let e : u ≡ u + 0 = omega arith in e))
+  ]
+
+  -- as the code has it
+  pub sliver-made : (w h u l m n : ℕ) → m ≡ min w h → n ≡ longer w h u l → only (ltb m (r .threshold)) n ≡ sliverOf r w h u l
+  unfolding sliverOf
+  sliver-made w h u l m n e f = ap₂ (λ i j. only (ltb i (r .threshold)) j) e f
+
   pub sliver-turn : (w h u l : ℕ) → sliverOf r w h u l ≡ sliverOf r h w l u
   unfolding sliverOf
-  sliver-turn w h u l = omega arith
+  sliver-turn w h u l =
+      let e : min w h ≡ min h w = omega arith in
+      rw (e, longer-turn w h u l)
 
   pub sliver-most : (w h u l : ℕ) → sliverOf r w h u l ≤ u + l
   unfolding sliverOf
-  sliver-most w h u l = omega (arith, only-most (ltb w (r .threshold)) u, only-most (ltb h (r .threshold)) l)
+  sliver-most w h u l = omega (arith, only-most (ltb (min w h) (r .threshold)) (longer w h u l), longer-most w h u l)
 
   pub spared-x : (w h u l : ℕ) → spared r w ≡ true → sliverOf r w h 0 l ≡ sliverOf r w h u l
-  unfolding spared sliverOf
-  spared-x w h u l e = rw (le-ltb w (r .threshold) (leb-true (r .threshold) w e))
+  unfolding spared
+  spared-x w h u l e =
+      let p = leb-true (r .threshold) w e in
+      sliver-flecks w h 0 l (inl p) ∙ (rw (le-ltb w (r .threshold) p) refl) ∙ sym (sliver-flecks w h u l (inl p))
 
   pub spared-y : (w h u l : ℕ) → spared r h ≡ true → sliverOf r w h u 0 ≡ sliverOf r w h u l
-  unfolding spared sliverOf
-  spared-y w h u l e = rw (le-ltb h (r .threshold) (leb-true (r .threshold) h e))
+  unfolding spared
+  spared-y w h u l e =
+      let p = leb-true (r .threshold) h e in
+      sliver-flecks w h u 0 (inr p) ∙ (rw (le-ltb h (r .threshold) p) refl) ∙ sym (sliver-flecks w h u l (inr p))
 
   pub charge-least : (n : ℕ) → 1000 ≤ chargeOf r n
   unfolding chargeOf
@@ -51,21 +115,6 @@ module _ (r : Rule) where
   pub charge-most : (m n : ℕ) → m ≤ n → chargeOf r m ≤ chargeOf r n
   unfolding chargeOf
   charge-most m n h = omega (arith, mul-le-mul-left (r .weight) h)
-
-  pub sliver-cut : (w u v h l k m n s s₁ s₂ : ℕ) → u ≤ w → v ≤ w → s ≡ s₁ + s₂
-      → sliverOf r w h (l + k) s ≤ sliverOf r u h (l + m) s₁ + sliverOf r v h (n + k) s₂
-  unfolding sliverOf
-  sliver-cut w u v h l k m n s s₁ s₂ hu hv e =
-      rw e
-      (omega (
-        arith,
-        only-add (ltb w (r .threshold)) l k,
-        only-add (ltb u (r .threshold)) l m,
-        only-add (ltb v (r .threshold)) n k,
-        only-add (ltb h (r .threshold)) s₁ s₂,
-        narrow u w (r .threshold) l hu,
-        narrow v w (r .threshold) k hv,
-      ))
 
   pub charge-cut : (n a b : ℕ) → n ≤ a + b → chargeOf r n ≤ chargeOf r a + chargeOf r b
   unfolding chargeOf

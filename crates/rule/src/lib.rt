@@ -1,10 +1,10 @@
 // The rule of a fracture: below which width a shot is a sliver, and what a nanometre of sliver weighs.
 use refusal::Refusal;
 ghost use mathlib.Core.Path.{_≡_};
-ghost use Prim.Native.Nat.{_≤_};
+ghost use Prim.Native.Nat.{_≤_, min};
 ghost use Rattle.sum.specs.Sum.{only};
 ghost use Rattle.rule.specs.Rules.{limit, Told, madeTold, rowTold, ruleTold, presetTold};
-ghost use Rattle.rule.specs.Charge.{sliverOf, spared, chargeOf};
+ghost use Rattle.rule.specs.Charge.{longer, sliverOf, spared, chargeOf};
 
 // A shot narrower than the threshold (in nm) is a sliver; each nm of its exposed sides weighs so many thousandths of a shot.
 pub struct Rule {
@@ -51,6 +51,26 @@ fn counted(counts: bool, length: u32) -> u32
     if counts { length } else { 0 }
 }
 
+// The lesser of two extents.
+fn lesser(width: u32, height: u32) -> u32
+    ensures { λ r. ⌜ r ≡ min width height ⌝ }
+{
+    if height < width { height } else { width }
+}
+
+// The exposed length of the two longer sides of a shot; of a square the greater of both.
+fn longer(width: u32, height: u32, upright: u32, level: u32) -> u32
+    ensures { λ r. ⌜ r ≡ longer width height upright level ⌝ }
+{
+    if width < height {
+        return upright;
+    }
+    if height < width {
+        return level;
+    }
+    if level < upright { upright } else { level }
+}
+
 impl Rule {
     // In nm.
     pub const MAX_THRESHOLD: u32 = 1000;
@@ -87,13 +107,16 @@ impl Rule {
     }
 
     // The sliver length of a shot of this width and height, whose left and right sides are exposed over `upright` nm together and its
-    // bottom and top over `level` nm. How a sliver is reckoned stands here and nowhere else.
+    // bottom and top over `level` nm: where its shorter extent is below the threshold, the longer sides count, and only those. How a
+    // sliver is reckoned stands here and nowhere else.
     pub fn sliver(self, width: u32, height: u32, upright: u32, level: u32) -> u32
-        requires { ⌜ (upright ≤ 1966050) × (level ≤ 1966050) ⌝ }
         ensures { λ r. ⌜ r ≡ sliverOf self width height upright level ⌝ }
     {
         let threshold = self.threshold;
-        counted(width < threshold, upright) + counted(height < threshold, level)
+        counted(
+            lesser(width, height) < threshold,
+            longer(width, height, upright, level),
+        )
     }
 
     // Whether two opposite sides that lie so far apart never count, whatever is exposed: then they need not be measured.

@@ -6,7 +6,7 @@
 --   upper-next           == where the high part of the next cut stands
 --   cut-fits, cut-more   == weighing one cut in so many lanes: the sums fit, and one cut more
 --   ruled-*              == the pieces settled lane by lane
---   sliver-most, sliver-fits, charge-most, judged-most
+--   sliver-fits, charge-most, judged-most
 --                        == what a piece is charged, and what it costs, is bounded whatever lane it stands in
 --   settled-made         == the steps of settling put together
 use Prim.Native.Nat.{ℕ, suc, _+_, _*_, _-_, _≤_, _<_, _^_, min}
@@ -17,7 +17,7 @@ use native.Mathlib.Omega.{arith}
 use native.Mathlib.Nat.{mul-le-mul}
 use lib.ListN.{length, getD, set, length-set}
 use lib.Seq.{getD-set-same, getD-set-other}
-use Rattle.sum.proofs.Sum.{le-or, only-most}
+use Rattle.sum.proofs.Sum.{le-or}
 use lib.Dec.{ltb}
 use Rattle.rule.specs.declared.Rule.{Rule}
 use Rattle.rule.specs.Rules.{limit}
@@ -30,6 +30,7 @@ use Rattle.table.proofs.Entry.{count-closed, pair-below, below-next}
 use Rattle.table.proofs.Run.{wrote-more, lowest-more}
 use Rattle.table.proofs.Pairs.{Dec-eq}
 use Rattle.widths.specs.Lane.{copied, added, spot, partsAt, endsAt, Ruled, Settled}
+use Rattle.rule.proofs.Charge.{sliver-most}
 
 pub copy-more : (t from u : List ℕ) (at n i : ℕ) → n ≤ length t → i < n
     → Wrote (copied from at) 0 i t u
@@ -159,10 +160,6 @@ ends-here sums l low high bottom top e f =
 -- what is said of a piece, by an equal charge
 pub judged-shot : (n m shot shot₂ best v : ℕ) → shot ≡ shot₂ → Judged n m shot best v → Judged n m shot₂ best v
 judged-shot n m shot shot₂ best v e j = subst (λ i. Judged n m i best v) e j
-
-pub sliver-most : (r : Rule) (w h u v : ℕ) → sliverOf r w h u v ≤ u + v
-unfolding sliverOf
-sliver-most r w h u v = omega (arith, only-most (ltb w (r .threshold)) u, only-most (ltb h (r .threshold)) v)
 
 pub sliver-fits : (r : Rule) (w h u v n : ℕ) → n ≡ sliverOf r w h u v → u ≤ 131070 → v ≤ 131070 → n ≤ 262140
 sliver-fits r w h u v n e p q = omega (arith, sliver-most r w h u v)

@@ -25,7 +25,8 @@ use Rattle.table.proofs.Run.{lowest-same}
 use Rattle.table.proofs.Pairs.{Dec-eq}
 use Rattle.widths.specs.Lane.{added, spot, partsAt, endsAt, Ruled, Settled, Enough}
 use Rattle.widths.specs.Price.{Sheet, countIn, flankIn, shotAt, Measured, Done, Ahead, Priced}
-use Rattle.widths.proofs.Lane.{spot-lane, wrote-at, sliver-most, charge-most, judged-most}
+use Rattle.rule.proofs.Charge.{sliver-most}
+use Rattle.widths.proofs.Lane.{spot-lane, wrote-at, charge-most, judged-most}
 
 -- the sums from row to row
 pub count-none : (sums : List ℕ) (a b d : ℕ) → d ≤ b → countIn sums a b d ≡ 0

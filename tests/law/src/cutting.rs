@@ -1,6 +1,7 @@
 //! Costs and verdicts of the pieces of a figure, by a recursion from a piece down to its parts.
 
 use crate::figure::Figure;
+use std::cmp::Ordering;
 
 /// A piece lies between the x lines a < c and the y lines b < d.
 #[derive(Clone, Copy, PartialEq, Eq, Hash, Debug)]
@@ -93,20 +94,24 @@ impl<'a> Fracture<'a> {
             .sum()
     }
 
-    /// The sliver length of a piece as a shot.
+    /// The sliver length of a piece as a shot. Where both extents are below the threshold only the two
+    /// longer sides count; of a square the pair with the greater exposed length (document 02, Item 4).
     pub fn sliver(&self, p: Piece) -> u32 {
         let (a, c, b, d) = (p.a as isize, p.c as isize, p.b as isize, p.d as isize);
         let [x_low, y_low, x_high, y_high] = self.shot(p);
-        let mut length = 0;
-        if ((x_high - x_low) as u32) < self.threshold {
-            length += self.exposed_along_x(a, a - 1, p.b, p.d);
-            length += self.exposed_along_x(c - 1, c, p.b, p.d);
+        let (width, height) = ((x_high - x_low) as u32, (y_high - y_low) as u32);
+        let upright = self.exposed_along_x(a, a - 1, p.b, p.d) + self.exposed_along_x(c - 1, c, p.b, p.d);
+        let level = self.exposed_along_y(b, b - 1, p.a, p.c) + self.exposed_along_y(d - 1, d, p.a, p.c);
+        match (width < self.threshold, height < self.threshold) {
+            (false, false) => 0,
+            (true, false) => upright,
+            (false, true) => level,
+            (true, true) => match width.cmp(&height) {
+                Ordering::Less => upright,
+                Ordering::Greater => level,
+                Ordering::Equal => upright.max(level),
+            },
         }
-        if ((y_high - y_low) as u32) < self.threshold {
-            length += self.exposed_along_y(b, b - 1, p.a, p.c);
-            length += self.exposed_along_y(d - 1, d, p.a, p.c);
-        }
-        length
     }
 
     pub fn charge(&self, p: Piece) -> u32 {

@@ -80,18 +80,24 @@ impl Squares {
     pub fn sliver(&self, [x0, y0, x1, y1]: Span, threshold: u32) -> u32 {
         let bare = |x: i32, y: i32, x_across: i32, y_across: i32| (self.filled(x, y) && !self.filled(x_across, y_across)) as u32;
         let (l, b, r, t) = (x0 as i32, y0 as i32, x1 as i32, y1 as i32);
-        let mut sum = 0;
-        if ((r - l) as u32) < threshold {
-            for y in b..t {
-                sum += bare(l, y, l - 1, y) + bare(r - 1, y, r, y);
-            }
+        let (width, height) = ((r - l) as u32, (t - b) as u32);
+        let (mut beside, mut along) = (0, 0);
+        for y in b..t {
+            beside += bare(l, y, l - 1, y) + bare(r - 1, y, r, y);
         }
-        if ((t - b) as u32) < threshold {
-            for x in l..r {
-                sum += bare(x, b, x, b - 1) + bare(x, t - 1, x, t);
-            }
+        for x in l..r {
+            along += bare(x, b, x, b - 1) + bare(x, t - 1, x, t);
         }
-        sum
+        // the longer sides count, if the shorter ones are below the threshold
+        if width.min(height) >= threshold {
+            0
+        } else if width == height {
+            beside.max(along)
+        } else if height > width {
+            beside
+        } else {
+            along
+        }
     }
 }
 

@@ -72,12 +72,7 @@ shared-slice-read-sliver-2 : tie.Need-shared-slice-read-sliver-2 Inv-loop μ-loo
 shared-slice-read-sliver-2 c = search needs
 
 sliver-requires : tie.Need-sliver-requires Inv-loop μ-loop
-sliver-requires c κs =
-    let s = c .before .before .before .before .before .before .before .before .before .before .before .before in
-    let l = c .before .before .before .before .before .loop in
-    let v = s .args .level in
-    let m = s .pre .1 .1 (l .l) (omega arith) in
-    (omega (arith, m .0), omega (arith, m .1, ends-here (s .args .sums .now) (l .l) (v .low) (v .high) _ _ refl refl))
+sliver-requires c κs = search needs
 
 mul-settled : tie.Need-mul-settled Inv-loop μ-loop
 mul-settled c = search needs
