@@ -68,6 +68,11 @@ module _ (ask : Asked) where
   test because.Record = false
   test because.Unclosed = false
   test because.Extent = false
+  test because.Largest = false
+  test because.Full = false
+  test because.Shots = false
+  test because.Text = false
+  test because.Edge = false
 
   unfoldable pub numberOf : ℕ
   numberOf = firstOf test order
@@ -234,6 +239,11 @@ module _ (ask : Asked) where
   test-true because.Record e = absurd (true≢false (sym e))
   test-true because.Unclosed e = absurd (true≢false (sym e))
   test-true because.Extent e = absurd (true≢false (sym e))
+  test-true because.Largest e = absurd (true≢false (sym e))
+  test-true because.Full e = absurd (true≢false (sym e))
+  test-true because.Shots e = absurd (true≢false (sym e))
+  test-true because.Text e = absurd (true≢false (sym e))
+  test-true because.Edge e = absurd (true≢false (sym e))
 
   pub true-test : (c : Refusal) → Holds c → test ask c ≡ true
   unfolding test Condition inRange both neither alike same empty insideCells
@@ -274,6 +284,11 @@ module _ (ask : Asked) where
   true-test because.Record h = absurd h
   true-test because.Unclosed h = absurd h
   true-test because.Extent h = absurd h
+  true-test because.Largest h = absurd h
+  true-test because.Full h = absurd h
+  true-test because.Shots h = absurd h
+  true-test because.Text h = absurd h
+  true-test because.Edge h = absurd h
 
   pub test-false : (c : Refusal) → (Holds c → ⊥) → test ask c ≡ false
   test-false c h = go (test ask c) refl
@@ -314,6 +329,11 @@ listed ask Q h because.Preset k = absurd k
 listed ask Q h because.Record k = absurd k
 listed ask Q h because.Unclosed k = absurd k
 listed ask Q h because.Extent k = absurd k
+listed ask Q h because.Largest k = absurd k
+listed ask Q h because.Full k = absurd k
+listed ask Q h because.Shots k = absurd k
+listed ask Q h because.Text k = absurd k
+listed ask Q h because.Edge k = absurd k
 
 module _ (holds : Refusal → Bool) where
   -- none holds and the number is 0; or one holds, the number is its number, and none of a lower refusalNo does

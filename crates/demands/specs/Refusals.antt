@@ -58,6 +58,11 @@ module _ (ask : Asked) where
   Condition because.Record = ⊥
   Condition because.Unclosed = ⊥
   Condition because.Extent = ⊥
+  Condition because.Largest = ⊥
+  Condition because.Full = ⊥
+  Condition because.Shots = ⊥
+  Condition because.Text = ⊥
+  Condition because.Edge = ⊥
 
   pub record First (c : Refusal) : Type 0 where
     pub holds : Condition c

@@ -260,6 +260,11 @@ module _ (s : List ℕ) (at : ℕ) where
   faulty-told because.Record f = absurd f
   faulty-told because.Unclosed f = absurd f
   faulty-told because.Extent f = absurd f
+  faulty-told because.Largest f = absurd f
+  faulty-told because.Full f = absurd f
+  faulty-told because.Shots f = absurd f
+  faulty-told because.Text f = absurd f
+  faulty-told because.Edge f = absurd f
 
   module _ {v next : ℕ} where
     sound-by : (n : ℕ) → n < 3 → GoesOn s at n → at + n < length s → getD s (at + n) 0 < 128 → (0 < n → 0 < getD s (at + n) 0)

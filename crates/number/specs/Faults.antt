@@ -41,6 +41,11 @@ module _ (s : List ℕ) (at : ℕ) where
   Faulty because.Record = ⊥
   Faulty because.Unclosed = ⊥
   Faulty because.Extent = ⊥
+  Faulty because.Largest = ⊥
+  Faulty because.Full = ⊥
+  Faulty because.Shots = ⊥
+  Faulty because.Text = ⊥
+  Faulty because.Edge = ⊥
 
 unfoldable pub worth : List ℕ → ℕ → ℕ → ℕ
 worth s at zero = getD s at 0

@@ -9,14 +9,14 @@ use mathlib.Core.List.{List, [], _∷_}
 use native.Mathlib.Omega.{arith}
 use lib.ListN.{getD}
 use Rattle.refusal.specs.declared.Refusal.{Refusal}
-use Rattle.refusal.specs.declared.Refusal.the-variants.{Rule, Length, Slanted, Unturned, Empty, Table, List as ShotList, Ends, Padded, Range, Extra, Long, Missing, Room, Preset, Record, Unclosed, Extent}
+use Rattle.refusal.specs.declared.Refusal.the-variants.{Rule, Length, Slanted, Unturned, Empty, Table, List as ShotList, Ends, Padded, Range, Extra, Long, Missing, Room, Preset, Record, Unclosed, Extent, Largest, Full, Shots, Text, Edge}
 use Rattle.refusal.specs.Refusals.{refusalNo}
 
 -- the refusal of a number; 0 and what lies past the table stand for the first
 of-number : ℕ → Refusal
 of-number n =
     getD
-    (Rule ∷ Rule ∷ Length ∷ Slanted ∷ Unturned ∷ Empty ∷ Table ∷ ShotList ∷ Ends ∷ Padded ∷ Range ∷ Extra ∷ Long ∷ Missing ∷ Room ∷ Preset ∷ Record ∷ Unclosed ∷ Extent ∷ [])
+    (Rule ∷ Rule ∷ Length ∷ Slanted ∷ Unturned ∷ Empty ∷ Table ∷ ShotList ∷ Ends ∷ Padded ∷ Range ∷ Extra ∷ Long ∷ Missing ∷ Room ∷ Preset ∷ Record ∷ Unclosed ∷ Extent ∷ Largest ∷ Full ∷ Shots ∷ Text ∷ Edge ∷ [])
     n
     Rule
 
@@ -40,6 +40,11 @@ back Preset = refl
 back Record = refl
 back Unclosed = refl
 back Extent = refl
+back Largest = refl
+back Full = refl
+back Shots = refl
+back Text = refl
+back Edge = refl
 
 pub refusal-one : (r t : Refusal) → refusalNo r ≡ refusalNo t → r ≡ t
 refusal-one r t e = sym (back r) ∙ ap of-number e ∙ back t
@@ -63,6 +68,11 @@ refusal-some Preset = omega arith
 refusal-some Record = omega arith
 refusal-some Unclosed = omega arith
 refusal-some Extent = omega arith
+refusal-some Largest = omega arith
+refusal-some Full = omega arith
+refusal-some Shots = omega arith
+refusal-some Text = omega arith
+refusal-some Edge = omega arith
 
 -- what an answer tells, where a match has found which case it is
 pub told-as : {A B : Type 0} (tell : A → B) {r x : A} {b : B} → r ≡ x → tell r ≡ b → tell x ≡ b

@@ -42,3 +42,13 @@ refusalNo because.Record = 16
 refusalNo because.Unclosed = 17
 -- extent above 65,535
 refusalNo because.Extent = 18
+-- largest side below 200, below twice the threshold, or above 65,535
+refusalNo because.Largest = 19
+-- append to a job of 255 outlines
+refusalNo because.Full = 20
+-- a shot list whose length is no multiple of four, or a shot with no area
+refusalNo because.Shots = 21
+-- text not of CIF's form, or a shot in it that is empty, off the whole nanometres or outside 0 to 65,535
+refusalNo because.Text = 22
+-- edge asked for, not below the number of corners
+refusalNo because.Edge = 23

@@ -2,7 +2,7 @@
 ghost use mathlib.Core.Path.{_≡_};
 ghost use Rattle.refusal.specs.Refusals.{refusalNo};
 
-// Why the answer is no, in the order of the numbers, 1 to 18. A call that tells more than the reason (the shots that there are, the
+// Why the answer is no, in the order of the numbers, 1 to 23. A call that tells more than the reason (the shots that there are, the
 // offset of a fault) tells it beside.
 pub enum Refusal {
     Rule,
@@ -23,6 +23,11 @@ pub enum Refusal {
     Record,
     Unclosed,
     Extent,
+    Largest,
+    Full,
+    Shots,
+    Text,
+    Edge,
 }
 
 // The number of a refusal, document 01's and from 16 on document 02's.
@@ -48,5 +53,10 @@ pub fn refusal_no(why: Refusal) -> u32
         Refusal::Record => 16,
         Refusal::Unclosed => 17,
         Refusal::Extent => 18,
+        Refusal::Largest => 19,
+        Refusal::Full => 20,
+        Refusal::Shots => 21,
+        Refusal::Text => 22,
+        Refusal::Edge => 23,
     }
 }
