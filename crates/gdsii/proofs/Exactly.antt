@@ -219,6 +219,11 @@ module _ (l : List ℕ) (n : ℕ) where
       fine e because.Record h k = omega (arith, h)
       fine e because.Unclosed h k = omega (arith, h)
       fine e because.Extent h k = omega (arith, h)
+      fine e because.Largest h k = omega (arith, h)
+      fine e because.Full h k = omega (arith, h)
+      fine e because.Shots h k = omega (arith, h)
+      fine e because.Text h k = omega (arith, h)
+      fine e because.Edge h k = omega (arith, h)
 
       known : 0 < number → (numberOf (drawing l n) ≡ 0) ⊎ ((d : Refusal) × (refusalNo d ≤ 7) × (numberOf (drawing l n) ≡ refusalNo d)) → ShapeTold
       known h (inl z) = absurd (omega (arith, h, bad-number h, outcome-number (drawing l n), z))
