@@ -26,9 +26,10 @@
  *     that it is as it came in. Nothing that a slice held before influences any answer.
  *   - Beside a refusal every single number is 0, except: shots beside PW_LIST_SHORT is the number of
  *     shots that there are; offset beside PW_BYTES_END, PW_NOT_SHORTEST, PW_OUT_OF_RANGE and
- *     PW_BYTES_LEFT from a reading call is where, in the bytes lent, the faulty number starts
- *     (PW_BYTES_LEFT: the first byte too many); offset beside PW_BYTES_END from pw_gdsii_read and
- *     pw_gdsii_fracture is where the record that is cut short starts.
+ *     PW_BYTES_LEFT from a reading call is, in the bytes lent, the byte at fault: the length of the
+ *     bytes lent (PW_BYTES_END), the zero byte (PW_NOT_SHORTEST), the last byte read
+ *     (PW_OUT_OF_RANGE), the first byte too many (PW_BYTES_LEFT); offset beside PW_BYTES_END from
+ *     pw_gdsii_read and pw_gdsii_fracture is where the record that is cut short starts.
  *
  * All places are whole nanometres, 0 to 65535, but for those in a GDSII element, which are signed and of
  * 32 bits.
@@ -99,7 +100,7 @@ uint32_t pw_fracture_default(const uint16_t *corners, size_t corners_len, const 
                      uint32_t *shots, uint32_t *cost, uint32_t *sliver);
 
 /* Reads the number that starts at bytes[at]: its value, of any range, and the place behind it.
- * Any at is allowed; past the end is bytes that end.
+ * Any at is allowed; past the end is bytes that end, and the offset is the length all the same.
  * Refuses: PW_BYTES_END, PW_NOT_SHORTEST, PW_OUT_OF_RANGE (third byte), each with its offset. */
 uint32_t pw_number(const uint8_t *bytes, size_t len, size_t at, uint32_t *value, size_t *next, size_t *offset);
 

@@ -1,37 +1,22 @@
 -- A header that is read is in range. This stands before all laws, so that a reader with wider ranges is refused here. Assumes nothing.
 --
---   value-begins     == a number that is out of range is told by the place where it starts
 --   value-most       == a value that is read is no more than it may be
 --   three-most       == three values that are read as a header, each no more than it may be
 --   Headed, header-range == a header that is read has a threshold and a weight up to 1,000, and 255 figures at most
 use Prim.Native.Nat.{ℕ, _≤_}
-use mathlib.Core.Path.{_≡_, refl, sym, subst}
+use mathlib.Core.Path.{_≡_, subst}
 use mathlib.Core.List.{List}
-use mathlib.Core.Bool.{Bool, true, false, cond, _&&_}
-use lib.Dec.{leb}
-use borrow.Author.Tests.{leb-true}
-use Rattle.refusal.specs.declared.Refusal.the-variants.{Range}
-use Rattle.number.specs.Reading.{Reading, read, fault, andThen}
-use Rattle.number.specs.Number.{number}
-use Rattle.number.proofs.Number.{apart}
+use Rattle.number.specs.Reading.{Reading, read, andThen}
 use Rattle.number.proofs.Reading.{then-inv}
 use Rattle.job.specs.Job.{value, Header, header}
+use Rattle.job.specs.Faults.{Ranged}
+use Rattle.job.proofs.Bounds.{value-told}
 
 module _ (s : List ℕ) where
-  pub value-begins : (low high at : ℕ) {v next : ℕ} → number s at ≡ read v next → (leb low v && leb v high) ≡ false → value s low high at ≡ fault Range at
-  unfolding value
-  value-begins low high at e q = rw (e, q)
-
   pub value-most : (low high at : ℕ) {v next : ℕ} → value s low high at ≡ read v next → v ≤ high
-  unfolding value
   value-most low high at {v} {next} e =
-      let i = then-inv (λ v next. cond (leb low v && leb v high) (read v next) (fault Range at)) (number s at) e in
-      go (i .0) (i .1) (leb low (i .0)) (leb (i .0) high) refl (i .3)
-    where
-      go : (u n : ℕ) (a b : Bool) → leb u high ≡ b → cond (a && b) (read u n) (fault Range at) ≡ read v next → v ≤ high
-      go u n true true q f = let z : u ≡ v = cc in subst (λ w. w ≤ high) z (leb-true u high q)
-      go u n true false q f = absurd (apart (sym f))
-      go u n false b q f = absurd (apart (sym f))
+      let h : Ranged s low high at (read v next) = subst (Ranged s low high at) e (value-told s low high at) in
+      h .1 .1
 
   -- the three numbers of a header, each no more than it may be
   module _ (a b c : ℕ) where

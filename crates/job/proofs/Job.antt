@@ -15,7 +15,7 @@
 --   filled-inv        == what fills the bytes is read, to their end
 --   job-long, job-header, job-outlines, job-extra, job-made, job-read == a job, by its parts
 --   Whole, job-whole  == what a job that is read is made of
-use Prim.Native.Nat.{ℕ, zero, suc, _+_, _*_, _/_, _<_, _≤_}
+use Prim.Native.Nat.{ℕ, zero, suc, _+_, _-_, _*_, _/_, _<_, _≤_}
 use mathlib.Core.Path.{_≡_, _∙_, refl, sym, ap, ap₂, subst}
 use mathlib.Core.List.{List, [], _∷_}
 use mathlib.Core.Bool.{Bool, true, false, cond, _&&_, false≢true}
@@ -39,20 +39,20 @@ use Rattle.job.specs.Steps.{begun, sized, summed}
 
 module _ (s : List ℕ) (low high at : ℕ) where
   abbrev held : ℕ → ℕ → Reading ℕ
-  held v next = cond (leb low v && leb v high) (read v next) (fault Range at)
+  held v next = cond (leb low v && leb v high) (read v next) (fault Range (next - 1))
 
   pub value-fault : {r : Refusal} {p : ℕ} → fault r p ≡ number s at → fault r p ≡ value s low high at
   unfolding value
   value-fault e = then-same held e
 
   module _ {v next : ℕ} (e : read v next ≡ number s at) where
-    pub value-under : v < low → fault Range at ≡ value s low high at
+    pub value-under : v < low → fault Range (next - 1) ≡ value s low high at
     unfolding value
-    value-under h = let p : fault Range at ≡ held v next = simp lt-leb in p ∙ then-same held e
+    value-under h = let p : fault Range (next - 1) ≡ held v next = simp lt-leb in p ∙ then-same held e
 
-    pub value-over : low ≤ v → high < v → fault Range at ≡ value s low high at
+    pub value-over : low ≤ v → high < v → fault Range (next - 1) ≡ value s low high at
     unfolding value
-    value-over h k = let p : fault Range at ≡ held v next = simp (le-leb, lt-leb) in p ∙ then-same held e
+    value-over h k = let p : fault Range (next - 1) ≡ held v next = simp (le-leb, lt-leb) in p ∙ then-same held e
 
     pub value-in : low ≤ v → v ≤ high → read v next ≡ value s low high at
     unfolding value
@@ -66,7 +66,7 @@ module _ (s : List ℕ) (low high at : ℕ) where
       go (i .0) (i .1) (leb low (i .0)) refl (leb (i .0) high) refl (i .2) (i .3)
     where
       go : (u n : ℕ) (a : Bool) → leb low u ≡ a → (b : Bool) → leb u high ≡ b → number s at ≡ read u n
-          → cond (a && b) (read u n) (fault Range at) ≡ read v next → (number s at ≡ read v next) × (low ≤ v) × (v ≤ high)
+          → cond (a && b) (read u n) (fault Range (n - 1)) ≡ read v next → (number s at ≡ read v next) × (low ≤ v) × (v ≤ high)
       go u n true p true q f g =
           let z : u ≡ v = cc in (f ∙ g, subst (λ w. low ≤ w) z (leb-true low u p), subst (λ w. w ≤ high) z (leb-true u high q))
       go u n true p false q f g = absurd (apart (sym g))

@@ -1,5 +1,6 @@
 pub mod Bounds
 pub mod Accepted
+pub mod AtFault
 pub mod Rings
 pub mod Job
 pub mod RoundTrip

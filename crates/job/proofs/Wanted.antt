@@ -4,7 +4,7 @@
 --   one-step, follow-step  == that reading, a number at a time
 --   follow-told            == reading what is wanted goes through legal numbers up to its end, or to a bad one
 --   legal-same, bad-follow == and back: legal numbers are read, and a bad one is the fault
---   fault-exactly          == bytes have the fault r at o exactly when `FaultAt` says so
+--   fault-exactly          == bytes have the fault r, with the byte at fault o, exactly when `FaultAt` says so
 use Prim.Native.Nat.{ℕ, zero, suc, _+_, _-_, _*_, _/_, _<_, _≤_}
 use mathlib.Core.Path.{_≡_, _∙_, refl, sym, ap, ap₂, subst}
 use mathlib.Core.Logic.{_⊎_, _↔_, inl, inr}
@@ -56,17 +56,17 @@ module _ (s : List ℕ) where
 
   -- a value, by the number that it is
   ranged : (low high at : ℕ) (f : ℕ → ℕ → Reading (Unit {0}))
-      → andThen (value s low high at) f ≡ andThen (number s at) (λ v next. cond (leb low v && leb v high) (f v next) (fault Range at))
+      → andThen (value s low high at) f ≡ andThen (number s at) (λ v next. cond (leb low v && leb v high) (f v next) (fault Range (next - 1)))
   unfolding value
   ranged low high at f = go (number s at)
     where
-      choose : (b : Bool) (v next : ℕ) → andThen (cond b (read v next) (fault Range at)) f ≡ cond b (f v next) (fault Range at)
+      choose : (b : Bool) (v next : ℕ) → andThen (cond b (read v next) (fault Range (next - 1))) f ≡ cond b (f v next) (fault Range (next - 1))
       choose true v next = refl
       choose false v next = refl
 
       go : (u : Reading ℕ)
-          → andThen (andThen u (λ v next. cond (leb low v && leb v high) (read v next) (fault Range at))) f
-          ≡ andThen u (λ v next. cond (leb low v && leb v high) (f v next) (fault Range at))
+          → andThen (andThen u (λ v next. cond (leb low v && leb v high) (read v next) (fault Range (next - 1)))) f
+          ≡ andThen u (λ v next. cond (leb low v && leb v high) (f v next) (fault Range (next - 1)))
       go (read v next) = choose (leb low v && leb v high) v next
       go (fault r p) = refl
 
@@ -122,49 +122,49 @@ module _ (s : List ℕ) where
       go (fault r p) e = refl
 
   -- what a number wanted as w leads to
-  abbrev led : Want → ℕ → ℕ → ℕ → Reading (Unit {0})
-  led w at v next = cond (allowed w v) (follow (after w v) next) (fault Range at)
+  abbrev led : Want → ℕ → ℕ → Reading (Unit {0})
+  led w v next = cond (allowed w v) (follow (after w v) next) (fault Range (next - 1))
 
   zero-leb : (v : ℕ) → leb 0 v ≡ true
   zero-leb v = le-leb 0 v (omega arith)
 
-  up-to-step : (most at : ℕ) → one (upTo most) at ≡ andThen (number s at) (led (upTo most) at)
+  up-to-step : (most at : ℕ) → one (upTo most) at ≡ andThen (number s at) (led (upTo most))
   unfolding one follow allowed after
   up-to-step most at =
       ranged 0 most at (λ v next. read tt next)
-      ∙ then-ext (number s at) (λ v next. cond (leb 0 v && leb v most) (read tt next) (fault Range at))
-      (λ v next. cond (leb v most) (read tt next) (fault Range at))
-      (λ v next e. ap (λ b. cond (b && leb v most) (read tt next) (fault Range at)) (zero-leb v))
+      ∙ then-ext (number s at) (λ v next. cond (leb 0 v && leb v most) (read tt next) (fault Range (next - 1)))
+      (λ v next. cond (leb v most) (read tt next) (fault Range (next - 1)))
+      (λ v next e. ap (λ b. cond (b && leb v most) (read tt next) (fault Range (next - 1))) (zero-leb v))
 
-  count-step : (at : ℕ) → one count at ≡ andThen (number s at) (led count at)
+  count-step : (at : ℕ) → one count at ≡ andThen (number s at) (led count)
   unfolding one allowed after
   count-step at =
       ranged 0 255 at (λ k next. past (outlines s k next))
-      ∙ then-ext (number s at) (λ v next. cond (leb 0 v && leb v 255) (past (outlines s v next)) (fault Range at))
-      (λ v next. cond (leb v 255) (follow (replicate v leading) next) (fault Range at))
-      (λ v next e. ap₂ (λ b u. cond (b && leb v 255) u (fault Range at)) (zero-leb v) (outlines-follow v next))
+      ∙ then-ext (number s at) (λ v next. cond (leb 0 v && leb v 255) (past (outlines s v next)) (fault Range (next - 1)))
+      (λ v next. cond (leb v 255) (follow (replicate v leading) next) (fault Range (next - 1)))
+      (λ v next e. ap₂ (λ b u. cond (b && leb v 255) u (fault Range (next - 1))) (zero-leb v) (outlines-follow v next))
 
-  announced-step : (at : ℕ) → one announced at ≡ andThen (number s at) (led announced at)
+  announced-step : (at : ℕ) → one announced at ≡ andThen (number s at) (led announced)
   unfolding one allowed after
   announced-step at =
       ranged 2 8 at (λ r next. past (ringsFrom s r 32 next))
-      ∙ then-ext (number s at) (λ v next. cond (leb 2 v && leb v 8) (past (ringsFrom s v 32 next)) (fault Range at))
-      (λ v next. cond (leb 2 v && leb v 8) (follow (ringsOf v 32) next) (fault Range at))
-      (λ v next e. ap (λ u. cond (leb 2 v && leb v 8) u (fault Range at)) (rings-follow v 32 next))
+      ∙ then-ext (number s at) (λ v next. cond (leb 2 v && leb v 8) (past (ringsFrom s v 32 next)) (fault Range (next - 1)))
+      (λ v next. cond (leb 2 v && leb v 8) (follow (ringsOf v 32) next) (fault Range (next - 1)))
+      (λ v next e. ap (λ u. cond (leb 2 v && leb v 8) u (fault Range (next - 1))) (rings-follow v 32 next))
 
   -- what follows V
   abbrev tail : ℕ → ℕ → ℕ → ℕ → Reading (Unit {0})
   tail left n v next =
       past (andThen (coordinates s (2 * v) next) (λ l q. andThen (ringsFrom s n (leftAfter left l) q) (λ ls last. read (l ∷ ls) last)))
 
-  corners-step : (left n at : ℕ) → one (corners left n) at ≡ andThen (number s at) (led (corners left n) at)
+  corners-step : (left n at : ℕ) → one (corners left n) at ≡ andThen (number s at) (led (corners left n))
   unfolding one allowed after ringsFrom ring
   corners-step left n at =
       go (value s 4 left at)
       ∙ ranged 4 left at (tail left n)
-      ∙ then-ext (number s at) (λ v next. cond (leb 4 v && leb v left) (tail left n v next) (fault Range at))
-      (λ v next. cond (leb 4 v && leb v left) (follow (coordinatesOf v ++ ringsOf n (left - v)) next) (fault Range at))
-      (λ v next e. ap (λ u. cond (leb 4 v && leb v left) u (fault Range at)) (ring-rest left n v next))
+      ∙ then-ext (number s at) (λ v next. cond (leb 4 v && leb v left) (tail left n v next) (fault Range (next - 1)))
+      (λ v next. cond (leb 4 v && leb v left) (follow (coordinatesOf v ++ ringsOf n (left - v)) next) (fault Range (next - 1)))
+      (λ v next e. ap (λ u. cond (leb 4 v && leb v left) u (fault Range (next - 1))) (ring-rest left n v next))
     where
       go : (u : Reading ℕ)
           → past (andThen (andThen u (λ v next. coordinates s (2 * v) next)) (λ l q. andThen (ringsFrom s n (leftAfter left l) q) (λ ls last. read (l ∷ ls) last)))
@@ -174,13 +174,13 @@ module _ (s : List ℕ) where
 
   -- one ring, which is not announced
   alone-step : (at : ℕ) → announces s at ≡ false
-      → past (andThen (ring s mostCorners at) (λ l next. read (l ∷ []) next)) ≡ andThen (number s at) (led leading at)
+      → past (andThen (ring s mostCorners at) (λ l next. read (l ∷ []) next)) ≡ andThen (number s at) (led leading)
   unfolding ring
   alone-step at silent =
       go (value s 4 32 at)
       ∙ ranged 4 32 at (λ v next. past (coordinates s (2 * v) next))
-      ∙ then-ext (number s at) (λ v next. cond (leb 4 v && leb v 32) (past (coordinates s (2 * v) next)) (fault Range at)) (led leading at)
-      (λ v next e. ap (λ u. cond (leb 4 v && leb v 32) u (fault Range at)) (coordinates-follow (2 * v) next) ∙ some v next (eqb v 0) refl e)
+      ∙ then-ext (number s at) (λ v next. cond (leb 4 v && leb v 32) (past (coordinates s (2 * v) next)) (fault Range (next - 1))) (led leading)
+      (λ v next e. ap (λ u. cond (leb 4 v && leb v 32) u (fault Range (next - 1))) (coordinates-follow (2 * v) next) ∙ some v next (eqb v 0) refl e)
     where
       past-one : (u : Reading (List ℕ)) → past (andThen u (λ l next. read (l ∷ []) next)) ≡ past u
       past-one u = past-then (λ l. l ∷ []) u
@@ -192,16 +192,16 @@ module _ (s : List ℕ) where
       go (fault r p) = refl
 
       some : (v next : ℕ) (b : Bool) → eqb v 0 ≡ b → number s at ≡ read v next
-          → cond (leb 4 v && leb v 32) (follow (coordinatesOf v) next) (fault Range at) ≡ led leading at v next
+          → cond (leb 4 v && leb v 32) (follow (coordinatesOf v) next) (fault Range (next - 1)) ≡ led leading v next
       some v next true z e =
           let k = number-zero s at (e ∙ ap (λ n. read n next) (eqb-true v 0 z)) in
           absurd (true≢false (sym (eq-eqb (getD s at 0) 0 (k .1)) ∙ announces-byte s at (k .0) ∙ silent))
       some v next false z e =
           unfold allowed after in
-          ap (λ b. cond (b || (leb 4 v && leb v 32)) (follow (cond b (announced ∷ []) (coordinatesOf v)) next) (fault Range at)) (sym z)
+          ap (λ b. cond (b || (leb 4 v && leb v 32)) (follow (cond b (announced ∷ []) (coordinatesOf v)) next) (fault Range (next - 1))) (sym z)
 
   several-step : (at : ℕ) → announces s at ≡ true
-      → past (andThen (value s leastRings mostRings (at + 1)) (λ r next. ringsFrom s r mostCorners next)) ≡ andThen (number s at) (led leading at)
+      → past (andThen (value s leastRings mostRings (at + 1)) (λ r next. ringsFrom s r mostCorners next)) ≡ andThen (number s at) (led leading)
   unfolding one follow allowed after
   several-step at said =
       let k = announces-true s at said in
@@ -211,23 +211,23 @@ module _ (s : List ℕ) where
       then-assoc (value s leastRings mostRings (at + 1)) (λ r next. ringsFrom s r mostCorners next) (λ ls next. read tt next)
       ∙ sym (then-end (one announced (at + 1)))
       ∙ here
-      ∙ then-same (led leading at) (sym n)
+      ∙ then-same (led leading) (sym n)
     where
-      here : andThen (one announced (at + 1)) (λ t next. read tt next) ≡ led leading at 0 (at + 1)
+      here : andThen (one announced (at + 1)) (λ t next. read tt next) ≡ led leading 0 (at + 1)
       here = refl
 
-  leading-step : (at : ℕ) → one leading at ≡ andThen (number s at) (led leading at)
+  leading-step : (at : ℕ) → one leading at ≡ andThen (number s at) (led leading)
   unfolding one outline
   leading-step at = go (announces s at) refl
     where
       go : (b : Bool) → announces s at ≡ b
           → past (cond b (andThen (value s leastRings mostRings (at + 1)) (λ r next. ringsFrom s r mostCorners next))
           (andThen (ring s mostCorners at) (λ l next. read (l ∷ []) next)))
-          ≡ andThen (number s at) (led leading at)
+          ≡ andThen (number s at) (led leading)
       go true e = several-step at e
       go false e = alone-step at e
 
-  pub one-step : (w : Want) (at : ℕ) → one w at ≡ andThen (number s at) (led w at)
+  pub one-step : (w : Want) (at : ℕ) → one w at ≡ andThen (number s at) (led w)
   one-step (upTo most) at = up-to-step most at
   one-step count at = count-step at
   one-step leading at = leading-step at
@@ -235,53 +235,54 @@ module _ (s : List ℕ) where
   one-step (corners left n) at = corners-step left n at
 
   -- the same with what is wanted after it
-  abbrev stepped : Want → List Want → ℕ → ℕ → ℕ → Reading (Unit {0})
-  stepped w ws at v next = cond (allowed w v) (follow (after w v ++ ws) next) (fault Range at)
+  abbrev stepped : Want → List Want → ℕ → ℕ → Reading (Unit {0})
+  stepped w ws v next = cond (allowed w v) (follow (after w v ++ ws) next) (fault Range (next - 1))
 
-  pub follow-step : (w : Want) (ws : List Want) (at : ℕ) → follow (w ∷ ws) at ≡ andThen (number s at) (stepped w ws at)
+  pub follow-step : (w : Want) (ws : List Want) (at : ℕ) → follow (w ∷ ws) at ≡ andThen (number s at) (stepped w ws)
   unfolding follow
   follow-step w ws at =
       then-same (λ t next. follow ws next) (one-step w at)
-      ∙ then-assoc (number s at) (led w at) (λ t next. follow ws next)
-      ∙ then-ext (number s at) (λ v next. andThen (led w at v next) (λ t next. follow ws next)) (stepped w ws at)
-      (λ v next e. choose (allowed w v) (follow (after w v) next)
-      ∙ ap (λ u. cond (allowed w v) u (fault Range at)) (sym (follow-append (after w v) ws next)))
+      ∙ then-assoc (number s at) (led w) (λ t next. follow ws next)
+      ∙ then-ext (number s at) (λ v next. andThen (led w v next) (λ t next. follow ws next)) (stepped w ws)
+      (λ v next e. choose (allowed w v) (follow (after w v) next) (next - 1)
+      ∙ ap (λ u. cond (allowed w v) u (fault Range (next - 1))) (sym (follow-append (after w v) ws next)))
     where
-      choose : (b : Bool) (u : Reading (Unit {0}))
-          → andThen (cond b u (fault Range at)) (λ t next. follow ws next) ≡ cond b (andThen u (λ t next. follow ws next)) (fault Range at)
-      choose true u = refl
-      choose false u = refl
+      choose : (b : Bool) (u : Reading (Unit {0})) (p : ℕ)
+          → andThen (cond b u (fault Range p)) (λ t next. follow ws next) ≡ cond b (andThen u (λ t next. follow ws next)) (fault Range p)
+      choose true u p = refl
+      choose false u p = refl
 
   -- What is found is so
 
   abbrev pub FollowTold : List Want → ℕ → Reading (Unit {0}) → Type 0
   FollowTold ws at (read t last) = Legal s at ws last []
-  FollowTold ws at (fault r o) = (w : Want) × (rest : List Want) × Legal s at ws o (w ∷ rest) × Bad s o w r
+  FollowTold ws at (fault r o) = (start : ℕ) × (w : Want) × (rest : List Want) × Legal s at ws start (w ∷ rest) × Bad s start w r o
 
   -- one legal number more
   told-more : (at v next : ℕ) (w : Want) (ws : List Want) → Sound s at v next → allowed w v ≡ true → (u : Reading (Unit {0}))
       → FollowTold (after w v ++ ws) next u → FollowTold (w ∷ ws) at u
   told-more at v next w ws k a (read t last) l = more k a l
-  told-more at v next w ws k a (fault r o) f = (f .0, f .1, more k a (f .2), f .3)
+  told-more at v next w ws k a (fault r o) f = (f .0, f .1, f .2, more k a (f .3), f .4)
 
   told-step : (w : Want) (ws : List Want) (at : ℕ)
       → ((ms : List Want) (next : ℕ) → at < next → next ≤ length s → FollowTold ms next (follow ms next))
-      → FollowTold (w ∷ ws) at (andThen (number s at) (stepped w ws at))
+      → FollowTold (w ∷ ws) at (andThen (number s at) (stepped w ws))
   unfolding Bad
   told-step w ws at rec = go (number s at) refl
     where
       pick : (v next : ℕ) → number s at ≡ read v next → (b : Bool) → allowed w v ≡ b
-          → FollowTold (w ∷ ws) at (cond b (follow (after w v ++ ws) next) (fault Range at))
+          → FollowTold (w ∷ ws) at (cond b (follow (after w v ++ ws) next) (fault Range (next - 1)))
       pick v next e true a =
           let o = number-onward s at e in
           told-more at v next w ws (sound-exactly s at v next .0 e) a (follow (after w v ++ ws) next) (rec (after w v ++ ws) next (o .0) (o .1))
-      pick v next e false a = (w, ws, none, inr (refl, (v, next, sound-exactly s at v next .0 e, a)))
+      pick v next e false a =
+          let k = sound-exactly s at v next .0 e in
+          let z : next ≡ next - 1 + 1 = omega (arith, k .past) in
+          (at, w, ws, none, inr (refl, (v, subst (Sound s at v) z k, a)))
 
-      go : (u : Reading ℕ) → number s at ≡ u → FollowTold (w ∷ ws) at (andThen u (stepped w ws at))
+      go : (u : Reading ℕ) → number s at ≡ u → FollowTold (w ∷ ws) at (andThen u (stepped w ws))
       go (read v next) e = pick v next e (allowed w v) refl
-      go (fault r o) e =
-          let k = number-exactly s at (fault r o) .0 e in
-          subst (λ p. FollowTold (w ∷ ws) at (fault r p)) (sym (k .1)) (w, ws, none, inl (k .0))
+      go (fault r o) e = (at, w, ws, none, inl (number-exactly s at (fault r o) .0 e))
 
   pub follow-told : (n : ℕ) (ws : List Want) (at : ℕ) → length s - at < n → FollowTold ws at (follow ws at)
   unfolding follow
@@ -296,18 +297,19 @@ module _ (s : List ℕ) where
   legal-same none = refl
   legal-same (more {at} {v} {next} {last} {w} {ws} {end} k a rest) =
       follow-step w ws at
-      ∙ then-same (stepped w ws at) (sound-exactly s at v next .1 k)
-      ∙ ap (λ b. cond b (follow (after w v ++ ws) next) (fault Range at)) a
+      ∙ then-same (stepped w ws) (sound-exactly s at v next .1 k)
+      ∙ ap (λ b. cond b (follow (after w v ++ ws) next) (fault Range (next - 1))) a
       ∙ legal-same rest
 
-  pub bad-follow : (w : Want) (ws : List Want) (o : ℕ) (r : Refusal) → Bad s o w r → follow (w ∷ ws) o ≡ fault r o
+  pub bad-follow : (w : Want) (ws : List Want) (at : ℕ) (r : Refusal) (o : ℕ) → Bad s at w r o → follow (w ∷ ws) at ≡ fault r o
   unfolding Bad
-  bad-follow w ws o r (inl f) = follow-step w ws o ∙ then-same (stepped w ws o) (number-exactly s o (fault r o) .1 (f, refl))
-  bad-follow w ws o r (inr f) =
-      follow-step w ws o
-      ∙ then-same (stepped w ws o) (sound-exactly s o (f .1 .0) (f .1 .1) .1 (f .1 .2))
-      ∙ ap (λ b. cond b (follow (after w (f .1 .0) ++ ws) (f .1 .1)) (fault Range o)) (f .1 .3)
-      ∙ ap (λ t. fault t o) (sym (f .0))
+  bad-follow w ws at r o (inl f) = follow-step w ws at ∙ then-same (stepped w ws) (number-exactly s at (fault r o) .1 f)
+  bad-follow w ws at r o (inr f) =
+      let z : o + 1 - 1 ≡ o = omega arith in
+      follow-step w ws at
+      ∙ then-same (stepped w ws) (sound-exactly s at (f .1 .0) (o + 1) .1 (f .1 .1))
+      ∙ ap (λ b. cond b (follow (after w (f .1 .0) ++ ws) (o + 1)) (fault Range (o + 1 - 1))) (f .1 .2)
+      ∙ ap₂ fault (sym (f .0)) z
 
   -- The bytes that fill
 
@@ -317,7 +319,7 @@ module _ (s : List ℕ) where
     where
       extra : (t : Unit {0}) (last : ℕ) → Legal s 0 ws last [] → (b : Bool) → ltb last (length s) ≡ b
           → cond b (fault Extra last) (read t last) ≡ fault r o
-          → ((w : Want) × (rest : List Want) × Legal s 0 ws o (w ∷ rest) × Bad s o w r) ⊎ ((r ≡ Extra) × Legal s 0 ws o [] × (o < length s))
+          → FollowTold ws 0 (fault r o) ⊎ ((r ≡ Extra) × Legal s 0 ws o [] × (o < length s))
       extra t last l true h e =
           let p : Extra ≡ r = cc in
           let q : last ≡ o = cc in
@@ -325,17 +327,16 @@ module _ (s : List ℕ) where
       extra t last l false h e = absurd (apart e)
 
       go : (u : Reading (Unit {0})) → FollowTold ws 0 u → filled s u ≡ fault r o
-          → ((w : Want) × (rest : List Want) × Legal s 0 ws o (w ∷ rest) × Bad s o w r) ⊎ ((r ≡ Extra) × Legal s 0 ws o [] × (o < length s))
+          → FollowTold ws 0 (fault r o) ⊎ ((r ≡ Extra) × Legal s 0 ws o [] × (o < length s))
       go (read t last) k e = unfold filled in extra t last k (ltb last (length s)) refl e
       go (fault c p) k e =
           unfold filled in
           let a : c ≡ r = cc in
           let b : p ≡ o = cc in
-          inl (subst (λ c. (w : Want) × (rest : List Want) × Legal s 0 ws o (w ∷ rest) × Bad s o w c) a
-          (subst (λ p. (w : Want) × (rest : List Want) × Legal s 0 ws p (w ∷ rest) × Bad s p w c) b k))
+          inl (subst (λ c. FollowTold ws 0 (fault c o)) a (subst (λ p. FollowTold ws 0 (fault c p)) b k))
 
-      back : ((w : Want) × (rest : List Want) × Legal s 0 ws o (w ∷ rest) × Bad s o w r) ⊎ ((r ≡ Extra) × Legal s 0 ws o [] × (o < length s))
+      back : FollowTold ws 0 (fault r o) ⊎ ((r ≡ Extra) × Legal s 0 ws o [] × (o < length s))
           → filled s (follow ws 0) ≡ fault r o
-      back (inl f) = ap (filled s) (legal-same (f .2) ∙ bad-follow (f .0) (f .1) o r (f .3)) ∙ (unfold filled in refl)
+      back (inl f) = ap (filled s) (legal-same (f .3) ∙ bad-follow (f .1) (f .2) (f .0) r o (f .4)) ∙ (unfold filled in refl)
       back (inr f) =
           ap (filled s) (legal-same (f .1) ∙ follow-none o) ∙ filled-extra s tt (f .2) ∙ ap (λ t. fault t o) (sym (f .0))

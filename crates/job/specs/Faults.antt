@@ -9,8 +9,10 @@
 --   jobWants, figureWants  == what is wanted at the front of a job, and at the front of the part that a figure fills
 --   Legal s at ws last end == sound numbers stand in s from one place to the other, each in range; ws is wanted at the first, end at the last
 --   Ranged s low high at u == the bytes at a place say u of a number from low to high
---   Bad s o w r            == the number at o, which w wants, is refused by r: by its bytes, or as a sound number out of range
---   FaultAt s ws r o       == the first fault: legal numbers up to o, and there a bad one; or all that is wanted, and a byte more
+--   Bad s at w r o         == the number at a place, which w wants, is refused by r, and o is the byte at fault: by its bytes; or as a sound
+--                             number out of range, and o is its last byte
+--   FaultAt s ws r o       == the first fault: legal numbers, and after them a bad one whose byte at fault is o; or all that is wanted, and
+--                             a byte more, at o
 --   JobFault s r o         == the fault of a job: 12 before everything else
 --   JobSays s t w k        == a job without fault, and its first three numbers
 --   TakeFault s k r o      == the fault of taking figure k: the job's; else 13, where k is not below K
@@ -21,7 +23,7 @@
 --   filledWith f l ns      == the figure f at the front of the two lists, the rest as it came in
 --   fronted b out          == the bytes b at the front of the buffer, the rest as it came in
 --   First C c              == the condition of c holds, and none of a lower number does
-use Prim.Native.Nat.{ℕ, zero, suc, _-_, _*_, _<_, _≤_}
+use Prim.Native.Nat.{ℕ, zero, suc, _+_, _-_, _*_, _<_, _≤_}
 use mathlib.Core.Path.{_≡_}
 use mathlib.Core.Logic.{_⊎_}
 use mathlib.Core.List.{List, [], _∷_, _++_}
@@ -89,14 +91,14 @@ pub data Legal (s : List ℕ) : ℕ → List Want → ℕ → List Want → Type
 abbrev pub Ranged : List ℕ → ℕ → ℕ → ℕ → Reading ℕ → Type 0
 Ranged s low high at (read v next) = Sound s at v next × ((low ≤ v) × (v ≤ high))
 Ranged s low high at (fault r o) =
-    (Faulty s at r ⊎ ((r ≡ because.Range) × ((v : ℕ) × (next : ℕ) × Sound s at v next × ((v < low) ⊎ (high < v))))) × (o ≡ at)
+    Faulty s at r o ⊎ ((r ≡ because.Range) × ((v : ℕ) × Sound s at v (o + 1) × ((v < low) ⊎ (high < v))))
 
-unfoldable pub Bad : List ℕ → ℕ → Want → Refusal → Type 0
-Bad s o w r = Faulty s o r ⊎ ((r ≡ because.Range) × ((v : ℕ) × (next : ℕ) × Sound s o v next × (allowed w v ≡ false)))
+unfoldable pub Bad : List ℕ → ℕ → Want → Refusal → ℕ → Type 0
+Bad s at w r o = Faulty s at r o ⊎ ((r ≡ because.Range) × ((v : ℕ) × Sound s at v (o + 1) × (allowed w v ≡ false)))
 
 unfoldable pub FaultAt : List ℕ → List Want → Refusal → ℕ → Type 0
 FaultAt s ws r o =
-    ((w : Want) × (rest : List Want) × Legal s 0 ws o (w ∷ rest) × Bad s o w r)
+    ((at : ℕ) × (w : Want) × (rest : List Want) × Legal s 0 ws at (w ∷ rest) × Bad s at w r o)
     ⊎ ((r ≡ because.Extra) × Legal s 0 ws o [] × (o < length s))
 
 unfoldable pub JobFault : List ℕ → Refusal → ℕ → Type 0

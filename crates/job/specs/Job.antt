@@ -2,7 +2,7 @@
 --
 --   mostBytes, mostOutlines == a job has no more bytes, and no more figures
 --   leastRings              == a figure announces its rings from two on: one ring is not announced
---   value s low high at     == a number from low to high; one outside is a fault where it starts
+--   value s low high at     == a number from low to high; one outside is a fault, shown by its last byte
 --   coordinates s n at      == n coordinates, one after another
 --   ring s most at          == V, 4 to the most that is left, and 2V coordinates: the list that they are
 --   leftAfter left l        == how many corners a ring leaves of those that were left before it
@@ -41,7 +41,7 @@ leastRings = 2
 
 unfoldable pub value : List ℕ → ℕ → ℕ → ℕ → Reading ℕ
 value s low high at =
-    andThen (number s at) (λ v next. cond (leb low v && leb v high) (read v next) (fault because.Range at))
+    andThen (number s at) (λ v next. cond (leb low v && leb v high) (read v next) (fault because.Range (next - 1)))
 
 unfoldable pub coordinates : List ℕ → ℕ → ℕ → Reading (List ℕ)
 coordinates s n at = many (value s 0 mostPlace) n at

@@ -54,19 +54,19 @@ pub enum Checked {
     Refused(Refusal, usize),
 }
 
-// A number of the job, held to its range.
+// A number of the job, held to its range: one outside is shown by its last byte.
 pub(crate) fn value(job: &[u8], c: Cursor, low: u32, high: u32) -> Read
     ensures { λ r. ⌜ readTold r ≡ value (now (job .entry)) low high (c .at) ⌝ }
 {
-    let at = c.at;
     match c.number(job) {
         Read::Fault(r, p) => Read::Fault(r, p),
         Read::Number(v, next) => {
+            let last = next.at - 1;
             if v < low {
-                return Read::Fault(Refusal::Range, at);
+                return Read::Fault(Refusal::Range, last);
             }
             if high < v {
-                return Read::Fault(Refusal::Range, at);
+                return Read::Fault(Refusal::Range, last);
             }
             Read::Number(v, next)
         }
@@ -237,7 +237,7 @@ pub fn whole(job: &[u8]) -> Head
     }
 }
 
-// Threshold, weight and K of a whole job, or its first fault and where that number starts.
+// Threshold, weight and K of a whole job, or its first fault and the byte at fault.
 pub fn check(job: &[u8]) -> Checked
     ensures settled { λ r. ⌜ checkTold r ≡ checked (now (job .entry)) ⌝ }
 {

@@ -1,6 +1,9 @@
 -- The number reader, exactly, and its laws. Assumes nothing.
 --
 --   cond-cases       == what holds of both ways that a test can go
+--   Shown s at r p   == what byte the place p is, where the number at a place is refused by r
+--   fault-byte       == a fault of a number shows the byte at fault: 8 the end of the bytes, 9 a zero byte past the number's first, 10 the
+--                       number's third byte, whose top bit is set
 --   number-told      == what reading a number finds is what document 01's words say of the bytes there
 --   number-none      == no byte at the place
 --   number-one, number-two, number-three == a number of so many bytes
@@ -8,10 +11,10 @@
 --   number-padded-two, number-padded-three == the last byte is 0 and not the only one
 --   number-fourth    == the third byte says that a fourth follows
 --   goes-first, goes-at == the bytes that have their top bit set, the first, and one of them
---   number-exactly   == reading a number finds u exactly when the bytes say u: the fault r with the offset where the number starts
---                       exactly when r's condition holds, and a value with the place past it exactly when a sound number stands there
+--   number-exactly   == reading a number finds u exactly when the bytes say u: the fault r with the offset p exactly when r's condition
+--                       holds and p is the byte at fault, and a value with the place past it exactly when a sound number stands there
 --   fault-exactly, sound-exactly == the same of a fault, and of a number
---   faulty-one       == the conditions of two refusals never hold of one number
+--   faulty-one       == the conditions of two refusals never hold of one number, and one byte is at fault
 --   none-faulty      == a sound number stands there exactly when no condition holds
 --   number-zero      == a number that is 0 is a byte 0
 --   apart            == a value is no fault
@@ -42,6 +45,37 @@ cond-cases P false x y f g = g refl
 -- a value and a fault are never the same
 pub apart : {A : Type 0} {a : A} {n p : ℕ} {r : Refusal} → read a n ≡ fault r p → ⊥
 apart e = let z : _≡_ {A = ℕ} 0 1 = cc in omega arith
+
+-- The byte at fault
+
+pub data Shown (s : List ℕ) (at : ℕ) : Refusal → ℕ → Type 0 where
+  -- the bytes end there
+  end-of-bytes : {p : ℕ} → p ≡ length s → Shown s at because.Ends p
+  -- it is 0, and not the number's first
+  zero-byte : {p : ℕ} → at < p → p < length s → getD s p 0 ≡ 0 → Shown s at because.Padded p
+  -- it is the number's third, and its top bit is set
+  third-byte : {p : ℕ} → p ≡ at + 2 → p < length s → 128 ≤ getD s p 0 → Shown s at because.Range p
+
+module _ (s : List ℕ) (at : ℕ) where
+  abbrev ShownBy : Reading ℕ → Type 0
+  ShownBy (read v next) = Unit {0}
+  ShownBy (fault r p) = Shown s at r p
+
+  pub fault-byte : {r : Refusal} {p : ℕ} → number s at ≡ fault r p → Shown s at r p
+  unfolding number
+  fault-byte e =
+      subst ShownBy e
+      (cond-cases ShownBy (leb (length s) at) _ _ (λ f. end-of-bytes refl)
+      (λ f. cond-cases ShownBy (ltb (getD s at 0) 128) _ _ (λ a. tt)
+      (λ a. cond-cases ShownBy (leb (length s) (at + 1)) _ _ (λ k. end-of-bytes refl)
+      (λ k. cond-cases ShownBy (eqb (getD s (at + 1) 0) 0) _ _
+      (λ z. zero-byte (omega arith) (leb-false (length s) (at + 1) k) (eqb-true (getD s (at + 1) 0) 0 z))
+      (λ z. cond-cases ShownBy (ltb (getD s (at + 1) 0) 128) _ _ (λ b. tt)
+      (λ b. cond-cases ShownBy (leb (length s) (at + 2)) _ _ (λ m. end-of-bytes refl)
+      (λ m. let h = leb-false (length s) (at + 2) m in
+      cond-cases ShownBy (leb 128 (getD s (at + 2) 0)) _ _ (λ d. third-byte refl h (leb-true 128 (getD s (at + 2) 0) d))
+      (λ d. cond-cases ShownBy (eqb (getD s (at + 2) 0) 0) _ _
+      (λ w. zero-byte (omega arith) h (eqb-true (getD s (at + 2) 0) 0 w)) (λ w. tt)))))))))
 
 -- What is found is so
 
@@ -117,44 +151,44 @@ module _ (s : List ℕ) (at : ℕ) where
 
 -- each condition, by how many bytes stand before the one at fault
 module _ (s : List ℕ) (at n : ℕ) (h : n < 3) (g : GoesOn s at n) where
-  ends-so : length s ≤ at + n → Faulty s at Ends
+  ends-so : length s ≤ at + n → Faulty s at Ends (length s)
   unfolding Faulty
-  ends-so e = (n, h, g, e)
+  ends-so e = (n, h, g, e, refl)
 
-  padded-so : 0 < n → at + n < length s → getD s (at + n) 0 ≡ 0 → Faulty s at Padded
+  padded-so : 0 < n → at + n < length s → getD s (at + n) 0 ≡ 0 → Faulty s at Padded (at + n)
   unfolding Faulty
-  padded-so p k z = (n, p, h, g, k, z)
+  padded-so p k z = (n, p, h, g, k, z, refl)
 
-fourth-so : (s : List ℕ) (at : ℕ) → GoesOn s at 2 → at + 2 < length s → 128 ≤ getD s (at + 2) 0 → Faulty s at Range
+fourth-so : (s : List ℕ) (at : ℕ) → GoesOn s at 2 → at + 2 < length s → 128 ≤ getD s (at + 2) 0 → Faulty s at Range (at + 2)
 unfolding Faulty
-fourth-so s at g m d = goes-more s at 2 g m d
+fourth-so s at g m d = (goes-more s at 2 g m d, refl)
 
 pub number-told : (s : List ℕ) (at : ℕ) → Told s at (number s at)
 unfolding number
 number-told s at =
     cond-cases (Told s at) (leb (length s) at) _ _
-    (λ e. (ends-so s at 0 (omega arith) (goes-none s at) (omega (arith, leb-true (length s) at e)), refl))
+    (λ e. ends-so s at 0 (omega arith) (goes-none s at) (omega (arith, leb-true (length s) at e)))
     (λ e. let h = leb-false (length s) at e in
     cond-cases (Told s at) (ltb (getD s at 0) 128) _ _
     (λ f. sound-one s at h (ltb-true (getD s at 0) 128 f))
     (λ f. let a = ltb-false (getD s at 0) 128 f in
     cond-cases (Told s at) (leb (length s) (at + 1)) _ _
-    (λ g. (ends-so s at 1 (omega arith) (goes-one s at h a) (leb-true (length s) (at + 1) g), refl))
+    (λ g. ends-so s at 1 (omega arith) (goes-one s at h a) (leb-true (length s) (at + 1) g))
     (λ g. let k = leb-false (length s) (at + 1) g in
     cond-cases (Told s at) (eqb (getD s (at + 1) 0) 0) _ _
-    (λ z. (padded-so s at 1 (omega arith) (goes-one s at h a) (omega arith) k (eqb-true (getD s (at + 1) 0) 0 z), refl))
+    (λ z. padded-so s at 1 (omega arith) (goes-one s at h a) (omega arith) k (eqb-true (getD s (at + 1) 0) 0 z))
     (λ z. let y = some (getD s (at + 1) 0) (eqb-false (getD s (at + 1) 0) 0 z) in
     cond-cases (Told s at) (ltb (getD s (at + 1) 0) 128) _ _
     (λ i. sound-two s at h a k y (ltb-true (getD s (at + 1) 0) 128 i))
     (λ i. let b = ltb-false (getD s (at + 1) 0) 128 i in
     cond-cases (Told s at) (leb (length s) (at + 2)) _ _
-    (λ j. (ends-so s at 2 (omega arith) (goes-two s at h a k b) (leb-true (length s) (at + 2) j), refl))
+    (λ j. ends-so s at 2 (omega arith) (goes-two s at h a k b) (leb-true (length s) (at + 2) j))
     (λ j. let m = leb-false (length s) (at + 2) j in
     cond-cases (Told s at) (leb 128 (getD s (at + 2) 0)) _ _
-    (λ d. (fourth-so s at (goes-two s at h a k b) m (leb-true 128 (getD s (at + 2) 0) d), refl))
+    (λ d. fourth-so s at (goes-two s at h a k b) m (leb-true 128 (getD s (at + 2) 0) d))
     (λ d. let c = leb-false 128 (getD s (at + 2) 0) d in
     cond-cases (Told s at) (eqb (getD s (at + 2) 0) 0) _ _
-    (λ w. (padded-so s at 2 (omega arith) (goes-two s at h a k b) (omega arith) m (eqb-true (getD s (at + 2) 0) 0 w), refl))
+    (λ w. padded-so s at 2 (omega arith) (goes-two s at h a k b) (omega arith) m (eqb-true (getD s (at + 2) 0) 0 w))
     (λ w. sound-three s at h a k b m (some (getD s (at + 2) 0) (eqb-false (getD s (at + 2) 0) 0 w)) c))))))))
   where
     some : (n : ℕ) → (n ≡ 0 → ⊥) → 0 < n
@@ -164,7 +198,7 @@ number-told s at =
 -- What is so is found
 
 module _ (s : List ℕ) (at : ℕ) where
-  pub number-none : length s ≤ at → fault Ends at ≡ number s at
+  pub number-none : length s ≤ at → fault Ends (length s) ≡ number s at
   unfolding number
   number-none h = simp le-leb
 
@@ -174,12 +208,12 @@ module _ (s : List ℕ) (at : ℕ) where
     number-one k = simp (lt-leb, lt-ltb)
 
     module _ (a : 128 ≤ getD s at 0) where
-      pub number-ends-two : length s ≤ at + 1 → fault Ends at ≡ number s at
+      pub number-ends-two : length s ≤ at + 1 → fault Ends (length s) ≡ number s at
       unfolding number
       number-ends-two k = simp (lt-leb, le-ltb, le-leb)
 
       module _ (k : at + 1 < length s) where
-        pub number-padded-two : getD s (at + 1) 0 ≡ 0 → fault Padded at ≡ number s at
+        pub number-padded-two : getD s (at + 1) 0 ≡ 0 → fault Padded (at + 1) ≡ number s at
         unfolding number
         number-padded-two z = simp (lt-leb, le-ltb, eq-eqb)
 
@@ -190,16 +224,16 @@ module _ (s : List ℕ) (at : ℕ) where
             ap (λ v. read v (at + 2)) e ∙ simp (lt-leb, le-ltb, lt-ltb, ne-eqb (getD s (at + 1) 0) 0 (λ q. omega arith))
 
         module _ (b : 128 ≤ getD s (at + 1) 0) where
-          pub number-ends-three : length s ≤ at + 2 → fault Ends at ≡ number s at
+          pub number-ends-three : length s ≤ at + 2 → fault Ends (length s) ≡ number s at
           unfolding number
           number-ends-three m = simp (lt-leb, le-ltb, le-leb, ne-eqb (getD s (at + 1) 0) 0 (λ q. omega arith))
 
           module _ (m : at + 2 < length s) where
-            pub number-fourth : 128 ≤ getD s (at + 2) 0 → fault Range at ≡ number s at
+            pub number-fourth : 128 ≤ getD s (at + 2) 0 → fault Range (at + 2) ≡ number s at
             unfolding number
             number-fourth d = simp (lt-leb, le-ltb, le-leb, ne-eqb (getD s (at + 1) 0) 0 (λ q. omega arith))
 
-            pub number-padded-three : getD s (at + 2) 0 ≡ 0 → fault Padded at ≡ number s at
+            pub number-padded-three : getD s (at + 2) 0 ≡ 0 → fault Padded (at + 2) ≡ number s at
             unfolding number
             number-padded-three z =
                 let d : getD s (at + 2) 0 < 128 = omega arith in
@@ -222,49 +256,50 @@ module _ (s : List ℕ) (at : ℕ) where
   unfolding GoesOn
   goes-at n g = g
 
-  ends-told : (n : ℕ) → n < 3 → GoesOn s at n → length s ≤ at + n → fault Ends at ≡ number s at
+  ends-told : (n : ℕ) → n < 3 → GoesOn s at n → length s ≤ at + n → fault Ends (length s) ≡ number s at
   ends-told zero h g e = number-none s at (omega arith)
   ends-told (suc zero) h g e = let a = goes-first 0 g in number-ends-two s at (a .0) (a .1) e
   ends-told (suc (suc zero)) h g e =
       let a = goes-first 1 g in let b = goes-at 2 g 1 (omega arith) in number-ends-three s at (a .0) (a .1) (b .0) (b .1) e
   ends-told (suc (suc (suc n))) h g e = absurd (omega arith)
 
-  padded-told : (n : ℕ) → 0 < n → n < 3 → GoesOn s at n → at + n < length s → getD s (at + n) 0 ≡ 0 → fault Padded at ≡ number s at
+  padded-told : (n : ℕ) → 0 < n → n < 3 → GoesOn s at n → at + n < length s → getD s (at + n) 0 ≡ 0 → fault Padded (at + n) ≡ number s at
   padded-told zero p h g k z = absurd (omega arith)
   padded-told (suc zero) p h g k z = let a = goes-first 0 g in number-padded-two s at (a .0) (a .1) k z
   padded-told (suc (suc zero)) p h g k z =
       let a = goes-first 1 g in let b = goes-at 2 g 1 (omega arith) in number-padded-three s at (a .0) (a .1) (b .0) (b .1) k z
   padded-told (suc (suc (suc n))) p h g k z = absurd (omega arith)
 
-  faulty-told : (r : Refusal) → Faulty s at r → fault r at ≡ number s at
+  faulty-told : (r : Refusal) (p : ℕ) → Faulty s at r p → fault r p ≡ number s at
   unfolding Faulty
-  faulty-told because.Ends f = ends-told (f .0) (f .1) (f .2) (f .3)
-  faulty-told because.Padded f = padded-told (f .0) (f .1) (f .2) (f .3) (f .4) (f .5)
-  faulty-told because.Range g =
+  faulty-told because.Ends p f = ap (fault because.Ends) (f .4) ∙ ends-told (f .0) (f .1) (f .2) (f .3)
+  faulty-told because.Padded p f = ap (fault because.Padded) (f .6) ∙ padded-told (f .0) (f .1) (f .2) (f .3) (f .4) (f .5)
+  faulty-told because.Range p f =
+      let g = f .0 in
       let a = goes-first 2 g in
       let b = goes-at 3 g 1 (omega arith) in
       let d = goes-at 3 g 2 (omega arith) in
-      number-fourth s at (a .0) (a .1) (b .0) (b .1) (d .0) (d .1)
-  faulty-told because.Rule f = absurd f
-  faulty-told because.Length f = absurd f
-  faulty-told because.Slanted f = absurd f
-  faulty-told because.Unturned f = absurd f
-  faulty-told because.Empty f = absurd f
-  faulty-told because.Table f = absurd f
-  faulty-told because.List f = absurd f
-  faulty-told because.Extra f = absurd f
-  faulty-told because.Long f = absurd f
-  faulty-told because.Missing f = absurd f
-  faulty-told because.Room f = absurd f
-  faulty-told because.Preset f = absurd f
-  faulty-told because.Record f = absurd f
-  faulty-told because.Unclosed f = absurd f
-  faulty-told because.Extent f = absurd f
-  faulty-told because.Largest f = absurd f
-  faulty-told because.Full f = absurd f
-  faulty-told because.Shots f = absurd f
-  faulty-told because.Text f = absurd f
-  faulty-told because.Edge f = absurd f
+      ap (fault because.Range) (f .1) ∙ number-fourth s at (a .0) (a .1) (b .0) (b .1) (d .0) (d .1)
+  faulty-told because.Rule p f = absurd f
+  faulty-told because.Length p f = absurd f
+  faulty-told because.Slanted p f = absurd f
+  faulty-told because.Unturned p f = absurd f
+  faulty-told because.Empty p f = absurd f
+  faulty-told because.Table p f = absurd f
+  faulty-told because.List p f = absurd f
+  faulty-told because.Extra p f = absurd f
+  faulty-told because.Long p f = absurd f
+  faulty-told because.Missing p f = absurd f
+  faulty-told because.Room p f = absurd f
+  faulty-told because.Preset p f = absurd f
+  faulty-told because.Record p f = absurd f
+  faulty-told because.Unclosed p f = absurd f
+  faulty-told because.Extent p f = absurd f
+  faulty-told because.Largest p f = absurd f
+  faulty-told because.Full p f = absurd f
+  faulty-told because.Shots p f = absurd f
+  faulty-told because.Text p f = absurd f
+  faulty-told because.Edge p f = absurd f
 
   module _ {v next : ℕ} where
     sound-by : (n : ℕ) → n < 3 → GoesOn s at n → at + n < length s → getD s (at + n) 0 < 128 → (0 < n → 0 < getD s (at + n) 0)
@@ -288,28 +323,32 @@ module _ (s : List ℕ) (at : ℕ) where
 
   told-number : (u : Reading ℕ) → Told s at u → number s at ≡ u
   told-number (read v next) k = sym (sound-by (k .before) (k .few) (k .goes) (k .there) (k .last) (k .fewest) (k .value) (k .past))
-  told-number (fault r o) k = sym (faulty-told r (k .0)) ∙ ap (fault r) (sym (k .1))
+  told-number (fault r p) k = sym (faulty-told r p k)
 
   -- Exactly when
 
   pub number-exactly : (u : Reading ℕ) → (number s at ≡ u) ↔ Told s at u
   number-exactly u = ((λ e. subst (Told s at) e (number-told s at)), told-number u)
 
-  pub fault-exactly : (r : Refusal) (o : ℕ) → (number s at ≡ fault r o) ↔ (Faulty s at r × (o ≡ at))
-  fault-exactly r o = number-exactly (fault r o)
+  pub fault-exactly : (r : Refusal) (p : ℕ) → (number s at ≡ fault r p) ↔ Faulty s at r p
+  fault-exactly r p = number-exactly (fault r p)
 
   pub sound-exactly : (v next : ℕ) → (number s at ≡ read v next) ↔ Sound s at v next
   sound-exactly v next = number-exactly (read v next)
 
-  pub faulty-one : (r t : Refusal) → Faulty s at r → Faulty s at t → r ≡ t
-  faulty-one r t f g = let e = faulty-told r f ∙ sym (faulty-told t g) in cc
+  pub faulty-one : (r t : Refusal) (p q : ℕ) → Faulty s at r p → Faulty s at t q → (r ≡ t) × (p ≡ q)
+  faulty-one r t p q f g =
+      let e = faulty-told r p f ∙ sym (faulty-told t q g) in
+      let a : r ≡ t = cc in
+      let b : p ≡ q = cc in
+      (a, b)
 
-  pub none-faulty : ((r : Refusal) → Faulty s at r → ⊥) ↔ ((v : ℕ) × (next : ℕ) × Sound s at v next)
-  none-faulty = (go (number s at) (number-told s at), λ k r f. apart (sym (sound-exactly (k .0) (k .1) .1 (k .2)) ∙ sym (faulty-told r f)))
+  pub none-faulty : ((r : Refusal) (p : ℕ) → Faulty s at r p → ⊥) ↔ ((v : ℕ) × (next : ℕ) × Sound s at v next)
+  none-faulty = (go (number s at) (number-told s at), λ k r p f. apart (sym (sound-exactly (k .0) (k .1) .1 (k .2)) ∙ sym (faulty-told r p f)))
     where
-      go : (u : Reading ℕ) → Told s at u → ((r : Refusal) → Faulty s at r → ⊥) → (v : ℕ) × (next : ℕ) × Sound s at v next
+      go : (u : Reading ℕ) → Told s at u → ((r : Refusal) (p : ℕ) → Faulty s at r p → ⊥) → (v : ℕ) × (next : ℕ) × Sound s at v next
       go (read v next) k f = (v, next, k)
-      go (fault r o) k f = absurd (f r (k .0))
+      go (fault r p) k f = absurd (f r p k)
 
 -- a number is 0 only where a byte 0 stands
 

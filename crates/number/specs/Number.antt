@@ -24,18 +24,18 @@ numberBytes n =
     (cond (ltb n 16384) ((128 + n % 128) ∷ n / 128 ∷ [])
     ((128 + n % 128) ∷ (128 + n / 128 % 128) ∷ n / 16384 ∷ []))
 
--- the number at a place, of one byte, two, or three; a fault's offset is where the number starts, and a place past the end is bytes
--- that end
+-- the number at a place, of one byte, two, or three; a fault's offset is the byte at fault: the end of the bytes where they end, also
+-- for a place past it, else the last byte read
 unfoldable pub number : List ℕ → ℕ → Reading ℕ
 number s at =
-    cond (leb (length s) at) (fault Ends at)
+    cond (leb (length s) at) (fault Ends (length s))
     (cond (ltb (getD s at 0) 128) (read (getD s at 0) (at + 1))
-    (cond (leb (length s) (at + 1)) (fault Ends at)
-    (cond (eqb (getD s (at + 1) 0) 0) (fault Padded at)
+    (cond (leb (length s) (at + 1)) (fault Ends (length s))
+    (cond (eqb (getD s (at + 1) 0) 0) (fault Padded (at + 1))
     (cond (ltb (getD s (at + 1) 0) 128) (read ((getD s at 0 - 128) + 128 * getD s (at + 1) 0) (at + 2))
-    (cond (leb (length s) (at + 2)) (fault Ends at)
-    (cond (leb 128 (getD s (at + 2) 0)) (fault Range at)
-    (cond (eqb (getD s (at + 2) 0) 0) (fault Padded at)
+    (cond (leb (length s) (at + 2)) (fault Ends (length s))
+    (cond (leb 128 (getD s (at + 2) 0)) (fault Range (at + 2))
+    (cond (eqb (getD s (at + 2) 0) 0) (fault Padded (at + 2))
     (read ((getD s at 0 - 128) + 128 * (getD s (at + 1) 0 - 128) + 16384 * getD s (at + 2) 0) (at + 3)))))))))
 
 abbrev pub readTold : Read → Reading ℕ

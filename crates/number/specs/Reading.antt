@@ -1,6 +1,6 @@
 -- To believe: what reading bytes at a place finds.
 --
---   Reading A      == something of sort A, with the place past it; or the first fault, with the offset of the faulty number
+--   Reading A      == something of sort A, with the place past it; or the first fault, with its offset
 --   andThen r f    == what r finds, and then what f finds from there; the first fault decides
 --   many f n at    == n of what f finds, one after another
 --   past r         == only the place past what is read

@@ -9,7 +9,7 @@ pub struct Cursor {
     pub at: usize,
 }
 
-// A number with the cursor past it, or a refusal with the offset where the faulty number starts.
+// A number with the cursor past it, or a refusal with the offset of the byte at fault: where the bytes end, or the last byte read.
 pub enum Read {
     Number(u32, Cursor),
     Fault(Refusal, usize),
@@ -38,7 +38,7 @@ impl Cursor {
     {
         let at = self.at;
         if s.len() <= at {
-            return Read::Fault(Refusal::Ends, at);
+            return Read::Fault(Refusal::Ends, s.len());
         }
         let a = s[at];
         if a < 128 {
@@ -46,25 +46,25 @@ impl Cursor {
         }
         let at1 = at + 1;
         if s.len() <= at1 {
-            return Read::Fault(Refusal::Ends, at);
+            return Read::Fault(Refusal::Ends, s.len());
         }
         let b = s[at1];
         if b == 0 {
-            return Read::Fault(Refusal::Padded, at);
+            return Read::Fault(Refusal::Padded, at1);
         }
         if b < 128 {
             return Read::Number(two(a, b), Cursor { at: at + 2 });
         }
         let at2 = at + 2;
         if s.len() <= at2 {
-            return Read::Fault(Refusal::Ends, at);
+            return Read::Fault(Refusal::Ends, s.len());
         }
         let d = s[at2];
         if 128 <= d {
-            return Read::Fault(Refusal::Range, at);
+            return Read::Fault(Refusal::Range, at2);
         }
         if d == 0 {
-            return Read::Fault(Refusal::Padded, at);
+            return Read::Fault(Refusal::Padded, at2);
         }
         Read::Number(three(a, b, d), Cursor { at: at + 3 })
     }

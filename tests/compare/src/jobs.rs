@@ -5,7 +5,7 @@
 use crate::progress::Progress;
 use crate::room::Room;
 use crate::Plan;
-use drawings::document::{ring_faults, FRAMED, FRAMED_JOB, JOB, L};
+use drawings::document::{ring_faults, FRAMED, FRAMED_JOB, GUILTY, JOB, L};
 use drawings::figures;
 use drawings::jobs::{damaged as damage, outline, small, sound, DAMAGES};
 use drawings::seeded::Seeded;
@@ -16,13 +16,18 @@ use std::sync::Mutex;
 
 type Library = &'static (dyn Calls + Sync);
 
-/// Every string of up to three bytes, then places at and past the end.
+/// The documents' rows, every string of up to three bytes, then places at and past the end.
 pub fn numbers(plan: &Plan, progress: &Progress) {
     let Some(library) = plan.library else { return };
     let compare = |bytes: &[u8], at: usize| {
         let (right, told) = (Law.number(bytes, at), library.number(bytes, at));
         assert!(told == right, "number at {at} of {bytes:x?}: {told:?} and not {right:?}");
     };
+    for (bytes, at, number, guilty) in GUILTY {
+        compare(bytes, at);
+        assert_eq!(library.number(bytes, at), Told::of(number, &[0, 0, guilty as u64]), "number at {at} of {bytes:x?}");
+        progress.same();
+    }
     let next = AtomicUsize::new(0);
     std::thread::scope(|scope| {
         for _ in 0..plan.threads {

@@ -251,7 +251,7 @@ pub const RINGS: [Row; 23] = [
     Row { rule: (1001, 40), ..ringed("no ring at 1001, 40", &SQUARE, &[], (1, [0; 3]), &[]) },
 ];
 
-/// Item 1: what stands in a job behind `19 28 01`, and the refusal with its offset.
+/// Item 1: what stands in a job behind `19 28 01`, and the refusal with the byte at fault (Item 5).
 pub fn ring_faults() -> Vec<(&'static str, Vec<u8>, u32, usize)> {
     // an announced figure of two rings: V of the first, all its coordinates 0, and what follows
     let two = |first: u8, behind: &[u8]| {
@@ -273,8 +273,8 @@ pub fn ring_faults() -> Vec<(&'static str, Vec<u8>, u32, usize)> {
         ("ends-after-r", vec![0x00, 0x02], 8, 5),
         ("ends-before-second-ring", two(4, &[]), 8, 14),
         ("ends-in-second-ring", two(4, &square[..8]), 8, 22),
-        ("0-not-shortest", vec![0x80, 0x00], 9, 3),
-        ("r-not-shortest", vec![0x00, 0x82, 0x00], 9, 4),
+        ("0-not-shortest", vec![0x80, 0x00], 9, 4),
+        ("r-not-shortest", vec![0x00, 0x82, 0x00], 9, 5),
         ("byte-behind-second-ring", [&two(4, square)[..], &[0]].concat(), 11, 23),
         ("third-ring-behind-two", [&two(4, square)[..], square].concat(), 11, 23),
     ]
@@ -282,3 +282,18 @@ pub fn ring_faults() -> Vec<(&'static str, Vec<u8>, u32, usize)> {
 
 /// The last row of document 01: numbers that are refused.
 pub const NUMBERS: [(&[u8], u32); 2] = [(&[0x80, 0x00], 9), (&[0x80, 0x80, 0x80, 0x00], 10)];
+
+/// Item 5: bytes, the place of a number in them, its refusal, and the byte at fault.
+pub const GUILTY: [(&[u8], usize, u32, usize); 10] = [
+    (&[], 0, 8, 0),
+    (&[0x80, 0x80], 0, 8, 2),
+    (&[0x05, 0x80], 1, 8, 2),
+    // past the end: the length of the bytes, below the place asked for
+    (&[0x05, 0x80], 7, 8, 2),
+    (&[0x05], 9, 8, 1),
+    (&[0x80, 0x00], 0, 9, 1),
+    (&[0x80, 0x80, 0x00], 0, 9, 2),
+    (&[0x05, 0x80, 0x80, 0x00], 1, 9, 3),
+    (&[0x80, 0x80, 0x80], 0, 10, 2),
+    (&[0x80, 0x80, 0x80, 0x00], 0, 10, 2),
+];

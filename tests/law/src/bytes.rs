@@ -3,7 +3,7 @@
 use crate::drawing::Drawing;
 use crate::Told;
 
-/// A fault of bytes that were read: its number, and where the faulty number starts.
+/// A fault of bytes that were read: its number, and the byte at fault.
 #[derive(Clone, Copy, PartialEq, Eq, Debug)]
 pub struct Fault {
     pub number: u32,
@@ -16,27 +16,28 @@ impl Fault {
     }
 }
 
-/// The number that starts at a place, and the place behind it.
+/// The number that starts at a place, and the place behind it. A fault shows the byte at fault: where
+/// the bytes end, the zero byte, or the third byte whose top bit is set.
 pub fn number(bytes: &[u8], at: usize) -> Result<(u32, usize), Fault> {
-    let no = |number| Err(Fault { number, at });
+    let no = |number, at| Err(Fault { number, at });
     // the groups up to the first byte whose top bit is clear, at most three
     let rest = bytes.get(at..).unwrap_or(&[]);
     let last = rest.iter().take(3).position(|byte| byte & 0x80 == 0);
     let Some(last) = last else {
-        return if rest.len() < 3 { no(8) } else { no(10) };
+        return if rest.len() < 3 { no(8, bytes.len()) } else { no(10, at + 2) };
     };
     if last > 0 && rest[last] == 0 {
-        return no(9);
+        return no(9, at + last);
     }
     let value = rest[..=last].iter().rev().fold(0, |value, byte| value << 7 | (byte & 0x7f) as u32);
     Ok((value, at + last + 1))
 }
 
-/// A number that has to lie in a range.
+/// A number that has to lie in a range: one outside is shown by its last byte.
 fn ranged(bytes: &[u8], at: usize, low: u32, high: u32) -> Result<(u32, usize), Fault> {
     let (value, next) = number(bytes, at)?;
     if value < low || value > high {
-        return Err(Fault { number: 10, at });
+        return Err(Fault { number: 10, at: next - 1 });
     }
     Ok((value, next))
 }

@@ -123,6 +123,16 @@ fn worked(name: &str) -> Option<&'static str> {
         "frame-with-a-window-at-40" => Some(FRAMED_PRINTED_AT_40),
         // one shot of 20 by 10, below 25 both ways: 10 + 10 + 20 + 20 nm of sliver
         "touching-squares" => Some("job 1\noutline 0 shots 1 cost 2600 sliver 40\n0 0 20 10\n"),
+        // Item 5: the byte at fault
+        "empty-refused-8" => Some("job refused 8 at 0\n"),
+        "ends-refused-8" => Some("job refused 8 at 9\n"),
+        "ends-in-a-number-refused-8" => Some("job refused 8 at 5\n"),
+        "not-shortest-refused-9" => Some("job refused 9 at 2\n"),
+        "third-byte-refused-10" => Some("job refused 10 at 2\n"),
+        "threshold-1001-refused-10" => Some("job refused 10 at 1\n"),
+        "256-outlines-refused-10" => Some("job refused 10 at 3\n"),
+        "three-corners-refused-10" => Some("job refused 10 at 3\n"),
+        "coordinate-65536-refused-10" => Some("job refused 10 at 6\n"),
         _ => None,
     }
 }

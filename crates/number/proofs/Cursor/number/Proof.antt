@@ -17,11 +17,11 @@ returns c = number-none _ _ (omega arith)
 shared-slice-read-a : tie.Need-shared-slice-read-a
 shared-slice-read-a c = search needs
 
-cast-t14 : tie.Need-cast-t14
-cast-t14 c = search needs
+cast-t15 : tie.Need-cast-t15
+cast-t15 c = search needs
 
-add-t15 : tie.Need-add-t15
-add-t15 c = search needs
+add-t16 : tie.Need-add-t16
+add-t16 c = search needs
 
 returns-2 : tie.Need-returns-2
 returns-2 c = number-one _ _ (omega arith) (omega arith)
@@ -41,8 +41,8 @@ returns-4 c = number-padded-two _ _ (omega arith) (omega arith) (omega arith) (o
 two-requires : tie.Need-two-requires
 two-requires c κs = search needs
 
-add-t21 : tie.Need-add-t21
-add-t21 c = search needs
+add-t23 : tie.Need-add-t23
+add-t23 c = search needs
 
 returns-5 : tie.Need-returns-5
 returns-5 c = number-two _ _ (omega arith) (omega arith) (omega arith) (omega arith) (omega arith) (omega arith)
@@ -77,15 +77,15 @@ number-spec =
     (tie.spec
     returns
     shared-slice-read-a
-    cast-t14
-    add-t15
+    cast-t15
+    add-t16
     returns-2
     add-at1
     returns-3
     shared-slice-read-b
     returns-4
     two-requires
-    add-t21
+    add-t23
     returns-5
     add-at2
     returns-6
