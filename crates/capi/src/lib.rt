@@ -22,6 +22,7 @@ ghost use mathlib.Core.List.{List};
 ghost use Prim.Native.Nat.{ℕ};
 ghost use Rattle.rule.specs.Rules.{presetTold};
 ghost use Rattle.figure.specs.Figure.{figure};
+ghost use Rattle.piece.specs.declared.Mode.the-variants.{Straight};
 ghost use Rattle.demands.specs.Promise.{asked, outcome};
 ghost use Rattle.fracture.specs.Told.{told};
 ghost use Rattle.number.specs.Number.{number as readNumber};
@@ -85,7 +86,7 @@ pub extern "C" fn pw_fracture(
     cost: &mut u32,
     sliver: &mut u32,
 ) -> u32
-    ensures settled { λ r. ⌜ fractureLent r (now (shots .exit)) (now (cost .exit)) (now (sliver .exit)) (now (table .exit)) (now (list .exit)) ≡ outcome (asked (now (corners .entry)) (now (rings .entry)) threshold weight (now (table .entry)) (now (list .entry))) ⌝ }
+    ensures settled { λ r. ⌜ fractureLent r (now (shots .exit)) (now (cost .exit)) (now (sliver .exit)) (now (table .exit)) (now (list .exit)) ≡ outcome (asked Straight (now (corners .entry)) (now (rings .entry)) threshold weight (now (table .entry)) (now (list .entry))) ⌝ }
 {
     let answer = fracture::fracture(corners, rings, threshold, weight, table, list);
     lend(answer, shots, cost, sliver)
@@ -102,7 +103,7 @@ pub extern "C" fn pw_fracture_default(
     cost: &mut u32,
     sliver: &mut u32,
 ) -> u32
-    ensures settled { λ r. ⌜ fractureLent r (now (shots .exit)) (now (cost .exit)) (now (sliver .exit)) (now (table .exit)) (now (list .exit)) ≡ outcome (asked (now (corners .entry)) (now (rings .entry)) (presetTold 0 .threshold) (presetTold 0 .weight) (now (table .entry)) (now (list .entry))) ⌝ }
+    ensures settled { λ r. ⌜ fractureLent r (now (shots .exit)) (now (cost .exit)) (now (sliver .exit)) (now (table .exit)) (now (list .exit)) ≡ outcome (asked Straight (now (corners .entry)) (now (rings .entry)) (presetTold 0 .threshold) (presetTold 0 .weight) (now (table .entry)) (now (list .entry))) ⌝ }
 {
     let answer = fracture::fracture_default(corners, rings, table, list);
     lend(answer, shots, cost, sliver)

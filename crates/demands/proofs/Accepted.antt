@@ -5,10 +5,11 @@
 --   filled-table, front-table, table-room, entry-at   == the table begins with the costs; what it has for a piece is the piece's cost
 --   measured, sliver-at, charge-at   == measures at unit squares and measures of pieces agree
 --   lined, framed        == the grid's lines are the corners' coordinates, and its frame is the corners' frame
+--   parts-cost           == what the table has for the parts of a cut is what they cost
 --   chosen-first         == at every mixed piece a cut is made that costs least, and the first such in the tie order
 --   recurrent            == the recurrence of the costs holds of the table
-use Prim.Native.Nat.{ℕ, suc, _+_, _≤_, _<_}
-use mathlib.Core.Path.{_≡_, refl, sym, _∙_, ap, ap₂}
+use Prim.Native.Nat.{ℕ, suc, _≤_, _<_}
+use mathlib.Core.Path.{_≡_, refl, sym, _∙_, ap}
 use mathlib.Core.Bool.{Bool, true, false, not, _&&_, true≢false}
 use mathlib.Core.Logic.{inl, inr}
 use mathlib.Core.List.{List, map}
@@ -31,40 +32,21 @@ use Rattle.figure.specs.Figure.{cornersOf}
 use Rattle.figure.specs.Inside.{insideAt}
 use Rattle.figure.specs.Steps.{Right}
 use Rattle.outline.specs.Grid.{Grid, Sound}
-use Rattle.piece.specs.Piece.{Piece, rectangle, leftPart, rightPart, lowerPart, upperPart, frame, kind, sliver, charge}
-use Rattle.piece.specs.Straight.{Cut, vertical, horizontal, cuts, parts, shots, cost, choice}
-use Rattle.piece.proofs.Straight.{cuts-all, cuts-at, shots-outside, shots-full, cost-outside, cost-full, cost-cuts, across-vertical, across-horizontal, shots-part}
-use Rattle.piece.proofs.Choice.{InPiece, choice-in, choice-cost, passed-vertical, passed-horizontal, shots-choice}
+use Rattle.piece.specs.Piece.{Piece, rectangle, frame, kind, sliver, charge}
+use Rattle.piece.specs.Cuts.{Cut, parts, CutOf, Before, shots, cost, choice}
+use Rattle.piece.proofs.Cuts.{cuts-at, Part, parts-part, shots-outside, shots-full, cost-outside, cost-full, cost-cuts, shots-part}
+use Rattle.piece.proofs.Choice.{choice-in, choice-cost, passed-over, shots-choice}
 use Rattle.table.specs.Entry.{entryCount, entryOf, costs}
 use Rattle.table.proofs.Entry.{entry-below, costs-length, costs-at}
 use Rattle.demands.specs.Promise.{Asked, drawn, ruleOf, Outcome, written, outcome}
 use Rattle.demands.specs.Square.{shotSliver, shotCharge}
 use Rattle.demands.specs.Ways.{On, frameOf}
-use Rattle.demands.specs.Demands.{Words, PieceOf, entry, Filled, partsCost, CutOf, Before, Chosen, Recurrence}
+use Rattle.demands.specs.Demands.{Words, PieceOf, entry, Filled, partsCost, Chosen, Recurrence}
 use Rattle.demands.proofs.Outcome.{accepted, short, written-front, written-at, outcome-zero, outcome-seven}
 use Rattle.demands.proofs.Refusals.{test, outcome-number, test-true, number-first, number-none}
 use Rattle.demands.proofs.Square.{Shows, sliver-squares, charge-squares}
 use Rattle.demands.proofs.Ways as ways
 use Rattle.demands.proofs.Figure.{figure-sound, figure-shows, figure-lined, figure-frame}
-
--- what holds of all cuts of a piece holds of each
-at-cut : (Q : Cut → Type 0) (p : Piece) → All Q (cuts p) → (k : Cut) → CutOf p k → Q k
-at-cut Q p h (vertical j) w = cuts-at Q p h .0 j (w .0) (w .1)
-at-cut Q p h (horizontal j) w = cuts-at Q p h .1 j (w .0) (w .1)
-
-in-piece : (p : Piece) (k : Cut) → InPiece p k → CutOf p k
-in-piece p (vertical j) w = w
-in-piece p (horizontal j) w = w
-
--- no cut before the choice costs what the piece costs
-passed-over : (g : Grid) (r : Rule) (p : Piece) (k : Cut) → choice g r p ≡ k → (i : Cut) → CutOf p i → Before i k
-    → sumOf (cost g r) (parts p i) ≡ cost g r p
-    → ⊥
-passed-over g r p (vertical j) e (vertical i) w h m = passed-vertical g r p j e i (w .0) (w .1) (omega arith) (sym (across-vertical g r p i) ∙ m)
-passed-over g r p (vertical j) e (horizontal i) w h m = h
-passed-over g r p (horizontal j) e (vertical i) w h m = passed-horizontal g r p j e .0 i (w .0) (w .1) (sym (across-vertical g r p i) ∙ m)
-passed-over g r p (horizontal j) e (horizontal i) w h m =
-    passed-horizontal g r p j e .1 i (w .0) (w .1) (omega arith) (sym (across-horizontal g r p i) ∙ m)
 
 module _ (ask : Asked) where
   abbrev o : Outcome
@@ -117,25 +99,25 @@ module _ (ask : Asked) where
 
   -- The table
 
-  pub filled-table : Filled o → o .table ≡ written (costs (drawn ask) (ruleOf ask)) (ask .table)
+  pub filled-table : Filled o → o .table ≡ written (costs (ask .mode) (drawn ask) (ruleOf ask)) (ask .table)
   unfolding accepted short
   filled-table (inl e) = ap (λ o. o .table) (outcome-zero ask e)
   filled-table (inr e) = ap (λ o. o .table) (outcome-seven ask e)
 
-  pub entry-at : Filled o → (p : Piece) → PieceOf (drawn ask) p → E p ≡ cost (drawn ask) (ruleOf ask) p
+  pub entry-at : Filled o → (p : Piece) → PieceOf (drawn ask) p → E p ≡ cost (ask .mode) (drawn ask) (ruleOf ask) p
   unfolding entry
   entry-at f p v =
       ap (λ m. getD m (entryOf (drawn ask .columns) (drawn ask .rows) p) 0) (filled-table f)
-      ∙ written-at (costs (drawn ask) (ruleOf ask)) (ask .table) (entryOf (drawn ask .columns) (drawn ask .rows) p)
-      (omega (arith, entry-below (drawn ask .columns) (drawn ask .rows) p v, costs-length (drawn ask) (ruleOf ask)))
-      ∙ costs-at (drawn ask) (ruleOf ask) p v
+      ∙ written-at (costs (ask .mode) (drawn ask) (ruleOf ask)) (ask .table) (entryOf (drawn ask .columns) (drawn ask .rows) p)
+      (omega (arith, entry-below (drawn ask .columns) (drawn ask .rows) p v, costs-length (ask .mode) (drawn ask) (ruleOf ask)))
+      ∙ costs-at (ask .mode) (drawn ask) (ruleOf ask) p v
 
-  pub front-table : Filled o → take (length (costs (drawn ask) (ruleOf ask))) (o .table) ≡ costs (drawn ask) (ruleOf ask)
-  front-table f = ap (take (length (costs (drawn ask) (ruleOf ask)))) (filled-table f) ∙ written-front (costs (drawn ask) (ruleOf ask)) (ask .table)
+  pub front-table : Filled o → take (length (costs (ask .mode) (drawn ask) (ruleOf ask))) (o .table) ≡ costs (ask .mode) (drawn ask) (ruleOf ask)
+  front-table f = ap (take (length (costs (ask .mode) (drawn ask) (ruleOf ask)))) (filled-table f) ∙ written-front (costs (ask .mode) (drawn ask) (ruleOf ask)) (ask .table)
 
-  pub table-room : Filled o → length (costs (drawn ask) (ruleOf ask)) ≤ length (ask .table)
+  pub table-room : Filled o → length (costs (ask .mode) (drawn ask) (ruleOf ask)) ≤ length (ask .table)
   unfolding test
-  table-room f = omega (arith, costs-length (drawn ask) (ruleOf ask), ltb-false (length (ask .table)) (entryCount (drawn ask .columns) (drawn ask .rows)) (passed f because.Table (omega arith)))
+  table-room f = omega (arith, costs-length (ask .mode) (drawn ask) (ruleOf ask), ltb-false (length (ask .table)) (entryCount (drawn ask .columns) (drawn ask .rows)) (passed f because.Table (omega arith)))
 
   -- The shots
 
@@ -143,14 +125,14 @@ module _ (ask : Asked) where
   pub measured : (f : Shot → ℕ) (h : Piece → ℕ)
       → ((p : Piece) → PieceOf (drawn ask) p → f (rectangle (drawn ask) p) ≡ h p)
       → (p : Piece) → p .c ≤ drawn ask .columns → p .d ≤ drawn ask .rows
-      → sumOf f (map (rectangle (drawn ask)) (shots (drawn ask) (ruleOf ask) p)) ≡ sumOf h (shots (drawn ask) (ruleOf ask) p)
+      → sumOf f (map (rectangle (drawn ask)) (shots (ask .mode) (drawn ask) (ruleOf ask) p)) ≡ sumOf h (shots (ask .mode) (drawn ask) (ruleOf ask) p)
   measured f h same p hc hd =
-      sumOf-map f (rectangle (drawn ask)) (shots (drawn ask) (ruleOf ask) p)
-      ∙ sumOf-same _ h (shots (drawn ask) (ruleOf ask) p)
+      sumOf-map f (rectangle (drawn ask)) (shots (ask .mode) (drawn ask) (ruleOf ask) p)
+      ∙ sumOf-same _ h (shots (ask .mode) (drawn ask) (ruleOf ask) p)
       (All-imp
       (λ s q. same s (record { ac = q .ac; cx = omega (arith, q .c); bd = q .bd; dy = omega (arith, q .d) }))
-      (shots (drawn ask) (ruleOf ask) p)
-      (shots-part (drawn ask) (ruleOf ask) p))
+      (shots (ask .mode) (drawn ask) (ruleOf ask) p)
+      (shots-part (ask .mode) (drawn ask) (ruleOf ask) p))
 
   pub sliver-at : Words (ask .figure) → Filled o → (p : Piece) → PieceOf (drawn ask) p
       → shotSliver F (ruleOf ask) (rectangle (drawn ask) p) ≡ sliver (drawn ask) (ruleOf ask) p
@@ -169,26 +151,28 @@ module _ (ask : Asked) where
   -- The recurrence
 
   -- the table's own sums are those of the costs
-  parts-cost : Filled o → (p : Piece) → PieceOf (drawn ask) p
-      → All (λ k. partsCost E p k ≡ sumOf (cost (drawn ask) (ruleOf ask)) (parts p k)) (cuts p)
-  unfolding partsCost parts sumOf
-  parts-cost f p v =
-      cuts-all _ p
-      (λ j h k.
-      ap₂ (λ m n. m + (n + 0)) (entry-at f (leftPart p j) (record { ac = h; cx = omega (arith, v .cx); bd = v .bd; dy = v .dy }))
-      (entry-at f (rightPart p j) (record { ac = k; cx = v .cx; bd = v .bd; dy = v .dy })))
-      (λ j h k.
-      ap₂ (λ m n. m + (n + 0)) (entry-at f (lowerPart p j) (record { ac = v .ac; cx = v .cx; bd = h; dy = omega (arith, v .dy) }))
-      (entry-at f (upperPart p j) (record { ac = v .ac; cx = v .cx; bd = k; dy = v .dy })))
+  sums-at : Filled o → (p : Piece) (l : List Piece) → PieceOf (drawn ask) p → All (λ q. Part q p) l → sumOf E l ≡ sumOf (cost (ask .mode) (drawn ask) (ruleOf ask)) l
+  sums-at f p l v h =
+      sumOf-same E (cost (ask .mode) (drawn ask) (ruleOf ask)) l
+      (All-imp {P = λ q. Part q p}
+      (λ q w. entry-at f q (record { ac = w .ac; cx = omega (arith, w .c, v .cx); bd = w .bd; dy = omega (arith, w .d, v .dy) }))
+      l
+      h)
+
+  pub parts-cost : Filled o → (p : Piece) → PieceOf (drawn ask) p → (k : Cut) → CutOf (ask .mode) p k
+      → partsCost E p k ≡ sumOf (cost (ask .mode) (drawn ask) (ruleOf ask)) (parts p k)
+  unfolding partsCost
+  parts-cost f p v k w =
+      sums-at f p (parts p k) v (cuts-at (ask .mode) (λ k. All (λ q. Part q p) (parts p k)) p (parts-part (ask .mode) p (v .ac) (v .bd)) k w)
 
   pub chosen-first : Filled o → (p : Piece) → PieceOf (drawn ask) p → kind (drawn ask) p ≡ mixed
-      → (k : Cut) × Chosen (drawn ask) (ruleOf ask) E p k
+      → (k : Cut) × Chosen (ask .mode) (drawn ask) (ruleOf ask) E p k
   chosen-first f p v e = (
     k,
     record {
       lies = lies;
-      shots-of = shots-choice g r p e;
-      cost-of = entry-at f p v ∙ choice-cost g r p e ∙ sym (same k lies);
+      shots-of = shots-choice (ask .mode) g r p e;
+      cost-of = entry-at f p v ∙ choice-cost (ask .mode) g r p e ∙ sym (parts-cost f p v k lies);
       no-less = no-less;
       earlier-dearer = dearer;
     },
@@ -201,28 +185,25 @@ module _ (ask : Asked) where
       r = ruleOf ask
 
       k : Cut
-      k = choice g r p
+      k = choice (ask .mode) g r p
 
-      lies : CutOf p k
-      lies = in-piece p k (choice-in g r p e)
+      lies : CutOf (ask .mode) p k
+      lies = choice-in (ask .mode) g r p e
 
-      same : (i : Cut) → CutOf p i → partsCost E p i ≡ sumOf (cost g r) (parts p i)
-      same = at-cut _ p (parts-cost f p v)
+      no-less : (i : Cut) → CutOf (ask .mode) p i → E p ≤ partsCost E p i
+      no-less i w = omega (arith, entry-at f p v, parts-cost f p v i w, cuts-at (ask .mode) _ p (cost-cuts (ask .mode) g r p e) i w)
 
-      no-less : (i : Cut) → CutOf p i → E p ≤ partsCost E p i
-      no-less i w = omega (arith, entry-at f p v, same i w, at-cut _ p (cost-cuts g r p e) i w)
-
-      dearer : (i : Cut) → CutOf p i → Before i k → E p < partsCost E p i
+      dearer : (i : Cut) → CutOf (ask .mode) p i → Before i k → E p < partsCost E p i
       dearer i w h = elim (le-or (suc (E p)) (partsCost E p i)) [
         | inl q ↦ q
-        | inr q ↦ absurd (passed-over g r p k refl i w h (omega (arith, entry-at f p v, same i w, no-less i w)))
+        | inr q ↦ absurd (passed-over (ask .mode) g r p k refl i w h (omega (arith, entry-at f p v, parts-cost f p v i w, no-less i w)))
       ]
 
-  pub recurrent : Filled o → (p : Piece) → PieceOf (drawn ask) p → Recurrence (drawn ask) (ruleOf ask) E p
+  pub recurrent : Filled o → (p : Piece) → PieceOf (drawn ask) p → Recurrence (ask .mode) (drawn ask) (ruleOf ask) E p
   recurrent f p v =
       record {
-        outside = λ e. (entry-at f p v ∙ cost-outside (drawn ask) (ruleOf ask) p e, shots-outside (drawn ask) (ruleOf ask) p e);
-        full = λ e. (entry-at f p v ∙ cost-full (drawn ask) (ruleOf ask) p e, shots-full (drawn ask) (ruleOf ask) p e);
+        outside = λ e. (entry-at f p v ∙ cost-outside (ask .mode) (drawn ask) (ruleOf ask) p e, shots-outside (ask .mode) (drawn ask) (ruleOf ask) p e);
+        full = λ e. (entry-at f p v ∙ cost-full (ask .mode) (drawn ask) (ruleOf ask) p e, shots-full (ask .mode) (drawn ask) (ruleOf ask) p e);
         mixed = chosen-first f p v;
       }
 

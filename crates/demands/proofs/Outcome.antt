@@ -26,6 +26,7 @@ use Rattle.outline.specs.Grid.{Grid}
 use Rattle.outline.specs.Inside.{grid}
 use Rattle.outline.specs.Promise.{refusal}
 use Rattle.outline.proofs.Promise.{refusal-most}
+use Rattle.piece.specs.declared.Mode.{Mode}
 use Rattle.table.specs.Entry.{entryCount, costs}
 use Rattle.demands.specs.Promise.{Asked, drawn, ruleOf, frameShots, frameCost, frameSliver, frameNumbers, Outcome, written, refused, delivered, gridded, ruled, outcome}
 use Rattle.demands.specs.Demands.{answer}
@@ -55,21 +56,21 @@ module _ (ask : Asked) where
   accepted =
       record {
         number = 0;
-        shots = length (frameShots (drawn ask) (ruleOf ask));
-        cost = frameCost (drawn ask) (ruleOf ask);
-        sliver = frameSliver (drawn ask) (ruleOf ask);
-        table = written (costs (drawn ask) (ruleOf ask)) (ask .table);
-        list = written (frameNumbers (drawn ask) (ruleOf ask)) (ask .list);
+        shots = length (frameShots (ask .mode) (drawn ask) (ruleOf ask));
+        cost = frameCost (ask .mode) (drawn ask) (ruleOf ask);
+        sliver = frameSliver (ask .mode) (drawn ask) (ruleOf ask);
+        table = written (costs (ask .mode) (drawn ask) (ruleOf ask)) (ask .table);
+        list = written (frameNumbers (ask .mode) (drawn ask) (ruleOf ask)) (ask .list);
       }
 
   unfoldable pub short : Outcome
   short =
       record {
         number = 7;
-        shots = length (frameShots (drawn ask) (ruleOf ask));
+        shots = length (frameShots (ask .mode) (drawn ask) (ruleOf ask));
         cost = 0;
         sliver = 0;
-        table = written (costs (drawn ask) (ruleOf ask)) (ask .table);
+        table = written (costs (ask .mode) (drawn ask) (ruleOf ask)) (ask .table);
         list = ask .list;
       }
 
@@ -77,31 +78,31 @@ module _ (ask : Asked) where
 
   pub outcome-rule : inRange (ask .threshold) (ask .weight) ≡ false → outcome ask ≡ refused 1 (ask .table) (ask .list)
   unfolding outcome
-  outcome-rule e = ap (λ b. cond b (ruled (ask .figure) (ruleOf ask) (ask .table) (ask .list)) (refused 1 (ask .table) (ask .list))) e
+  outcome-rule e = ap (λ b. cond b (ruled (ask .mode) (ask .figure) (ruleOf ask) (ask .table) (ask .list)) (refused 1 (ask .table) (ask .list))) e
 
   module _ (range : inRange (ask .threshold) (ask .weight) ≡ true) where
-    by-rule : outcome ask ≡ ruled (ask .figure) (ruleOf ask) (ask .table) (ask .list)
+    by-rule : outcome ask ≡ ruled (ask .mode) (ask .figure) (ruleOf ask) (ask .table) (ask .list)
     unfolding outcome
-    by-rule = ap (λ b. cond b (ruled (ask .figure) (ruleOf ask) (ask .table) (ask .list)) (refused 1 (ask .table) (ask .list))) range
+    by-rule = ap (λ b. cond b (ruled (ask .mode) (ask .figure) (ruleOf ask) (ask .table) (ask .list)) (refused 1 (ask .table) (ask .list))) range
 
     pub outcome-figure : 0 < refusal (ask .figure) → outcome ask ≡ refused (refusal (ask .figure)) (ask .table) (ask .list)
     unfolding ruled
     outcome-figure h =
         by-rule
-        ∙ ap (λ b. cond b (gridded (grid (ask .figure)) (ruleOf ask) (ask .table) (ask .list)) (refused (refusal (ask .figure)) (ask .table) (ask .list)))
+        ∙ ap (λ b. cond b (gridded (ask .mode) (grid (ask .figure)) (ruleOf ask) (ask .table) (ask .list)) (refused (refusal (ask .figure)) (ask .table) (ask .list)))
         (ne-eqb (refusal (ask .figure)) 0 (λ z. omega arith))
 
     module _ (good : refusal (ask .figure) ≡ 0) where
-      by-grid : outcome ask ≡ gridded (drawn ask) (ruleOf ask) (ask .table) (ask .list)
+      by-grid : outcome ask ≡ gridded (ask .mode) (drawn ask) (ruleOf ask) (ask .table) (ask .list)
       unfolding ruled drawn
       by-grid =
           by-rule
-          ∙ ap (λ b. cond b (gridded (grid (ask .figure)) (ruleOf ask) (ask .table) (ask .list)) (refused (refusal (ask .figure)) (ask .table) (ask .list)))
+          ∙ ap (λ b. cond b (gridded (ask .mode) (grid (ask .figure)) (ruleOf ask) (ask .table) (ask .list)) (refused (refusal (ask .figure)) (ask .table) (ask .list)))
           (eq-eqb (refusal (ask .figure)) 0 good)
 
       -- the table filled, and the shots delivered
       abbrev rest : Outcome
-      rest = delivered (drawn ask) (ruleOf ask) (written (costs (drawn ask) (ruleOf ask)) (ask .table)) (ask .list)
+      rest = delivered (ask .mode) (drawn ask) (ruleOf ask) (written (costs (ask .mode) (drawn ask) (ruleOf ask)) (ask .table)) (ask .list)
 
       pub outcome-table : length (ask .table) < entryCount (drawn ask .columns) (drawn ask .rows) → outcome ask ≡ refused 6 (ask .table) (ask .list)
       unfolding gridded
@@ -112,11 +113,11 @@ module _ (ask : Asked) where
         unfolding gridded
         by-table = by-grid ∙ ap (λ b. cond b (refused 6 (ask .table) (ask .list)) rest) (le-ltb _ _ entries)
 
-        pub outcome-list : length (ask .list) < 4 * length (frameShots (drawn ask) (ruleOf ask)) → outcome ask ≡ short
+        pub outcome-list : length (ask .list) < 4 * length (frameShots (ask .mode) (drawn ask) (ruleOf ask)) → outcome ask ≡ short
         unfolding delivered short accepted
         outcome-list m = by-table ∙ ap (λ b. cond b short accepted) (lt-ltb _ _ m)
 
-        pub outcome-accepted : 4 * length (frameShots (drawn ask) (ruleOf ask)) ≤ length (ask .list) → outcome ask ≡ accepted
+        pub outcome-accepted : 4 * length (frameShots (ask .mode) (drawn ask) (ruleOf ask)) ≤ length (ask .list) → outcome ask ≡ accepted
         unfolding delivered short accepted
         outcome-accepted m = by-table ∙ ap (λ b. cond b short accepted) (le-ltb _ _ m)
 
@@ -130,14 +131,14 @@ module _ (ask : Asked) where
   ended =
       go (inRange (ask .threshold) (ask .weight)) refl (eqb (refusal (ask .figure)) 0) refl
       (ltb (length (ask .table)) (entryCount (drawn ask .columns) (drawn ask .rows))) refl
-      (ltb (length (ask .list)) (4 * length (frameShots (drawn ask) (ruleOf ask)))) refl
+      (ltb (length (ask .list)) (4 * length (frameShots (ask .mode) (drawn ask) (ruleOf ask)))) refl
     where
       some : (n : ℕ) → (n ≡ 0 → ⊥) → 0 < n
       some n h = elim (le-or 1 n) [ inl q ↦ q | inr q ↦ absurd (h (omega arith)) ]
 
       go : (a : Bool) → inRange (ask .threshold) (ask .weight) ≡ a → (b : Bool) → eqb (refusal (ask .figure)) 0 ≡ b
           → (c : Bool) → ltb (length (ask .table)) (entryCount (drawn ask .columns) (drawn ask .rows)) ≡ c
-          → (d : Bool) → ltb (length (ask .list)) (4 * length (frameShots (drawn ask) (ruleOf ask))) ≡ d
+          → (d : Bool) → ltb (length (ask .list)) (4 * length (frameShots (ask .mode) (drawn ask) (ruleOf ask))) ≡ d
           → Ended
       go false e b f c g d h = inr (inr (1, omega arith, omega arith, outcome-rule e))
       go true e false f c g d h =
@@ -186,7 +187,7 @@ module _ (ask : Asked) where
 -- Of a figure a fracture sees nothing but its refusal and its grid
 
 abbrev pub with-figure : Asked → Figure → Asked
-with-figure ask f = record { figure = f; threshold = ask .threshold; weight = ask .weight; table = ask .table; list = ask .list }
+with-figure ask f = record { mode = ask .mode; figure = f; threshold = ask .threshold; weight = ask .weight; table = ask .table; list = ask .list }
 
 pub outcome-seen : (ask : Asked) (f : Figure) → refusal (ask .figure) ≡ refusal f → grid (ask .figure) ≡ grid f
     → outcome ask ≡ outcome (with-figure ask f)
@@ -195,15 +196,20 @@ outcome-seen ask f e h =
     ap₂
     (λ n g.
     cond (inRange (ask .threshold) (ask .weight))
-    (cond (eqb n 0) (gridded g (ruleOf ask) (ask .table) (ask .list)) (refused n (ask .table) (ask .list)))
+    (cond (eqb n 0) (gridded (ask .mode) g (ruleOf ask) (ask .table) (ask .list)) (refused n (ask .table) (ask .list)))
     (refused 1 (ask .table) (ask .list)))
     e
     h
 
+-- The same in another mode
+
+abbrev pub in-mode : Mode → Asked → Asked
+in-mode mode ask = record { mode = mode; figure = ask .figure; threshold = ask .threshold; weight = ask .weight; table = ask .table; list = ask .list }
+
 -- What the buffers held before does not count
 
 abbrev pub with-buffers : Asked → List ℕ → List ℕ → Asked
-with-buffers ask table list = record { figure = ask .figure; threshold = ask .threshold; weight = ask .weight; table = table; list = list }
+with-buffers ask table list = record { mode = ask .mode; figure = ask .figure; threshold = ask .threshold; weight = ask .weight; table = table; list = list }
 
 module _ (ask : Asked) where
   -- the answer by what each stage finds
@@ -216,12 +222,12 @@ module _ (ask : Asked) where
   answer-by : (table list : List ℕ) → answer (outcome (with-buffers ask table list))
       ≡ said (inRange (ask .threshold) (ask .weight)) (eqb (refusal (ask .figure)) 0)
       (ltb (length table) (entryCount (drawn ask .columns) (drawn ask .rows)))
-      (ltb (length list) (4 * length (frameShots (drawn ask) (ruleOf ask))))
+      (ltb (length list) (4 * length (frameShots (ask .mode) (drawn ask) (ruleOf ask))))
   unfolding answer outcome ruled gridded delivered said accepted short refused drawn
   answer-by table list =
       go (inRange (ask .threshold) (ask .weight)) (eqb (refusal (ask .figure)) 0)
       (ltb (length table) (entryCount (grid (ask .figure) .columns) (grid (ask .figure) .rows)))
-      (ltb (length list) (4 * length (frameShots (grid (ask .figure)) (ruleOf ask))))
+      (ltb (length list) (4 * length (frameShots (ask .mode) (grid (ask .figure)) (ruleOf ask))))
     where
       g : Grid
       g = grid (ask .figure)
@@ -234,8 +240,8 @@ module _ (ask : Asked) where
           (cond b
           (cond c (refused 6 table list)
           (cond d
-          (record { number = 7; shots = length (frameShots g r); cost = 0; sliver = 0; table = written (costs g r) table; list = list })
-          (record { number = 0; shots = length (frameShots g r); cost = frameCost g r; sliver = frameSliver g r; table = written (costs g r) table; list = written (frameNumbers g r) list })))
+          (record { number = 7; shots = length (frameShots (ask .mode) g r); cost = 0; sliver = 0; table = written (costs (ask .mode) g r) table; list = list })
+          (record { number = 0; shots = length (frameShots (ask .mode) g r); cost = frameCost (ask .mode) g r; sliver = frameSliver (ask .mode) g r; table = written (costs (ask .mode) g r) table; list = written (frameNumbers (ask .mode) g r) list })))
           (refused (refusal (ask .figure)) table list))
           (refused 1 table list))
           ≡ said a b c d
@@ -253,7 +259,7 @@ module _ (ask : Asked) where
       (λ m n.
       said (inRange (ask .threshold) (ask .weight)) (eqb (refusal (ask .figure)) 0)
       (ltb m (entryCount (drawn ask .columns) (drawn ask .rows)))
-      (ltb n (4 * length (frameShots (drawn ask) (ruleOf ask)))))
+      (ltb n (4 * length (frameShots (ask .mode) (drawn ask) (ruleOf ask)))))
       entries
       room
       ∙ sym (answer-by table list)

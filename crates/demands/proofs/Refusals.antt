@@ -56,7 +56,7 @@ module _ (ask : Asked) where
   test because.Unturned = any unturned (rings (ask .figure))
   test because.Empty = empty (drawn ask)
   test because.Table = ltb (length (ask .table)) (entryCount (drawn ask .columns) (drawn ask .rows))
-  test because.List = ltb (length (ask .list)) (4 * length (frameShots (drawn ask) (ruleOf ask)))
+  test because.List = ltb (length (ask .list)) (4 * length (frameShots (ask .mode) (drawn ask) (ruleOf ask)))
   test because.Ends = false
   test because.Padded = false
   test because.Range = false
@@ -84,7 +84,7 @@ module _ (ask : Asked) where
       go (inRange (ask .threshold) (ask .weight)) (badFigure (ask .figure)) (any slanted (rings (ask .figure)))
       (any unturned (rings (ask .figure))) (empty (grid (ask .figure)))
       (ltb (length (ask .table)) (entryCount (grid (ask .figure) .columns) (grid (ask .figure) .rows)))
-      (ltb (length (ask .list)) (4 * length (frameShots (grid (ask .figure)) (ruleOf ask))))
+      (ltb (length (ask .list)) (4 * length (frameShots (ask .mode) (grid (ask .figure)) (ruleOf ask))))
     where
       G : Grid
       G = grid (ask .figure)
@@ -100,14 +100,14 @@ module _ (ask : Asked) where
           (cond (eqb (no a b c d) 0)
           (cond e (refused 6 (ask .table) (ask .list))
           (cond f
-          (record { number = 7; shots = length (frameShots G R); cost = 0; sliver = 0; table = written (costs G R) (ask .table); list = ask .list })
+          (record { number = 7; shots = length (frameShots (ask .mode) G R); cost = 0; sliver = 0; table = written (costs (ask .mode) G R) (ask .table); list = ask .list })
           (record {
             number = 0;
-            shots = length (frameShots G R);
-            cost = frameCost G R;
-            sliver = frameSliver G R;
-            table = written (costs G R) (ask .table);
-            list = written (frameNumbers G R) (ask .list);
+            shots = length (frameShots (ask .mode) G R);
+            cost = frameCost (ask .mode) G R;
+            sliver = frameSliver (ask .mode) G R;
+            table = written (costs (ask .mode) G R) (ask .table);
+            list = written (frameNumbers (ask .mode) G R) (ask .list);
           })))
           (refused (no a b c d) (ask .table) (ask .list)))
           (refused 1 (ask .table) (ask .list)) .number

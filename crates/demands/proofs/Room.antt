@@ -35,16 +35,16 @@ module _ (ask : Asked) where
   abbrev o : Outcome
   o = outcome ask
 
-  list-room : o .number ≡ 0 → length (frameNumbers (drawn ask) (ruleOf ask)) ≤ length (ask .list)
+  list-room : o .number ≡ 0 → length (frameNumbers (ask .mode) (drawn ask) (ruleOf ask)) ≤ length (ask .list)
   unfolding frameNumbers Condition
-  list-room e = elim (le-or (4 * length (frameShots (drawn ask) (ruleOf ask))) (length (ask .list))) [
-    | inl h ↦ omega (arith, numbers-length (drawn ask) (frameShots (drawn ask) (ruleOf ask)))
+  list-room e = elim (le-or (4 * length (frameShots (ask .mode) (drawn ask) (ruleOf ask))) (length (ask .list))) [
+    | inl h ↦ omega (arith, numbers-length (drawn ask) (frameShots (ask .mode) (drawn ask) (ruleOf ask)))
     | inr h ↦ absurd (number-none ask (sym (outcome-number ask) ∙ e) because.List h)
   ]
 
   -- a table that was filled keeps its length
   table-length : Filled o → length (o .table) ≡ length (ask .table)
-  table-length f = ap length (filled-table ask f) ∙ written-length (costs (drawn ask) (ruleOf ask)) (ask .table) (table-room ask f)
+  table-length f = ap length (filled-table ask f) ∙ written-length (costs (ask .mode) (drawn ask) (ruleOf ask)) (ask .table) (table-room ask f)
 
   -- an outcome is a success, or 7, or a refusal that changes nothing
   by-number : {P : Type 0} → (o .number ≡ 0 → P) → (o .number ≡ 7 → P) → ((n : ℕ) → o ≡ refused n (ask .table) (ask .list) → P) → P
@@ -66,7 +66,7 @@ module _ (ask : Asked) where
       by-number
       (λ e. (
         table-length (inl e),
-        ap (λ o. length (o .list)) (outcome-zero ask e) ∙ written-length (frameNumbers (drawn ask) (ruleOf ask)) (ask .list) (list-room e),
+        ap (λ o. length (o .list)) (outcome-zero ask e) ∙ written-length (frameNumbers (ask .mode) (drawn ask) (ruleOf ask)) (ask .list) (list-room e),
       ))
       (λ e. (table-length (inr e), ap (λ o. length (o .list)) (outcome-seven ask e)))
       (λ n q. (ap (λ o. length (o .table)) q, ap (λ o. length (o .list)) q))
@@ -77,13 +77,13 @@ module _ (ask : Asked) where
   list-past e i h =
       let q = outcome-zero ask e in
       ap (λ o. getD (o .list) i 0) q
-      ∙ written-past (frameNumbers (drawn ask) (ruleOf ask)) (ask .list) i
-      (omega (arith, ap (λ o. o .shots) q, numbers-length (drawn ask) (frameShots (drawn ask) (ruleOf ask))))
+      ∙ written-past (frameNumbers (ask .mode) (drawn ask) (ruleOf ask)) (ask .list) i
+      (omega (arith, ap (λ o. o .shots) q, numbers-length (drawn ask) (frameShots (ask .mode) (drawn ask) (ruleOf ask))))
 
   table-past : Filled o → (i : ℕ) → entryCount (drawn ask .columns) (drawn ask .rows) ≤ i → getD (o .table) i 0 ≡ getD (ask .table) i 0
   table-past f i h =
       ap (λ m. getD m i 0) (filled-table ask f)
-      ∙ written-past (costs (drawn ask) (ruleOf ask)) (ask .table) i (omega (arith, costs-length (drawn ask) (ruleOf ask)))
+      ∙ written-past (costs (ask .mode) (drawn ask) (ruleOf ask)) (ask .table) i (omega (arith, costs-length (ask .mode) (drawn ask) (ruleOf ask)))
 
   pub written-beyond : (i : ℕ)
       → ((o .number ≡ 0 → 4 * o .shots ≤ i) → getD (o .list) i 0 ≡ getD (ask .list) i 0)
@@ -138,6 +138,6 @@ module _ (ask : Asked) (words : Words (ask .figure)) (entries : 14400 ≤ length
         omega (
           arith,
           f .holds,
-          count-most (drawn ask) (ruleOf ask) s (frame (drawn ask)) (omega arith) (omega arith) (omega arith) (omega arith),
+          count-most (ask .mode) (drawn ask) (ruleOf ask) s (frame (drawn ask)) (omega arith) (omega arith) (omega arith) (omega arith),
         ),
   )

@@ -3,6 +3,7 @@
 --   right row      == the test of a row, which computes
 --   right-says     == a row that passes it holds
 --   rows-hold      == all of them hold
+--   wheel-rows-hold == and those of pinwheels
 --   entries-of-L   == the nine entries of L's table by 25 nm and 40, in their order
 use Prim.Native.Nat.{ℕ, _*_, _≤_, _<_}
 use mathlib.Core.Path.{_≡_, refl, sym, _∙_, ap, ap₂, subst}
@@ -28,15 +29,17 @@ use Rattle.outline.specs.Lines.{insert, rising, lines, place}
 use Rattle.outline.specs.Inside.{gridOf, grid, empty}
 use Rattle.outline.specs.Inside as inside
 use Rattle.outline.specs.Promise.{refusal}
+use Rattle.piece.specs.declared.Mode.{Mode}
+use Rattle.piece.specs.declared.Mode.the-variants.{Straight}
 use Rattle.piece.specs.Piece as piece
-use Rattle.piece.specs.Piece.{frame, cells, cellSum, kindOf, kind, lowSide, highSide, width, height, left, right, bottom, top}
-use Rattle.piece.specs.Straight.{run, between, cuts, parts, shots, cost, numbersOf}
+use Rattle.piece.specs.Piece.{Piece, frame, cells, cellSum, kindOf, kind, lowSide, highSide, width, height, left, right, bottom, top}
+use Rattle.piece.specs.Cuts.{turns as turnsOf, run, between, straightCuts, wheels, cuts, parts, shots, cost, numbersOf}
 use Rattle.piece.proofs.Choice.{numbers-length}
-use Rattle.table.specs.Entry.{pairsBelow, pairCount, pairs, entryCount, costs}
+use Rattle.table.specs.Entry.{pairsBelow, pairCount, pairs, entryCount, tabled, costs}
 use Rattle.demands.specs.Promise.{Asked, drawn, ruleOf, frameShots, frameCost, frameSliver, frameNumbers, written, refused, outcome}
 use Rattle.demands.specs.Demands.{Filled}
-use Rattle.demands.specs.Rows.{By, only-by, any as any-rule, Meant, Rival, Row, Says, Holds, L, entriesOfL, rows}
-use Rattle.demands.proofs.Outcome.{accepted, written-front, with-figure, outcome-seen, outcome-accepted, outcome-figure}
+use Rattle.demands.specs.Rows.{By, only-by, any as any-rule, Meant, Rival, Row, Says, Holds, L, entriesOfL, rows, wheelRows}
+use Rattle.demands.proofs.Outcome.{accepted, written-front, outcome-seen, outcome-accepted, outcome-figure}
 use Rattle.demands.proofs.Refusals.{and-true}
 use Rattle.demands.proofs.Accepted.{front-table}
 
@@ -50,21 +53,25 @@ same [] (v ∷ m) = false
 same (u ∷ l) [] = false
 same (u ∷ l) (v ∷ m) = eqb u v && same l m
 
-unfoldable weighed : Figure → Rule → List Rival → Bool
-weighed f r [] = true
-weighed f r (k ∷ ks) = eqb (sumOf (cost (grid f) r) (parts (frame (grid f)) (k .cut))) (k .cost) && weighed f r ks
+unfoldable weighed : Mode → Figure → Rule → List Rival → Bool
+weighed mode f r [] = true
+weighed mode f r (k ∷ ks) = eqb (sumOf (cost mode (grid f) r) (parts (frame (grid f)) (k .cut))) (k .cost) && weighed mode f r ks
+
+-- what a row of an accepted outline says of the shots l of its frame
+unfoldable told : Row → Rule → List Piece → Bool
+told row r l =
+    leb (4 * length l) 900
+    && (eqb (row .number) 0
+    && (eqb (sumOf (piece.charge (grid (row .figure)) r) l) (row .cost)
+    && (eqb (sumOf (piece.sliver (grid (row .figure)) r) l) (row .sliver)
+    && (same (numbersOf (grid (row .figure)) l) (row .list) && weighed (row .mode) (row .figure) r (row .rivals)))))
 
 -- a row of an accepted outline, and of one that is refused whatever the rule
 unfoldable rightBy : By → Row → Bool
 rightBy (only-by t w) row =
     eqb (refusal (row .figure)) 0
     && (leb (entryCount (grid (row .figure) .columns) (grid (row .figure) .rows)) 14400
-    && (leb (4 * length (frameShots (grid (row .figure)) (rule t w))) 900
-    && (eqb (row .number) 0
-    && (eqb (frameCost (grid (row .figure)) (rule t w)) (row .cost)
-    && (eqb (frameSliver (grid (row .figure)) (rule t w)) (row .sliver)
-    && (same (frameNumbers (grid (row .figure)) (rule t w)) (row .list)
-    && weighed (row .figure) (rule t w) (row .rivals)))))))
+    && told row (rule t w) (frameShots (row .mode) (grid (row .figure)) (rule t w)))
 rightBy any-rule row =
     eqb (refusal (row .figure)) (row .number)
     && (ltb 0 (row .number) && (eqb 0 (row .cost) && (eqb 0 (row .sliver) && (eqb 0 (length (row .list)) && eqb 0 (length (row .rivals))))))
@@ -80,23 +87,27 @@ same-is [] (v ∷ m) e = absurd (true≢false (sym e))
 same-is (u ∷ l) [] e = absurd (true≢false (sym e))
 same-is (u ∷ l) (v ∷ m) e = let s = and-true (eqb u v) (same l m) e in rw (eqb-true u v (s .0), same-is l m (s .1))
 
-weighed-all : (f : Figure) (r : Rule) (ks : List Rival) → weighed f r ks ≡ true
-    → All (λ k. sumOf (cost (grid f) r) (parts (frame (grid f)) (k .cut)) ≡ k .cost) ks
+weighed-all : (mode : Mode) (f : Figure) (r : Rule) (ks : List Rival) → weighed mode f r ks ≡ true
+    → All (λ k. sumOf (cost mode (grid f) r) (parts (frame (grid f)) (k .cut)) ≡ k .cost) ks
 unfolding weighed
-weighed-all f r [] e = tt
-weighed-all f r (k ∷ ks) e =
-    let s = and-true (eqb (sumOf (cost (grid f) r) (parts (frame (grid f)) (k .cut))) (k .cost)) (weighed f r ks) e in
-    (eqb-true _ _ (s .0), weighed-all f r ks (s .1))
+weighed-all mode f r [] e = tt
+weighed-all mode f r (k ∷ ks) e =
+    let s = and-true (eqb (sumOf (cost mode (grid f) r) (parts (frame (grid f)) (k .cut))) (k .cost)) (weighed mode f r ks) e in
+    (eqb-true _ _ (s .0), weighed-all mode f r ks (s .1))
 
-rows-pass : (right-all rows && same (costs (grid L) (rule 25 40)) entriesOfL) ≡ true
-unfolding right-all rightBy same weighed refusal fault frameShots frameCost frameSliver frameNumbers entryCount pairCount pairsBelow pairs costs sumOf over join shotsBy cheapest least cells kind frame cellSum kindOf width height left right bottom top lowSide highSide cost shots cuts parts between run numbersOf numbers grid gridOf corners coordinate last steps around any edges threes lastButOne turns changes odd share badLength badFigure slanted unturned both neither alike same-coordinate insert rising lines place wall walls covers count within empty inside.insideCells piece.insideCells piece.sliver piece.charge longer sliverOf chargeOf
+rows-pass : (right-all rows && same (costs Straight (grid L) (rule 25 40)) entriesOfL) ≡ true
+unfolding right-all rightBy told same weighed refusal fault frameShots frameCost frameSliver frameNumbers entryCount pairCount pairsBelow pairs tabled costs sumOf over join shotsBy cheapest least cells kind frame cellSum kindOf width height left right bottom top lowSide highSide cost shots straightCuts cuts parts between run numbersOf numbers grid gridOf corners coordinate last steps around any edges threes lastButOne turns changes odd share badLength badFigure slanted unturned both neither alike same-coordinate insert rising lines place wall walls covers count within empty inside.insideCells piece.insideCells piece.sliver piece.charge longer sliverOf chargeOf
 rows-pass = refl
 
-list-length : (g : Grid) (r : Rule) → length (frameNumbers g r) ≡ 4 * length (frameShots g r)
-unfolding frameNumbers
-list-length g r = numbers-length g (frameShots g r)
+wheel-rows-pass : right-all wheelRows ≡ true
+unfolding right-all rightBy told same weighed refusal fault frameShots frameCost frameSliver frameNumbers entryCount pairCount pairsBelow pairs tabled costs sumOf over join shotsBy cheapest least cells kind frame cellSum kindOf width height left right bottom top lowSide highSide cost shots turnsOf straightCuts wheels cuts parts between run numbersOf numbers grid gridOf corners coordinate last steps around any edges threes lastButOne turns changes odd share badLength badFigure slanted unturned both neither alike same-coordinate insert rising lines place wall walls covers count within empty inside.insideCells piece.insideCells piece.sliver piece.charge longer sliverOf chargeOf
+wheel-rows-pass = refl
 
-module _ (ask : Asked) (row : Row) (of : ask .figure ≡ row .figure) (range : inRange (ask .threshold) (ask .weight) ≡ true)
+list-length : (mode : Mode) (g : Grid) (r : Rule) → length (frameNumbers mode g r) ≡ 4 * length (frameShots mode g r)
+unfolding frameNumbers
+list-length mode g r = numbers-length g (frameShots mode g r)
+
+module _ (ask : Asked) (row : Row) (way : ask .mode ≡ row .mode) (of : ask .figure ≡ row .figure) (range : inRange (ask .threshold) (ask .weight) ≡ true)
     (entries : 14400 ≤ length (ask .table)) (room : 900 ≤ length (ask .list)) where
   -- the row's figure is the one asked
   abbrev g : Grid
@@ -105,11 +116,17 @@ module _ (ask : Asked) (row : Row) (of : ask .figure ≡ row .figure) (range : i
   abbrev r : Rule
   r = ruleOf ask
 
-  seen : outcome ask ≡ outcome (with-figure ask (row .figure))
-  seen = outcome-seen ask (row .figure) (ap refusal of) (ap grid of)
+  -- asked as the row has it
+  abbrev same-ask : Asked
+  same-ask = record { mode = row .mode; figure = row .figure; threshold = ask .threshold; weight = ask .weight; table = ask .table; list = ask .list }
+
+  seen : outcome ask ≡ outcome same-ask
+  seen =
+      outcome-seen ask (row .figure) (ap refusal of) (ap grid of)
+      ∙ ap (λ (m : Mode). outcome (record { mode = m; figure = row .figure; threshold = ask .threshold; weight = ask .weight; table = ask .table; list = ask .list })) way
 
   good-says : rightBy (only-by (ask .threshold) (ask .weight)) row ≡ true → Says row r (outcome ask)
-  unfolding rightBy accepted drawn
+  unfolding rightBy told accepted drawn frameCost frameSliver frameNumbers
   good-says e =
       let s₀ = and-true _ _ e in
       let s₁ = and-true _ _ (s₀ .1) in
@@ -118,23 +135,23 @@ module _ (ask : Asked) (row : Row) (of : ask .figure ≡ row .figure) (range : i
       let s₄ = and-true _ _ (s₃ .1) in
       let s₅ = and-true _ _ (s₄ .1) in
       let s₆ = and-true _ _ (s₅ .1) in
-      let front : frameNumbers g r ≡ row .list = same-is _ _ (s₆ .0) in
+      let front : frameNumbers (row .mode) g r ≡ row .list = same-is _ _ (s₆ .0) in
       subst (Says row r)
       (sym
       (seen
-      ∙ outcome-accepted (with-figure ask (row .figure)) range (eqb-true _ _ (s₀ .0))
+      ∙ outcome-accepted same-ask range (eqb-true _ _ (s₀ .0))
       (le-trans (leb-true _ _ (s₁ .0)) entries)
       (le-trans (leb-true _ _ (s₂ .0)) room)))
       record {
         number = sym (eqb-true _ _ (s₃ .0));
         cost = eqb-true _ _ (s₄ .0);
         sliver = eqb-true _ _ (s₅ .0);
-        count = sym (list-length g r) ∙ ap length front;
+        count = sym (list-length (row .mode) g r) ∙ ap length front;
         list =
-            ap (λ n. take n (written (frameNumbers g r) (ask .list))) (sym (list-length g r))
-            ∙ written-front (frameNumbers g r) (ask .list)
+            ap (λ n. take n (written (frameNumbers (row .mode) g r) (ask .list))) (sym (list-length (row .mode) g r))
+            ∙ written-front (frameNumbers (row .mode) g r) (ask .list)
             ∙ front;
-        rivals = weighed-all (row .figure) r (row .rivals) (s₆ .1);
+        rivals = weighed-all (row .mode) (row .figure) r (row .rivals) (s₆ .1);
       }
 
   refused-says : rightBy any-rule row ≡ true → Says row r (outcome ask)
@@ -148,7 +165,7 @@ module _ (ask : Asked) (row : Row) (of : ask .figure ≡ row .figure) (range : i
       let n : refusal (row .figure) ≡ row .number = eqb-true _ _ (s₀ .0) in
       let k : 0 < row .number = ltb-true _ _ (s₁ .0) in
       subst (Says row r)
-      (sym (seen ∙ outcome-figure (with-figure ask (row .figure)) range (omega arith)))
+      (sym (seen ∙ outcome-figure same-ask range (omega arith)))
       record {
         number = n;
         cost = eqb-true _ _ (s₂ .0);
@@ -163,15 +180,15 @@ module _ (ask : Asked) (row : Row) (of : ask .figure ≡ row .figure) (range : i
       none (v ∷ l) e = absurd (omega arith)
 
       alone : (l : List Rival) → 0 ≡ length l
-          → All (λ k. sumOf (cost g r) (parts (frame g) (k .cut)) ≡ k .cost) l
+          → All (λ k. sumOf (cost (row .mode) g r) (parts (frame g) (k .cut)) ≡ k .cost) l
       alone [] e = tt
       alone (v ∷ l) e = absurd (omega arith)
 
 right-says : (b : By) (row : Row) → row .by ≡ b → rightBy b row ≡ true → Holds row
-right-says (only-by t₀ w₀) row by e ask of m range k n =
+right-says (only-by t₀ w₀) row by e ask way of m range k n =
     let z : Meant (only-by t₀ w₀) (ask .threshold) (ask .weight) = subst (λ b. Meant b (ask .threshold) (ask .weight)) by m in
-    good-says ask row of range k n (ap₂ (λ t w. rightBy (only-by t w) row) (z .0) (z .1) ∙ e)
-right-says any-rule row by e ask of m range k n = refused-says ask row of range k n e
+    good-says ask row way of range k n (ap₂ (λ t w. rightBy (only-by t w) row) (z .0) (z .1) ∙ e)
+right-says any-rule row by e ask way of m range k n = refused-says ask row way of range k n e
 
 all-say : (l : List Row) → right-all l ≡ true → All Holds l
 unfolding right-all
@@ -181,11 +198,14 @@ all-say (row ∷ l) e = let s = and-true _ _ e in (right-says (row .by) row refl
 pub rows-hold : All Holds rows
 rows-hold = all-say rows (and-true _ _ rows-pass .0)
 
-pub entries-of-L : (ask : Asked) → ask .figure ≡ L → ask .threshold ≡ 25 → ask .weight ≡ 40 → Filled (outcome ask)
+pub wheel-rows-hold : All Holds wheelRows
+wheel-rows-hold = all-say wheelRows wheel-rows-pass
+
+pub entries-of-L : (ask : Asked) → ask .mode ≡ Straight → ask .figure ≡ L → ask .threshold ≡ 25 → ask .weight ≡ 40 → Filled (outcome ask)
     → take 9 (outcome ask .table) ≡ entriesOfL
 unfolding drawn
-entries-of-L ask of t w f =
-    let e : costs (drawn ask) (ruleOf ask) ≡ entriesOfL =
-    ap₂ (λ f r. costs (grid f) r) of (ap₂ rule t w) ∙ same-is _ _ (and-true (right-all rows) _ rows-pass .1)
+entries-of-L ask way of t w f =
+    let e : costs (ask .mode) (drawn ask) (ruleOf ask) ≡ entriesOfL =
+    ap (λ m. costs m (drawn ask) (ruleOf ask)) way ∙ ap₂ (λ f r. costs Straight (grid f) r) of (ap₂ rule t w) ∙ same-is _ _ (and-true (right-all rows) _ rows-pass .1)
     in
     ap (λ l. take (length l) (outcome ask .table)) (sym e) ∙ front-table ask f ∙ e

@@ -19,10 +19,11 @@ use Rattle.sum.proofs.Lists.{sumOf-same, sumOf-map, All-imp}
 use Rattle.rule.specs.declared.Rule.{Rule}
 use Rattle.outline.specs.Grid.{Grid, Sound}
 use Rattle.piece.specs.Piece.{Piece, rectangle, before, lowSide, highSide, width, height, left, right, bottom, top, cellSum, frame, sliver, charge}
-use Rattle.piece.specs.Straight.{shots}
+use Rattle.piece.specs.declared.Mode.{Mode}
+use Rattle.piece.specs.Cuts.{shots}
 use Rattle.piece.proofs.Cells.{Within, sum-same}
-use Rattle.piece.proofs.Turn.{turned, turn, sound-turn}
-use Rattle.piece.proofs.Straight.{cover, shots-part}
+use Rattle.piece.proofs.Turned.{turned, turn, sound-turn}
+use Rattle.piece.proofs.Cuts.{cover, shots-part}
 use Rattle.rule.specs.Charge.{sliverOf, chargeOf}
 use Rattle.shot.specs.Shot.{holds}
 use Rattle.demands.specs.Square.{prior, exposed, leftOf, rightOf, bottomOf, topOf, shotSliver, shotCharge}
@@ -193,16 +194,16 @@ module _ (g : Grid) (F : ℕ → ℕ → Bool) (sound : Sound g) (shows : Shows 
       go true e false e₁ v e₂ m e₃ = not-there (shows .right-none x y (ltb-false _ _ e₁))
       go false e u e₁ v e₂ m e₃ = not-there (shows .left-none x y (leb-false _ _ e))
 
-  pub cover-squares : (r : Rule) → sumOf (λ s. only (holds x y s) 1) (map (rectangle g) (shots g r (frame g))) ≡ only (F x y) 1
+  pub cover-squares : (mode : Mode) (r : Rule) → sumOf (λ s. only (holds x y s) 1) (map (rectangle g) (shots mode g r (frame g))) ≡ only (F x y) 1
   unfolding frame
-  cover-squares r =
-      sumOf-map (λ s. only (holds x y s) 1) (rectangle g) (shots g r (frame g))
-      ∙ sumOf-same _ (cellSum (spot 1)) (shots g r (frame g))
+  cover-squares mode r =
+      sumOf-map (λ s. only (holds x y s) 1) (rectangle g) (shots mode g r (frame g))
+      ∙ sumOf-same _ (cellSum (spot 1)) (shots mode g r (frame g))
       (All-imp
       (λ s w. let ac = w .ac in let bd = w .bd in sym (spot-sum 1 s (omega arith) (omega arith)))
-      (shots g r (frame g))
-      (shots-part g r (frame g)))
-      ∙ cover g r (spot 1) (frame g)
+      (shots mode g r (frame g))
+      (shots-part mode g r (frame g)))
+      ∙ cover mode g r (spot 1) (frame g)
       ∙ spot-inside (frame g) (omega arith) (omega arith)
       ∙ spot-sum (only (F x y) 1) (frame g) (omega arith) (omega arith)
       ∙ frame-holds

@@ -7,14 +7,13 @@
 --   pairAt n i j       == the number of the pair of lines i < j, of the lines 0 to n, in the order (0, 1), (0, 2), .., (1, 2), ..
 --   answer o           == the answer of an outcome, without the buffers
 --   Filled o           == the table was filled: on success, and beside 7
---   partsCost E p k    == what the two parts of the cut k of p have together in a table E
---   CutOf p k          == the cut k lies strictly between the ends of the piece p
---   Before i k         == the cut i comes before the cut k in document 01's tie order: vertical before horizontal, and of two in one
---                         direction the lower line before the higher
---   Chosen g r E p k   == the shots of p are those of the parts of its cut k, which cost what p costs by the table E; no cut of p costs
---                         less, and each cut before k costs more
---   Recurrence g r E p == the paper's equation (2) at the piece p of the grid g, for a table of costs E, with document 01's tie order and
---                         order of the list: 0 and no shot outside; the charge and the piece itself where full; else a cut is chosen
+--   partsCost E p k    == what the parts of the cut k of p have together in a table E
+--   Chosen mode g r E p k
+--                      == the shots of p are those of the parts of its cut k, which cost what p costs by the table E; no cut of p costs
+--                         less, and each cut before k in the tie order costs more (CutOf, Before: piece/specs/Cuts.antt)
+--   Recurrence mode g r E p
+--                      == the paper's equation (2), in the pinwheel mode (2) and (3), at the piece p of the grid g, for a table of costs E,
+--                         with the documents' tie order and order of the list: 0 and no shot outside; the charge and the piece itself where full; else a cut is chosen
 use Prim.Native.Nat.{ℕ, _+_, _*_, _-_, _/_, _≤_, _<_}
 use mathlib.Core.Path.{_≡_}
 use mathlib.Core.Logic.{_⊎_}
@@ -28,8 +27,9 @@ use Rattle.rule.specs.declared.Rule.{Rule}
 use Rattle.figure.specs.Figure.{Figure, mostPlace}
 use Rattle.outline.specs.Grid.{Grid}
 use Rattle.shot.specs.Shot.{Shot, shotsIn}
+use Rattle.piece.specs.declared.Mode.{Mode}
 use Rattle.piece.specs.Piece.{Piece, kind, charge}
-use Rattle.piece.specs.Straight.{Cut, vertical, horizontal, parts, shots}
+use Rattle.piece.specs.Cuts.{Cut, parts, CutOf, Before, shots}
 use Rattle.table.specs.Entry.{entryOf, Valid}
 use Rattle.demands.specs.Promise.{Outcome}
 
@@ -57,24 +57,14 @@ Filled o = (o .number ≡ 0) ⊎ (o .number ≡ refusalNo because.List)
 unfoldable pub partsCost : (Piece → ℕ) → Piece → Cut → ℕ
 partsCost E p k = sumOf E (parts p k)
 
-abbrev pub CutOf : Piece → Cut → Type 0
-CutOf p (vertical j) = (p .a < j) × (j < p .c)
-CutOf p (horizontal j) = (p .b < j) × (j < p .d)
-
-abbrev pub Before : Cut → Cut → Type 0
-Before (vertical i) (vertical j) = i < j
-Before (vertical i) (horizontal j) = Unit {0}
-Before (horizontal i) (vertical j) = ⊥
-Before (horizontal i) (horizontal j) = i < j
-
-pub record Chosen (g : Grid) (r : Rule) (E : Piece → ℕ) (p : Piece) (k : Cut) : Type 0 where
-  pub lies : CutOf p k
-  pub shots-of : shots g r p ≡ join (shots g r) (parts p k)
+pub record Chosen (mode : Mode) (g : Grid) (r : Rule) (E : Piece → ℕ) (p : Piece) (k : Cut) : Type 0 where
+  pub lies : CutOf mode p k
+  pub shots-of : shots mode g r p ≡ join (shots mode g r) (parts p k)
   pub cost-of : E p ≡ partsCost E p k
-  pub no-less : (i : Cut) → CutOf p i → E p ≤ partsCost E p i
-  pub earlier-dearer : (i : Cut) → CutOf p i → Before i k → E p < partsCost E p i
+  pub no-less : (i : Cut) → CutOf mode p i → E p ≤ partsCost E p i
+  pub earlier-dearer : (i : Cut) → CutOf mode p i → Before i k → E p < partsCost E p i
 
-pub record Recurrence (g : Grid) (r : Rule) (E : Piece → ℕ) (p : Piece) : Type 0 where
-  pub outside : kind g p ≡ outside → (E p ≡ 0) × (shots g r p ≡ [])
-  pub full : kind g p ≡ full → (E p ≡ charge g r p) × (shots g r p ≡ p ∷ [])
-  pub mixed : kind g p ≡ mixed → (k : Cut) × Chosen g r E p k
+pub record Recurrence (mode : Mode) (g : Grid) (r : Rule) (E : Piece → ℕ) (p : Piece) : Type 0 where
+  pub outside : kind g p ≡ outside → (E p ≡ 0) × (shots mode g r p ≡ [])
+  pub full : kind g p ≡ full → (E p ≡ charge g r p) × (shots mode g r p ≡ p ∷ [])
+  pub mixed : kind g p ≡ mixed → (k : Cut) × Chosen mode g r E p k

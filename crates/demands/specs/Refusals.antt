@@ -45,7 +45,7 @@ module _ (ask : Asked) where
   -- cost table has fewer entries than there are pieces
   Condition because.Table = length (ask .table) < entryCount (drawn ask .columns) (drawn ask .rows)
   -- shot list holds fewer than 4 x shots numbers
-  Condition because.List = length (ask .list) < 4 * length (frameShots (drawn ask) (ruleOf ask))
+  Condition because.List = length (ask .list) < 4 * length (frameShots (ask .mode) (drawn ask) (ruleOf ask))
   -- the others are for bytes, buffers, presets and elements
   Condition because.Ends = ⊥
   Condition because.Padded = ⊥

@@ -1,10 +1,10 @@
 -- To believe: the ten proved rows of document 01, "Drawings to test on" (that of the 10 nm square as document 02's Item 4 has it), four with rings,
--- one of a tie, and three of flecks.
+-- one of a tie, three of flecks, and five of two drawings that pinwheels cut best.
 --
 --   By                 == the rule that a row is for: one of threshold and weight, or any in range
 --   Meant b t w        == the row is for the rule of threshold t and weight w
---   Rival              == a cut of the frame, and what its two parts cost together
---   Row                == a drawing, its rule, and the outcome: number, cost, sliver length, the list of shots, and cuts of the frame that
+--   Rival              == a cut of the frame, and what its parts cost together
+--   Row                == a drawing, its mode and rule, and the outcome: number, cost, sliver length, the list of shots, and cuts of the frame that
 --                         document 01 names
 --   Says row r o       == what a row says of an outcome o by the rule r
 --   Holds row          == for every rule that the row is for, and any buffers with room for 14,400 entries and 225 shots, that is the
@@ -14,7 +14,8 @@
 --   bar, foot          == a bar that is kept whole though its halves would cost less; a block on a foot of 10 nm
 --   L, B, framed, windowed   == the drawing of "The job program", the block with a nose, a frame with a window, the same with its window first
 --   Z                  == two blocks that share a strip, of which only the order of lines says how it is cut
---   rows               == the table
+--   W1, W2             == two drawings that a pinwheel cuts best, by the first and by the second turn
+--   rows, wheelRows    == the table, and its rows of pinwheels
 use Prim.Native.Nat.{ℕ, _*_, _/_, _≤_}
 use mathlib.Core.Path.{_≡_}
 use mathlib.Core.Bool.{true}
@@ -22,8 +23,11 @@ use mathlib.Core.List.{List, [], _∷_}
 use lib.ListN.{length, take}
 use Rattle.sum.specs.Sum.{sumOf, All}
 use Rattle.rule.specs.Rules.{inRange}
+use Rattle.piece.specs.declared.Mode.{Mode}
+use Rattle.piece.specs.declared.Mode.the-variants.{Straight, Pinwheel}
 use Rattle.piece.specs.Piece.{frame}
-use Rattle.piece.specs.Straight.{Cut, vertical, horizontal, parts, cost as costOf}
+use Rattle.piece.specs.declared.Turn.the-variants.{First, Second}
+use Rattle.piece.specs.Cuts.{Cut, vertical, horizontal, wheel, parts, cost as costOf}
 use Rattle.rule.specs.declared.Rule.{Rule}
 use Rattle.figure.specs.Figure.{Figure, figure}
 use Rattle.outline.specs.Inside.{grid}
@@ -42,6 +46,7 @@ pub record Rival : Type 0 where
   pub cost : ℕ
 
 pub record Row : Type 0 where
+  pub mode : Mode
   pub figure : Figure
   pub by : By
   pub number : ℕ
@@ -56,12 +61,12 @@ pub record Says (row : Row) (r : Rule) (o : Outcome) : Type 0 where
   pub sliver : o .sliver ≡ row .sliver
   pub count : 4 * o .shots ≡ length (row .list)
   pub list : take (4 * o .shots) (o .list) ≡ row .list
-  pub rivals : All (λ k. sumOf (costOf (grid (row .figure)) r) (parts (frame (grid (row .figure))) (k .cut)) ≡ k .cost) (row .rivals)
+  pub rivals : All (λ k. sumOf (costOf (row .mode) (grid (row .figure)) r) (parts (frame (grid (row .figure))) (k .cut)) ≡ k .cost) (row .rivals)
 
 -- room is ample: 14,400 entries and 225 shots
 abbrev pub Holds : Row → Type 0
 Holds row =
-    (ask : Asked) → ask .figure ≡ row .figure → Meant (row .by) (ask .threshold) (ask .weight)
+    (ask : Asked) → ask .mode ≡ row .mode → ask .figure ≡ row .figure → Meant (row .by) (ask .threshold) (ask .weight)
     → inRange (ask .threshold) (ask .weight) ≡ true
     → 14400 ≤ length (ask .table) → 900 ≤ length (ask .list)
     → Says row (ruleOf ask) (outcome ask)
@@ -72,7 +77,11 @@ outline l = figure l (length l / 2 ∷ [])
 
 -- an accepted figure
 abbrev good : Figure → ℕ → ℕ → ℕ → ℕ → List ℕ → List Rival → Row
-good f t w c s l k = record { figure = f; by = only-by t w; number = 0; cost = c; sliver = s; list = l; rivals = k }
+good f t w c s l k = record { mode = Straight; figure = f; by = only-by t w; number = 0; cost = c; sliver = s; list = l; rivals = k }
+
+-- the same in the pinwheel mode
+abbrev wheeled : Figure → ℕ → ℕ → ℕ → ℕ → List ℕ → List Rival → Row
+wheeled f t w c s l k = record { mode = Pinwheel; figure = f; by = only-by t w; number = 0; cost = c; sliver = s; list = l; rivals = k }
 
 -- the drawing of "The job program"
 abbrev pub L : Figure
@@ -127,6 +136,7 @@ rows =
     ∷ good windowed 25 40 4000 0 (0 ∷ 0 ∷ 30 ∷ 100 ∷ 30 ∷ 0 ∷ 70 ∷ 30 ∷ 30 ∷ 70 ∷ 70 ∷ 100 ∷ 70 ∷ 0 ∷ 100 ∷ 100 ∷ []) []
     ∷ good (figure (0 ∷ 0 ∷ 10 ∷ 0 ∷ 10 ∷ 10 ∷ 0 ∷ 10 ∷ 10 ∷ 0 ∷ 20 ∷ 0 ∷ 20 ∷ 10 ∷ 10 ∷ 10 ∷ []) (4 ∷ 4 ∷ [])) 0 40 1000 0 (0 ∷ 0 ∷ 20 ∷ 10 ∷ []) []
     ∷ record {
+      mode = Straight;
       figure = outline (0 ∷ 0 ∷ 1 ∷ 0 ∷ 1 ∷ 1 ∷ 0 ∷ 1 ∷ 0 ∷ 0 ∷ 1 ∷ 0 ∷ 1 ∷ 1 ∷ 0 ∷ 1 ∷ []);
       by = any;
       number = 5;
@@ -135,4 +145,21 @@ rows =
       list = [];
       rivals = [];
     }
+    ∷ []
+
+-- one ring that touches itself, with five lines each way; the other is its mirror image
+abbrev pub W2 : Figure
+W2 = outline (100 ∷ 60 ∷ 40 ∷ 60 ∷ 40 ∷ 0 ∷ 110 ∷ 0 ∷ 110 ∷ 80 ∷ 100 ∷ 80 ∷ 100 ∷ 20 ∷ 70 ∷ 20 ∷ 70 ∷ 60 ∷ 10 ∷ 60 ∷ 10 ∷ 100 ∷ 100 ∷ 100 ∷ [])
+
+abbrev pub W1 : Figure
+W1 = outline (20 ∷ 60 ∷ 80 ∷ 60 ∷ 80 ∷ 0 ∷ 10 ∷ 0 ∷ 10 ∷ 80 ∷ 20 ∷ 80 ∷ 20 ∷ 20 ∷ 50 ∷ 20 ∷ 50 ∷ 60 ∷ 110 ∷ 60 ∷ 110 ∷ 100 ∷ 20 ∷ 100 ∷ [])
+
+-- the third is a tie: straight cuts come before pinwheels
+abbrev pub wheelRows : List Row
+wheelRows =
+    good W2 25 40 11200 180 (40 ∷ 0 ∷ 70 ∷ 60 ∷ 70 ∷ 0 ∷ 100 ∷ 20 ∷ 10 ∷ 60 ∷ 100 ∷ 100 ∷ 100 ∷ 0 ∷ 110 ∷ 80 ∷ []) []
+    ∷ wheeled W2 25 40 10800 170 (40 ∷ 0 ∷ 70 ∷ 60 ∷ 70 ∷ 0 ∷ 110 ∷ 20 ∷ 10 ∷ 60 ∷ 100 ∷ 100 ∷ 100 ∷ 20 ∷ 110 ∷ 80 ∷ []) (record { cut = vertical 3; cost = 11200 } ∷ record { cut = wheel Second 2 3 1 2; cost = 10800 } ∷ [])
+    ∷ wheeled W2 25 0 4000 210 (40 ∷ 0 ∷ 100 ∷ 20 ∷ 40 ∷ 20 ∷ 70 ∷ 60 ∷ 10 ∷ 60 ∷ 100 ∷ 100 ∷ 100 ∷ 0 ∷ 110 ∷ 80 ∷ []) (record { cut = wheel Second 2 3 1 2; cost = 4000 } ∷ [])
+    ∷ good W1 25 40 11200 180 (10 ∷ 0 ∷ 20 ∷ 80 ∷ 20 ∷ 0 ∷ 50 ∷ 20 ∷ 50 ∷ 0 ∷ 80 ∷ 60 ∷ 20 ∷ 60 ∷ 110 ∷ 100 ∷ []) []
+    ∷ wheeled W1 25 40 10800 170 (10 ∷ 0 ∷ 50 ∷ 20 ∷ 50 ∷ 0 ∷ 80 ∷ 60 ∷ 10 ∷ 20 ∷ 20 ∷ 80 ∷ 20 ∷ 60 ∷ 110 ∷ 100 ∷ []) (record { cut = wheel First 1 2 1 2; cost = 10800 } ∷ [])
     ∷ []

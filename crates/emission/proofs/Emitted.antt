@@ -23,13 +23,14 @@ use Rattle.sum.proofs.Lists.{sumOf-ones, sumOf-le, All-imp, sets-append}
 use Rattle.recurrence.specs.Scheme.{Kind, outside, full, mixed}
 use Rattle.outline.specs.Grid.{Grid}
 use Rattle.rule.specs.declared.Rule.{Rule}
+use Rattle.piece.specs.declared.Mode.the-variants.{Straight}
 use Rattle.piece.specs.declared.Piece as stored
 use Rattle.piece.specs.Piece.{Piece, kind, cells, cellSum, sliver}
 use Rattle.piece.specs.Meant.{meant}
-use Rattle.piece.specs.Straight.{Cut, vertical, horizontal, choice, shots, numbersOf}
+use Rattle.piece.specs.Cuts.{Cut, vertical, horizontal, wheel, CutOf, choice, shots, numbersOf}
 use Rattle.piece.proofs.Cells.{sum-vertical, sum-horizontal, cells-some, sum-le}
-use Rattle.piece.proofs.Straight.{shots-outside, shots-full, shots-part, cover}
-use Rattle.piece.proofs.Choice.{InPiece, choice-in, shots-vertical, shots-horizontal, numbers-one, numbers-none, numbers-append, numbers-length}
+use Rattle.piece.proofs.Cuts.{straight-only, shots-outside, shots-full, shots-part, cover}
+use Rattle.piece.proofs.Choice.{choice-in, shots-vertical, shots-horizontal, numbers-one, numbers-none, numbers-append, numbers-length}
 use Rattle.piece.proofs.Bound.{count-most, slivers-most}
 use Rattle.table.specs.Entry.{Valid, entryOf}
 use Rattle.verdict.specs.declared.Plan.{Plan}
@@ -95,7 +96,7 @@ module _ (g : Grid) where
 -- What a verdict says of the shots of a piece
 
 pub record Halves (g : Grid) (r : Rule) (plan : Plan) (p : Piece) (l h : Numbered) : Type 0 where
-  pub both : shots g r p ≡ shots g r (meant (l .piece)) ++ shots g r (meant (h .piece))
+  pub both : shots Straight g r p ≡ shots Straight g r (meant (l .piece)) ++ shots Straight g r (meant (h .piece))
   pub low : Known plan l
   pub high : Known plan h
   pub less-low : cells (meant (l .piece)) < cells p
@@ -106,38 +107,38 @@ module _ (g : Grid) (r : Rule) (p : Piece) where
   by-kind k = elim k [
     | outside ↦ verdict.Outside
     | full ↦ verdict.Shot
-    | mixed ↦ verdict.Cut (numbered g (lowPart p (choice g r p))) (numbered g (highPart p (choice g r p)))
+    | mixed ↦ verdict.Cut (numbered g (lowPart p (choice Straight g r p))) (numbered g (highPart p (choice Straight g r p)))
   ]
 
   opened : verdictOf g r p ≡ by-kind (kind g p)
   unfolding verdictOf by-kind
   opened = refl
 
-  pub told-outside : verdict.Outside ≡ verdictOf g r p → shots g r p ≡ []
+  pub told-outside : verdict.Outside ≡ verdictOf g r p → shots Straight g r p ≡ []
   unfolding by-kind
   told-outside e = go (kind g p) refl (e ∙ opened)
     where
-      go : (k : Kind) → kind g p ≡ k → verdict.Outside ≡ by-kind k → shots g r p ≡ []
-      go outside h e = shots-outside g r p h
+      go : (k : Kind) → kind g p ≡ k → verdict.Outside ≡ by-kind k → shots Straight g r p ≡ []
+      go outside h e = shots-outside Straight g r p h
       go full h e = cc
       go mixed h e = cc
 
-  pub told-shot : verdict.Shot ≡ verdictOf g r p → shots g r p ≡ p ∷ []
+  pub told-shot : verdict.Shot ≡ verdictOf g r p → shots Straight g r p ≡ p ∷ []
   unfolding by-kind
   told-shot e = go (kind g p) refl (e ∙ opened)
     where
-      go : (k : Kind) → kind g p ≡ k → verdict.Shot ≡ by-kind k → shots g r p ≡ p ∷ []
+      go : (k : Kind) → kind g p ≡ k → verdict.Shot ≡ by-kind k → shots Straight g r p ≡ p ∷ []
       go outside h e = cc
-      go full h e = shots-full g r p h
+      go full h e = shots-full Straight g r p h
       go mixed h e = cc
 
   told-cut : (l h : Numbered) → verdict.Cut l h ≡ verdictOf g r p
-      → (kind g p ≡ mixed) × (l ≡ numbered g (lowPart p (choice g r p))) × (h ≡ numbered g (highPart p (choice g r p)))
+      → (kind g p ≡ mixed) × (l ≡ numbered g (lowPart p (choice Straight g r p))) × (h ≡ numbered g (highPart p (choice Straight g r p)))
   unfolding by-kind
   told-cut l h e = go (kind g p) refl (e ∙ opened)
     where
       go : (t : Kind) → kind g p ≡ t → verdict.Cut l h ≡ by-kind t
-          → (kind g p ≡ mixed) × (l ≡ numbered g (lowPart p (choice g r p))) × (h ≡ numbered g (highPart p (choice g r p)))
+          → (kind g p ≡ mixed) × (l ≡ numbered g (lowPart p (choice Straight g r p))) × (h ≡ numbered g (highPart p (choice Straight g r p)))
       go outside q e = ((let z : _≡_ {A = ℕ} 0 1 = cc in absurd (omega arith)), cc, cc)
       go full q e = ((let z : _≡_ {A = ℕ} 0 1 = cc in absurd (omega arith)), cc, cc)
       go mixed q e = (q, cc, cc)
@@ -148,7 +149,7 @@ module _ (g : Grid) (r : Rule) (t cs : List ℕ) (plan : Plan) (f : Costed g r t
   known : (q : Piece) → Valid (plan .columns) (plan .rows) q → Known plan (numbered g q)
   known q w = record { valid = w; entry = sym (ap₂ (λ x y. entryOf x y q) (f .columns) (f .rows)) }
 
-  cut-halves : (c : Cut) → choice g r p ≡ c → InPiece p c → kind g p ≡ mixed
+  cut-halves : (c : Cut) → choice Straight g r p ≡ c → CutOf Straight p c → kind g p ≡ mixed
       → Halves g r plan p (numbered g (lowPart p c)) (numbered g (highPart p c))
   unfolding cells
   cut-halves (vertical j) c i m =
@@ -160,7 +161,7 @@ module _ (g : Grid) (r : Rule) (t cs : List ℕ) (plan : Plan) (f : Costed g r t
       let a = cells-some (lowPart p (vertical j)) (low .ac) (low .bd) in
       let b = cells-some (highPart p (vertical j)) (high .ac) (high .bd) in
       record {
-        both = shots-vertical g r p m j c;
+        both = shots-vertical Straight g r p m j c;
         low = known (lowPart p (vertical j)) low;
         high = known (highPart p (vertical j)) high;
         less-low = omega arith;
@@ -175,37 +176,38 @@ module _ (g : Grid) (r : Rule) (t cs : List ℕ) (plan : Plan) (f : Costed g r t
       let a = cells-some (lowPart p (horizontal j)) (low .ac) (low .bd) in
       let b = cells-some (highPart p (horizontal j)) (high .ac) (high .bd) in
       record {
-        both = shots-horizontal g r p m j c;
+        both = shots-horizontal Straight g r p m j c;
         low = known (lowPart p (horizontal j)) low;
         high = known (highPart p (horizontal j)) high;
         less-low = omega arith;
         less-high = omega arith;
       }
+  cut-halves (wheel u j l k n) c i m = absurd (straight-only (i .0))
 
   pub halves : (l h : Numbered) → verdict.Cut l h ≡ verdictOf g r p → Halves g r plan p l h
   halves l h e =
       let t = told-cut g r p l h e in
       subst (λ x. Halves g r plan p x h) (sym (t .1))
-      (subst (λ y. Halves g r plan p (numbered g (lowPart p (choice g r p))) y) (sym (t .2))
-      (cut-halves (choice g r p) refl (choice-in g r p (t .0)) (t .0)))
+      (subst (λ y. Halves g r plan p (numbered g (lowPart p (choice Straight g r p))) y) (sym (t .2))
+      (cut-halves (choice Straight g r p) refl (choice-in Straight g r p (t .0)) (t .0)))
 
-  pub count-few : length (shots g r p) ≤ 225
+  pub count-few : length (shots Straight g r p) ≤ 225
   count-few =
-      count-most g r (f .sound) p (omega (arith, v .ac)) (omega (arith, v .cx, f .columns)) (omega (arith, v .bd)) (omega (arith, v .dy, f .rows))
+      count-most Straight g r (f .sound) p (omega (arith, v .ac)) (omega (arith, v .cx, f .columns)) (omega (arith, v .bd)) (omega (arith, v .dy, f .rows))
 
-  pub slivers-few : sumOf (sliver g r) (shots g r p) ≤ 2097120
+  pub slivers-few : sumOf (sliver g r) (shots Straight g r p) ≤ 2097120
   slivers-few =
-      slivers-most g r (f .sound) p (omega (arith, v .ac)) (omega (arith, v .cx, f .columns)) (omega (arith, v .bd)) (omega (arith, v .dy, f .rows))
+      slivers-most Straight g r (f .sound) p (omega (arith, v .ac)) (omega (arith, v .cx, f .columns)) (omega (arith, v .bd)) (omega (arith, v .dy, f .rows))
 
 -- each shot has a cell of its own
-pub count-cells : (g : Grid) (r : Rule) (p : Piece) → length (shots g r p) ≤ cells p
+pub count-cells : (g : Grid) (r : Rule) (p : Piece) → length (shots Straight g r p) ≤ cells p
 unfolding cells
 count-cells g r p =
     omega (
       arith,
-      sumOf-ones (shots g r p),
-      sumOf-le (λ s. 1) (cellSum (λ i j. 1)) (shots g r p) (All-imp (λ s w. cells-some s (w .ac) (w .bd)) (shots g r p) (shots-part g r p)),
-      cover g r (λ i j. 1) p,
+      sumOf-ones (shots Straight g r p),
+      sumOf-le (λ s. 1) (cellSum (λ i j. 1)) (shots Straight g r p) (All-imp (λ s w. cells-some s (w .ac) (w .bd)) (shots Straight g r p) (shots-part Straight g r p)),
+      cover Straight g r (λ i j. 1) p,
       sum-le (λ i j. only (g .inside i j) 1) (λ i j. 1) p (λ i j w. only-most (g .inside i j) 1),
     )
 
@@ -232,8 +234,8 @@ module _ (g : Grid) (r : Rule) (plan : Plan) (p : Piece) (l h : Numbered) (z : H
   pub high-less : {n : ℕ} → cells p ≡ n → cells (meant (h .piece)) < n
   high-less e = omega (arith, z .less-high)
 
-  pub count-parts : length (shots g r p) ≡ length (shots g r (meant (l .piece))) + length (shots g r (meant (h .piece)))
-  count-parts = ap length (z .both) ∙ length-append (shots g r (meant (l .piece))) (shots g r (meant (h .piece)))
+  pub count-parts : length (shots Straight g r p) ≡ length (shots Straight g r (meant (l .piece))) + length (shots Straight g r (meant (h .piece)))
+  count-parts = ap length (z .both) ∙ length-append (shots Straight g r (meant (l .piece))) (shots Straight g r (meant (h .piece)))
 
 module _ (t cs xs ys : List ℕ) (room : ℕ) (plan : Plan) (at : ℕ) (p : Numbered) (e : Emittable t cs xs ys room plan at p) (l h : Numbered)
     (z : Halves (e .grid) (e .rule) plan (meant (p .piece)) l h) where
@@ -247,7 +249,7 @@ module _ (t cs xs ys : List ℕ) (room : ℕ) (plan : Plan) (at : ℕ) (p : Numb
         fits = omega (arith, e .fits, count-parts (e .grid) (e .rule) plan (meant (p .piece)) l h z);
       }
 
-  pub emit-high : {u v : List ℕ} {n room′ : ℕ} → Written (e .grid) u v at (shots (e .grid) (e .rule) (meant (l .piece))) n → room′ ≡ room
+  pub emit-high : {u v : List ℕ} {n room′ : ℕ} → Written (e .grid) u v at (shots Straight (e .grid) (e .rule) (meant (l .piece))) n → room′ ≡ room
       → Emittable t cs xs ys room′ plan n h
   emit-high w d =
       record {

@@ -21,7 +21,7 @@ use Rattle.rule.specs.declared.Rule.{Rule}
 use Rattle.rule.specs.Charge.{chargeOf}
 use Rattle.piece.specs.Piece.{Piece, box, sliver, charge}
 use Rattle.piece.specs.Meant.{meant}
-use Rattle.piece.specs.Straight.{numbersOf}
+use Rattle.piece.specs.Cuts.{numbersOf}
 use Rattle.piece.specs.declared.Piece as stored
 use Rattle.piece.proofs.Choice.{numbers-one, numbers-append}
 use Rattle.table.specs.Entry.{Valid}

@@ -12,10 +12,11 @@ use lib.ListN.{length}
 use lib.Seq.{sets}
 use Rattle.outline.specs.Grid.{Grid, Drawn}
 use Rattle.rule.specs.declared.Rule.{Rule}
+use Rattle.piece.specs.declared.Mode.the-variants.{Straight}
 use Rattle.piece.specs.declared.Piece as stored
 use Rattle.piece.specs.Piece.{Piece}
 use Rattle.piece.specs.Meant.{meant}
-use Rattle.piece.specs.Straight.{shots, numbersOf}
+use Rattle.piece.specs.Cuts.{shots, numbersOf}
 use Rattle.verdict.specs.declared.Plan.{Plan}
 use Rattle.verdict.specs.declared.Numbered.{Numbered}
 use Rattle.verdict.specs.Memory.{Costed, Known}
@@ -40,4 +41,4 @@ pub record Emittable (table cells xs ys : List ℕ) (room : ℕ) (plan : Plan) (
   pub rule : Rule
   pub walk : Walk grid rule table cells xs ys plan
   pub known : Known plan p
-  pub fits : at + 4 * length (shots grid rule (meant (p .piece))) ≤ room
+  pub fits : at + 4 * length (shots Straight grid rule (meant (p .piece))) ≤ room

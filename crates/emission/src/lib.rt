@@ -12,8 +12,9 @@ ghost use lib.ListN.{length, getD};
 ghost use lib.Seq.{sets};
 ghost use Rattle.outline.specs.Grid.{Grid};
 ghost use Rattle.rule.specs.declared.Rule.{Rule};
+ghost use Rattle.piece.specs.declared.Mode.the-variants.{Straight};
 ghost use Rattle.piece.specs.Meant.{meant};
-ghost use Rattle.piece.specs.Straight.{shots};
+ghost use Rattle.piece.specs.Cuts.{shots};
 ghost use Rattle.emission.specs.Emission.{InLists, Written, Walk, Emittable};
 
 pub mod measuring;
@@ -48,7 +49,7 @@ pub fn emit(
     p: Numbered,
 ) -> usize
     requires { ⌜ Emittable (now costs) (now cells) (now xs) (now ys) (length (now list)) plan at p ⌝ }
-    ensures { λ n. ⌜ ((g : Grid) (r : Rule) → Walk g r (now (costs .entry)) (now (cells .entry)) (now (xs .entry)) (now (ys .entry)) plan → Written g (now (list .entry)) (now (list .exit)) at (shots g r (meant (p .piece))) n) ⌝ }
+    ensures { λ n. ⌜ ((g : Grid) (r : Rule) → Walk g r (now (costs .entry)) (now (cells .entry)) (now (xs .entry)) (now (ys .entry)) plan → Written g (now (list .entry)) (now (list .exit)) at (shots Straight g r (meant (p .piece))) n) ⌝ }
 {
     let verdict = judge(costs, cells, plan, p);
     match verdict {

@@ -5,6 +5,7 @@ ghost use mathlib.Core.Path.{_≡_};
 ghost use mathlib.Core.List.{_++_};
 ghost use lib.ListN.{length, drop};
 ghost use Rattle.outline.specs.Grid.{stored};
+ghost use Rattle.piece.specs.declared.Mode.the-variants.{Straight};
 ghost use Rattle.table.specs.Entry.{costs};
 ghost use Rattle.table.specs.Fill.{Ready};
 
@@ -23,7 +24,7 @@ pub fn fill(
     table: &mut [u32],
 )
     requires { ⌜ Ready (stored columns rows (now xs) (now ys) (now cells)) rule (now xs) (now ys) (now cells) (now table) ⌝ }
-    ensures { λ _. ⌜ now (table .exit) ≡ costs (stored columns rows (now (xs .entry)) (now (ys .entry)) (now (cells .entry))) rule ++ drop (length (costs (stored columns rows (now (xs .entry)) (now (ys .entry)) (now (cells .entry))) rule)) (now (table .entry)) ⌝ }
+    ensures { λ _. ⌜ now (table .exit) ≡ costs Straight (stored columns rows (now (xs .entry)) (now (ys .entry)) (now (cells .entry))) rule ++ drop (length (costs Straight (stored columns rows (now (xs .entry)) (now (ys .entry)) (now (cells .entry))) rule)) (now (table .entry)) ⌝ }
 {
     if rows <= FEW_ROWS {
         shallow::fill(xs, ys, cells, columns, rows, rule, table);

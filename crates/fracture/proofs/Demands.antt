@@ -29,6 +29,7 @@ use Rattle.shot.specs.Shot.{Shot, holds, shotsIn}
 use Rattle.figure.specs.declared.Axis.the-variants.{X, Y}
 use Rattle.figure.specs.Figure.{figure, cornersOf}
 use Rattle.figure.specs.Inside.{insideAt}
+use Rattle.piece.specs.declared.Mode.the-variants.{Straight}
 use Rattle.piece.specs.Piece.{Piece}
 use Rattle.table.specs.Entry.{entryOf}
 use Rattle.demands.specs.Promise.{Asked, asked, drawn, Outcome, outcome}
@@ -44,7 +45,7 @@ use Rattle.fracture.specs.Told.{told, byDefault}
 
 module _ (corners lengths : List ℕ) (t w : ℕ) (table list : List ℕ) where
   abbrev ask : Asked
-  ask = asked corners lengths t w table list
+  ask = asked Straight corners lengths t w table list
 
   abbrev rule : Rule
   rule = record { threshold = t; weight = w }
@@ -60,7 +61,7 @@ module _ (corners lengths : List ℕ) (t w : ℕ) (table list : List ℕ) where
   OnY = On Y (cornersOf (figure corners lengths))
 
   abbrev AnyWay : Type 0
-  AnyWay = Way F OnX OnY (frameOf (cornersOf (figure corners lengths)))
+  AnyWay = Way Straight F OnX OnY (frameOf (cornersOf (figure corners lengths)))
 
   module _ (typed : (i : ℕ) → Fits w16 (getD corners i 0)) (shots cost sliver : ℕ) (table′ list′ : List ℕ)
       (settled : told (Done shots cost sliver) table′ list′ ≡ outcome ask) where
@@ -113,14 +114,14 @@ module _ (corners lengths : List ℕ) (t w : ℕ) (table list : List ℕ) where
         × (o .cost ≡ sumOf (shotCharge F rule) (reported o)))
         (demands.these-shots ask words done)
 
-    pub call-never-cheaper : (way : AnyWay) → cost ≤ total F OnX OnY rule way
+    pub call-never-cheaper : (way : AnyWay) → cost ≤ total Straight F OnX OnY rule way
     unfolding told
-    call-never-cheaper = said (λ o. (way : AnyWay) → o .cost ≤ total F OnX OnY rule way) (demands.never-cheaper ask words done)
+    call-never-cheaper = said (λ o. (way : AnyWay) → o .cost ≤ total Straight F OnX OnY rule way) (demands.never-cheaper ask words done)
 
-    pub call-attained : (way : AnyWay) × (shotsOf F OnX OnY way ≡ given) × (total F OnX OnY rule way ≡ cost)
+    pub call-attained : (way : AnyWay) × (shotsOf Straight F OnX OnY way ≡ given) × (total Straight F OnX OnY rule way ≡ cost)
     unfolding told reported
     call-attained =
-        said (λ o. (way : AnyWay) × (shotsOf F OnX OnY way ≡ reported o) × (total F OnX OnY rule way ≡ o .cost))
+        said (λ o. (way : AnyWay) × (shotsOf Straight F OnX OnY way ≡ reported o) × (total Straight F OnX OnY rule way ≡ o .cost))
         (demands.attained ask words done)
 
     pub call-bound : (cost ≤ 2097345000)
@@ -151,10 +152,10 @@ pub default-row : (a : Fractured) (table list table′ list′ : List ℕ) → 1
 unfolding told presetTold inRange
 default-row (Done s c n) table list table′ list′ k m settled =
     let ask = byDefault (L .numbers) (L .lengths) table list in
-    let q = row-told s c n table′ list′ settled (rows-hold .0 ask refl (refl, refl) refl k m) in
+    let q = row-told s c n table′ list′ settled (rows-hold .0 ask refl refl (refl, refl) refl k m) in
     let two : s ≡ 2 = omega (arith, q .0) in
-    let full = entries-of-L ask refl refl refl (inl (sym (ap (λ o. o .number) settled))) in
+    let full = entries-of-L ask refl refl refl refl (inl (sym (ap (λ o. o .number) settled))) in
     (cc (q .1, q .2), ap (λ i. take i list′) (sym (q .0)) ∙ q .3, ap (λ o. take 9 (o .table)) settled ∙ full)
 default-row (Refused why s) table list table′ list′ k m settled =
-    let q = rows-hold .0 (byDefault (L .numbers) (L .lengths) table list) refl (refl, refl) refl k m in
+    let q = rows-hold .0 (byDefault (L .numbers) (L .lengths) table list) refl refl (refl, refl) refl k m in
     absurd (omega (arith, refusal-some why, ap (λ o. o .number) settled, q .number))

@@ -16,8 +16,9 @@ use Rattle.refusal.specs.declared.Refusal.the-variants as because
 use Rattle.outline.specs.Grid.{Grid, Memory, stored}
 use Rattle.rule.specs.declared.Rule.{Rule}
 use Rattle.rule.specs.Rules.{limit}
+use Rattle.piece.specs.declared.Mode.the-variants.{Straight}
 use Rattle.piece.specs.Piece.{Piece}
-use Rattle.piece.specs.Straight.{cost}
+use Rattle.piece.specs.Cuts.{cost}
 use Rattle.table.specs.Entry.{Valid, pairCount, entryCount, entryOf, costs}
 use Rattle.table.specs.Fill.{Ready}
 use Rattle.table.proofs.Entry.{costs-length, costs-at, entry-below}
@@ -45,20 +46,20 @@ module _ (g : Grid) (m : Memory) (w : Laid g m) where
         subst (λ s. Ready s r (m .xs) (m .ys) (m .cells) t) (sym (w .back))
         (record { sound = w .sound; drawn = w .drawn; weight-most = h; room = omega (arith, counted) })
 
-    pub laid-filled : {u : List ℕ} (s : Grid) → s ≡ g → u ≡ costs s r ++ drop (length (costs s r)) t → u ≡ written (costs g r) t
+    pub laid-filled : {u : List ℕ} (s : Grid) → s ≡ g → u ≡ costs Straight s r ++ drop (length (costs Straight s r)) t → u ≡ written (costs Straight g r) t
     unfolding written
-    laid-filled s b e = e ∙ ap (λ x. costs x r ++ drop (length (costs x r)) t) b
+    laid-filled s b e = e ∙ ap (λ x. costs Straight x r ++ drop (length (costs Straight x r)) t) b
 
-    module _ {u : List ℕ} (e : u ≡ written (costs g r) t) (k : entryCount (m .columns) (m .rows) ≤ length t) where
+    module _ {u : List ℕ} (e : u ≡ written (costs Straight g r) t) (k : entryCount (m .columns) (m .rows) ≤ length t) where
       -- what the table has for a piece
-      cost-at : (p : Piece) → Valid (m .columns) (m .rows) p → getD u (entryOf (m .columns) (m .rows) p) 0 ≡ cost g r p
+      cost-at : (p : Piece) → Valid (m .columns) (m .rows) p → getD u (entryOf (m .columns) (m .rows) p) 0 ≡ cost Straight g r p
       cost-at p v =
           let v′ : Valid (g .columns) (g .rows) p =
           record { ac = v .ac; cx = omega (arith, v .cx, w .columns); bd = v .bd; dy = omega (arith, v .dy, w .rows) } in
           ap₂ (λ (l : List ℕ) (i : ℕ). getD l i 0) e (ap₂ (λ x y. entryOf x y p) (w .columns) (w .rows))
-          ∙ written-at (costs g r) t (entryOf (g .columns) (g .rows) p)
-          (omega (arith, entry-below (g .columns) (g .rows) p v′, costs-length g r))
-          ∙ costs-at g r p v′
+          ∙ written-at (costs Straight g r) t (entryOf (g .columns) (g .rows) p)
+          (omega (arith, entry-below (g .columns) (g .rows) p v′, costs-length Straight g r))
+          ∙ costs-at Straight g r p v′
 
       pub laid-walk : (n : ℕ) → n ≡ pairCount (m .rows) → r .weight ≤ limit
           → Walk g r u (m .cells) (m .xs) (m .ys) (record { columns = m .columns; rows = m .rows; pairs = n; rule = r })
@@ -74,32 +75,32 @@ module _ (g : Grid) (m : Memory) (w : Laid g m) where
                   pairs = p;
                   cells-length = d .cells-length;
                   cell-at = d .cell-at;
-                  entries = omega (arith, ap length e, written-length (costs g r) t (omega (arith, counted, costs-length g r)));
+                  entries = omega (arith, ap length e, written-length (costs Straight g r) t (omega (arith, counted, costs-length Straight g r)));
                   cost-at = cost-at;
                 };
             drawn = d;
             rule = refl;
           }
 
-      pub gridded-delivered : (a : Fractured) (l l′ : List ℕ) → told a u l′ ≡ delivered g r u l → told a u l′ ≡ gridded g r t l
+      pub gridded-delivered : (a : Fractured) (l l′ : List ℕ) → told a u l′ ≡ delivered Straight g r u l → told a u l′ ≡ gridded Straight g r t l
       unfolding gridded refused
       gridded-delivered a l l′ h =
           h
-          ∙ ap (λ (x : List ℕ). delivered g r x l) e
+          ∙ ap (λ (x : List ℕ). delivered Straight g r x l) e
           ∙ sym
           (ap
           (λ b.
           cond b (refused 6 t l)
-          (delivered g r (written (costs g r) t) l))
+          (delivered Straight g r (written (costs Straight g r) t) l))
           (le-ltb (length t) (entryCount (g .columns) (g .rows)) (omega (arith, counted))))
 
     pub gridded-table : (l : List ℕ) → length t < entryCount (m .columns) (m .rows)
-        → told (Refused because.Table 0) t l ≡ gridded g r t l
+        → told (Refused because.Table 0) t l ≡ gridded Straight g r t l
     unfolding gridded refused told
     gridded-table l h =
         sym
         (ap
         (λ b.
         cond b (refused 6 t l)
-        (delivered g r (written (costs g r) t) l))
+        (delivered Straight g r (written (costs Straight g r) t) l))
         (lt-ltb (length t) (entryCount (g .columns) (g .rows)) (omega (arith, counted))))

@@ -27,6 +27,7 @@ use Rattle.outline.specs.declared.Answer.the-variants as drawing
 use Rattle.outline.specs.Inside.{grid}
 use Rattle.outline.specs.Promise.{answerNo, refusal, Sheet, Promise}
 use Rattle.outline.proofs.Memory.{drawing-columns, drawing-rows, drawing-drawn, drawing-stored}
+use Rattle.piece.specs.declared.Mode.the-variants.{Straight}
 use Rattle.demands.specs.Promise.{Asked, ruleOf, Outcome, refused, gridded, ruled, outcome}
 use Rattle.demands.proofs.Outcome.{outcome-rule}
 use Rattle.fracture.specs.declared.Fractured.{Fractured}
@@ -50,19 +51,19 @@ module _ (f : Figure) (s : Sheet) (p : Promise f s) where
       }
 
   pub told-figure : (r : Rule) (table list : List ℕ) (why : Refusal) → s .answer ≡ drawing.Refused why
-      → told (Refused why 0) table list ≡ ruled f r table list
+      → told (Refused why 0) table list ≡ ruled Straight f r table list
   unfolding told ruled refused
   told-figure r table list why e =
       let n : refusal f ≡ refusalNo why = answered (drawing.Refused why) e in
       ap (λ m. refused m table list) (sym n)
       ∙ sym
-      (ap (λ b. cond b (gridded (grid f) r table list) (refused (refusal f) table list))
+      (ap (λ b. cond b (gridded Straight (grid f) r table list) (refused (refusal f) table list))
       (ne-eqb (refusal f) 0 (λ z. omega (arith, refusal-some why))))
 
-pub told-grid : (f : Figure) (r : Rule) (table list : List ℕ) → refusal f ≡ 0 → gridded (grid f) r table list ≡ ruled f r table list
+pub told-grid : (f : Figure) (r : Rule) (table list : List ℕ) → refusal f ≡ 0 → gridded Straight (grid f) r table list ≡ ruled Straight f r table list
 unfolding ruled
 told-grid f r table list h =
-    sym (ap (λ b. cond b (gridded (grid f) r table list) (refused (refusal f) table list)) (eq-eqb (refusal f) 0 h))
+    sym (ap (λ b. cond b (gridded Straight (grid f) r table list) (refused (refusal f) table list)) (eq-eqb (refusal f) 0 h))
 
 -- the rule that was made of two numbers
 module _ (ask : Asked) where
@@ -78,17 +79,17 @@ module _ (ask : Asked) where
       go false q = (ap (λ (x : Told). x .number) q, refl)
 
   -- what a rule in range gives is the outcome
-  ruled-outcome : inRange (ask .threshold) (ask .weight) ≡ true → ruled (ask .figure) (ruleOf ask) (ask .table) (ask .list) ≡ outcome ask
+  ruled-outcome : inRange (ask .threshold) (ask .weight) ≡ true → ruled (ask .mode) (ask .figure) (ruleOf ask) (ask .table) (ask .list) ≡ outcome ask
   unfolding outcome
   ruled-outcome e =
       sym
-      (ap (λ b. cond b (ruled (ask .figure) (ruleOf ask) (ask .table) (ask .list)) (refused 1 (ask .table) (ask .list))) e)
+      (ap (λ b. cond b (ruled (ask .mode) (ask .figure) (ruleOf ask) (ask .table) (ask .list)) (refused 1 (ask .table) (ask .list))) e)
 
   pub rule-outcome : {r : Rule} → given r ≡ ruleTold (ask .threshold) (ask .weight)
-      → ruled (ask .figure) r (ask .table) (ask .list) ≡ outcome ask
+      → ruled (ask .mode) (ask .figure) r (ask .table) (ask .list) ≡ outcome ask
   rule-outcome e =
       let m = rule-made (ask .threshold) (ask .weight) e in
-      ap (λ (r : Rule). ruled (ask .figure) r (ask .table) (ask .list)) (m .1) ∙ ruled-outcome (m .0)
+      ap (λ (r : Rule). ruled (ask .mode) (ask .figure) r (ask .table) (ask .list)) (m .1) ∙ ruled-outcome (m .0)
 
 pub rule-range : (t w : ℕ) {r : Rule} → given r ≡ ruleTold t w → inRange (r .threshold) (r .weight) ≡ true
 rule-range t w e =
@@ -102,11 +103,11 @@ module _ {r : Rule} (e : given r ≡ presetTold defaultPreset) where
   preset-range = ap₂ inRange (ap (λ (t : Told). t .threshold) e) (ap (λ (t : Told). t .weight) e)
 
   pub preset-outcome : (f : Figure) (table list : List ℕ)
-      → ruled f r table list
+      → ruled Straight f r table list
       ≡ outcome (byDefault (f .numbers) (f .lengths) table list)
   unfolding presetTold inRange
   preset-outcome f table list =
-      ap (λ (t : Told). ruled f (record { threshold = t .threshold; weight = t .weight }) table list) e
+      ap (λ (t : Told). ruled Straight f (record { threshold = t .threshold; weight = t .weight }) table list) e
       ∙ ruled-outcome (byDefault (f .numbers) (f .lengths) table list) refl
 
 pub preset-known : (why : Refusal) → unknown (refusalNo why) ≡ presetTold defaultPreset → ⊥

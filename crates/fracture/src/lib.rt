@@ -1,4 +1,4 @@
-// From a figure to its shots: the fill, the delivery, and the two calls.
+// From a figure to its shots by straight cuts: the fill, the delivery, and the two calls.
 use delivery::deliver;
 use fill::fill;
 use outline::Answer;
@@ -17,6 +17,7 @@ ghost use mathlib.Core.Bool.{true};
 ghost use Rattle.rule.specs.Rules.{inRange};
 ghost use Rattle.figure.specs.Figure.{figure};
 ghost use Rattle.outline.specs.Grid.{Grid, memory};
+ghost use Rattle.piece.specs.declared.Mode.the-variants.{Straight};
 ghost use Rattle.demands.specs.Promise.{asked, gridded, ruled, outcome};
 ghost use Rattle.demands.specs.Demands.{Words};
 ghost use Rattle.fracture.specs.Delivery.{Laid, Fillable};
@@ -43,7 +44,7 @@ fn fracture_grid(
     list: &mut [u16],
 ) -> Fractured
     requires { ⌜ Fillable (memory columns rows (now xs) (now ys) (now cells)) rule ⌝ }
-    ensures { λ a. ⌜ ((g : Grid) → Laid g (memory columns rows (now (xs .entry)) (now (ys .entry)) (now (cells .entry))) → told a (now (table .exit)) (now (list .exit)) ≡ gridded g rule (now (table .entry)) (now (list .entry))) ⌝ }
+    ensures { λ a. ⌜ ((g : Grid) → Laid g (memory columns rows (now (xs .entry)) (now (ys .entry)) (now (cells .entry))) → told a (now (table .exit)) (now (list .exit)) ≡ gridded Straight g rule (now (table .entry)) (now (list .entry))) ⌝ }
 {
     if table.len() < entries(columns, rows) {
         return Fractured::Refused(Refusal::Table, 0);
@@ -68,7 +69,7 @@ fn fracture_by(
     list: &mut [u16],
 ) -> Fractured
     requires { ⌜ inRange (rule .threshold) (rule .weight) ≡ true ⌝ }
-    ensures settled { λ a. ⌜ told a (now (table .exit)) (now (list .exit)) ≡ ruled (figure (now (corners .entry)) (now (lengths .entry))) rule (now (table .entry)) (now (list .entry)) ⌝ }
+    ensures settled { λ a. ⌜ told a (now (table .exit)) (now (list .exit)) ≡ ruled Straight (figure (now (corners .entry)) (now (lengths .entry))) rule (now (table .entry)) (now (list .entry)) ⌝ }
     ensures words { λ a. ⌜ Words (figure (now (corners .entry)) (now (lengths .entry))) ⌝ }
 {
     let mut xs = [0u16; MOST_LINES];
@@ -97,7 +98,7 @@ pub fn fracture(
     table: &mut [u32],
     list: &mut [u16],
 ) -> Fractured
-    ensures settled { λ a. ⌜ told a (now (table .exit)) (now (list .exit)) ≡ outcome (asked (now (corners .entry)) (now (lengths .entry)) threshold weight (now (table .entry)) (now (list .entry))) ⌝ }
+    ensures settled { λ a. ⌜ told a (now (table .exit)) (now (list .exit)) ≡ outcome (asked Straight (now (corners .entry)) (now (lengths .entry)) threshold weight (now (table .entry)) (now (list .entry))) ⌝ }
 {
     match Rule::new(threshold, weight) {
         Made::Rule(rule) => fracture_by(corners, lengths, rule, table, list),

@@ -38,6 +38,7 @@ use Rattle.figure.specs.Figure.{figure, rings, badFigure, fault as shapeFault}
 use Rattle.outline.specs.Promise.{refusal}
 use Rattle.outline.proofs.Promise.{refusal-most}
 use Rattle.outline.specs.Inside.{grid, empty}
+use Rattle.piece.specs.declared.Mode.the-variants.{Straight}
 use Rattle.demands.specs.Promise.{asked, drawn, Outcome, refused, outcome, written}
 use Rattle.demands.specs.Refusals.{Condition, First}
 use Rattle.demands.proofs.Outcome.{short, outcome-figure, outcome-seven, outcome-other}
@@ -285,7 +286,7 @@ module _ (s : List ℕ) (bytes : AllBytes s) {first n : ℕ} {x y : ℤ} {l : Li
   unfolding boundaryFractured fractured presetTold
   ring-plate table list =
       let o = ring-one s bytes g in
-      ap₂ (λ (m : List ℕ) k. shotsTold x y (outcome (asked m (k ∷ []) 25 40 table list))) (o .0) (sym (ring-length s (runOf first n)))
+      ap₂ (λ (m : List ℕ) k. shotsTold x y (outcome (asked Straight m (k ∷ []) 25 40 table list))) (o .0) (sym (ring-length s (runOf first n)))
       ∙ ap₂ (λ (u v : ℤ). shotsTold u v (fractured (points s (runOf first n)) table list)) (o .1) (o .2)
       ∙ sym (ap (pointsFractured table list) ps-read)
 

@@ -26,6 +26,7 @@ use Rattle.refusal.specs.Refusals.{refusalNo}
 use Rattle.rule.specs.Rules.{presetTold}
 use Rattle.figure.specs.declared.Axis.the-variants.{X, Y}
 use Rattle.outline.specs.Promise.{refusal}
+use Rattle.piece.specs.declared.Mode.the-variants.{Straight}
 use Rattle.demands.specs.Promise.{asked, Outcome, outcome, written}
 use Rattle.gdsii.specs.declared.Boundary.{Boundary}
 use Rattle.gdsii.specs.declared.Boundary.the-variants as reading
@@ -99,7 +100,7 @@ unplated n shots at table list =
 
 unfoldable pub fractured : List Point → List ℕ → List ℕ → Outcome
 fractured ps table list =
-    outcome (asked (moved ps) (length (ringOf ps) ∷ []) (presetTold 0 .threshold) (presetTold 0 .weight) table list)
+    outcome (asked Straight (moved ps) (length (ringOf ps) ∷ []) (presetTold 0 .threshold) (presetTold 0 .weight) table list)
 
 abbrev pub shiftBeside : ℕ → ℤ → ℤ
 shiftBeside n z = cond (eqb n 0) z (pos 0)

@@ -44,6 +44,7 @@ use lib.IntN.{ℤ, pos, subℕ, _+ℤ_}
 use Rattle.refusal.specs.declared.Refusal.{Refusal}
 use Rattle.refusal.specs.declared.Refusal.the-variants as because
 use Rattle.refusal.specs.Refusals.{refusalNo}
+use Rattle.piece.specs.declared.Mode.the-variants.{Straight}
 use Rattle.demands.specs.Promise.{Asked, asked, Outcome}
 use Rattle.demands.specs.Refusals.{Condition, First}
 use Rattle.gdsii.specs.Calls.{BoundarySaid, PlateSaid}
@@ -159,10 +160,10 @@ pub record Ring (s : List ℕ) (first n : ℕ) (x y : ℤ) (l : List ℕ) : Type
 -- Calls
 
 abbrev pub drawing : List ℕ → ℕ → Asked
-drawing l n = asked l (n ∷ []) 0 0 [] []
+drawing l n = asked Straight l (n ∷ []) 0 0 [] []
 
 abbrev pub plate : List ℕ → ℕ → List ℕ → List ℕ → Asked
-plate l n table list = asked l (n ∷ []) 25 40 table list
+plate l n table list = asked Straight l (n ∷ []) 25 40 table list
 
 pub data PointsFault (s : List ℕ) : Refusal → Type 0 where
   -- last point unlike the first

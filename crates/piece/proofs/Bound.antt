@@ -3,6 +3,7 @@
 --   sideways g i j     == the exposed left and right sides of the cell (i, j), in nm; of the turned grid: bottom and top
 --   cost-due           == a piece costs at most 1,000 for each of its cells and the weight of their exposed sides
 --   cost-most          == a piece of a sound grid costs at most `mostCost` under a rule in range
+--   parts-most         == nor do all parts of a cut together, in either mode: so every sum of a fill fits 32 bits, also one of five entries
 --   slivers-most       == its shots have at most 2,097,120 nm of sliver together
 --   count-most         == and they are at most 225
 use Prim.Native.Nat.{ℕ, zero, suc, _+_, _*_, _-_, _≤_, _<_}
@@ -11,20 +12,21 @@ use mathlib.Core.Bool.{Bool, true, false, _&&_, not}
 use native.Mathlib.Omega.{arith}
 use native.Mathlib.Nat.{mul-le-mul-left, mul-le-mul}
 use lib.ListN.{length}
-use Rattle.sum.specs.Sum.{over, only, sumOf}
+use Rattle.sum.specs.Sum.{over, only, sumOf, All}
 use Rattle.sum.proofs.Sum as sum
 use Rattle.sum.proofs.Sum.{only-most}
-use Rattle.sum.proofs.Lists.{sumOf-le, sumOf-ones, All-imp}
+use Rattle.sum.proofs.Lists.{sumOf-le, sumOf-ones, All-all, All-imp}
 use Rattle.outline.specs.Grid.{Grid, Sound}
 use Rattle.rule.specs.declared.Rule.{Rule}
 use Rattle.rule.specs.Rules.{limit}
 use Rattle.rule.specs.Charge.{chargeOf}
 use Rattle.rule.proofs.Charge.{sliver-most}
+use Rattle.piece.specs.declared.Mode.{Mode}
 use Rattle.piece.specs.Piece.{Piece, before, cellSum, cells, charge, mostCost, sliver, left, right, bottom, top, width, height, lowSide, highSide, frame}
-use Rattle.piece.specs.Straight.{shots, cost}
+use Rattle.piece.specs.Cuts.{cuts, parts, shots, cost}
 use Rattle.piece.proofs.Cells.{sum-add, sum-mul, sum-le, sum-part, cells-some, cells-product}
-use Rattle.piece.proofs.Turn.{turned, turn, sum-turn}
-use Rattle.piece.proofs.Straight.{cover, shots-part}
+use Rattle.piece.proofs.Turned.{turned, turn, sum-turn}
+use Rattle.piece.proofs.Cuts.{sum-cuts, cover, shots-part}
 
 unfoldable sideways : Grid → ℕ → ℕ → ℕ
 sideways g i j =
@@ -89,7 +91,7 @@ frame-most g n m up =
     total : over 0 m (λ j. height g j (suc j)) ≡ g .y m - g .y 0
     total = omega (arith, sum.over-steps m (g .y) up)
 
-module _ (g : Grid) (r : Rule) where
+module _ (mode : Mode) (g : Grid) (r : Rule) where
   -- the sides of the cells, both ways
   sides : ℕ → ℕ → ℕ
   sides i j = sideways g i j + sideways (turned g) j i
@@ -131,18 +133,22 @@ module _ (g : Grid) (r : Rule) where
 
   -- what each shot has at most, summed over its cells, the shots of a piece have together at most, summed over the piece's
   shots-most : (f : Piece → ℕ) (w : ℕ → ℕ → ℕ) → ((s : Piece) → s .a < s .c → s .b < s .d → f s ≤ cellSum w s)
-      → (p : Piece) → sumOf f (shots g r p) ≤ cellSum w p
+      → (p : Piece) → sumOf f (shots mode g r p) ≤ cellSum w p
   shots-most f w h p =
       omega (
         arith,
-        sumOf-le f (cellSum w) (shots g r p) (All-imp (λ s v. h s (v .ac) (v .bd)) (shots g r p) (shots-part g r p)),
-        cover g r w p,
+        sumOf-le f (cellSum w) (shots mode g r p) (All-imp (λ s v. h s (v .ac) (v .bd)) (shots mode g r p) (shots-part mode g r p)),
+        cover mode g r w p,
         sum-le (λ i j. only (g .inside i j) (w i j)) w p (λ i j q. only-most (g .inside i j) (w i j)),
       )
 
-  cost-due : (p : Piece) → cost g r p ≤ 1000 * cells p + r .weight * cellSum sides p
+  cost-due : (p : Piece) → cost mode g r p ≤ 1000 * cells p + r .weight * cellSum sides p
   unfolding cost
   cost-due p = omega (arith, shots-most (charge g r) due charge-due p, due-sum p)
+
+  -- the parts of a cut share out what its cells pay
+  cost-pays : (p : Piece) → cost mode g r p ≤ cellSum due p
+  cost-pays p = omega (arith, cost-due p, due-sum p)
 
   module _ (s : Sound g) (p : Piece) (ac : p .a ≤ p .c) (c : p .c ≤ g .columns) (bd : p .b ≤ p .d) (d : p .d ≤ g .rows) where
     part : (f : ℕ → ℕ → ℕ) → cellSum f p ≤ cellSum f (frame g)
@@ -182,12 +188,27 @@ module _ (g : Grid) (r : Rule) where
               (omega (arith, s .x-most (g .columns))),
         )
 
-    pub cost-most : r .weight ≤ limit → cost g r p ≤ mostCost
+    pub cost-most : r .weight ≤ limit → cost mode g r p ≤ mostCost
     cost-most hw = omega (arith, cost-due p, area-most, mul-le-mul hw sides-most)
 
-    pub slivers-most : sumOf (sliver g r) (shots g r p) ≤ 2097120
+    pub parts-most : r .weight ≤ limit → All (λ k. sumOf (cost mode g r) (parts p k) ≤ mostCost) (cuts mode p)
+    parts-most hw =
+        All-imp
+        (λ k e.
+        omega (
+          arith,
+          sumOf-le (cost mode g r) (cellSum due) (parts p k) (All-all cost-pays (parts p k)),
+          e,
+          due-sum p,
+          area-most,
+          mul-le-mul hw sides-most,
+        ))
+        (cuts mode p)
+        (sum-cuts mode due p)
+
+    pub slivers-most : sumOf (sliver g r) (shots mode g r p) ≤ 2097120
     slivers-most = omega (arith, shots-most (sliver g r) sides sliver-sides p, sides-most)
 
-    pub count-most : length (shots g r p) ≤ 225
+    pub count-most : length (shots mode g r p) ≤ 225
     unfolding cells
-    count-most = omega (arith, sumOf-ones (shots g r p), shots-most (λ q. 1) (λ i j. 1) cells-some p, area-most)
+    count-most = omega (arith, sumOf-ones (shots mode g r p), shots-most (λ q. 1) (λ i j. 1) cells-some p, area-most)

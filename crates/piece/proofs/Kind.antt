@@ -20,7 +20,7 @@ use Rattle.recurrence.specs.Scheme.{Kind, outside, full, mixed}
 use Rattle.outline.specs.Grid.{Grid}
 use Rattle.piece.specs.Piece.{Piece, leftPart, rightPart, lowerPart, upperPart, cellSum, cells, kindOf, insideCells, kind}
 use Rattle.piece.proofs.Cells.{Within, sum-le, sum-same, sum-term, sum-tight, sum-mul, cells-some, cells-b}
-use Rattle.piece.proofs.Turn.{turned, turn, kind-turn}
+use Rattle.piece.proofs.Turned.{turned, turn, kind-turn}
 
 -- n inside cells of m are of the kind k
 abbrev Says : ℕ → ℕ → Kind → Type 0

@@ -1,7 +1,8 @@
 pub mod Cells
 pub mod Kind
-pub mod Turn
+pub mod Turned
 pub mod Cover
-pub mod Straight
+pub mod Order
+pub mod Cuts
 pub mod Choice
 pub mod Bound

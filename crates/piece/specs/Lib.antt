@@ -1,3 +1,3 @@
 pub mod Piece
 pub mod Meant
-pub mod Straight
+pub mod Cuts

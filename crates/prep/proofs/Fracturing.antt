@@ -21,6 +21,7 @@ use Rattle.rule.specs.Rules.{inRange}
 use Rattle.figure.specs.Figure.{Figure}
 use Rattle.outline.specs.Promise.{refusal}
 use Rattle.table.specs.Entry.{entryCount}
+use Rattle.piece.specs.declared.Mode.the-variants.{Straight}
 use Rattle.demands.specs.Promise.{Asked, asked, drawn, ruleOf, frameShots, Outcome, refused, outcome}
 use Rattle.demands.specs.Refusals.{Condition}
 use Rattle.demands.specs.Demands.{Words}
@@ -39,7 +40,7 @@ module _ (ask : Asked) (range : inRange (ask .threshold) (ask .weight) ≡ true)
   unfolding refused short accepted
   good-number z = elim (le-or (entryCount (drawn ask .columns) (drawn ask .rows)) (length (ask .table))) [
     | inr h ↦ absurd (ample ask words entries room .0 (ap (λ (o : Outcome). o .number) (outcome-table ask range z h)))
-    | inl h ↦ elim (le-or (4 * length (frameShots (drawn ask) (ruleOf ask))) (length (ask .list))) [
+    | inl h ↦ elim (le-or (4 * length (frameShots (ask .mode) (drawn ask) (ruleOf ask))) (length (ask .list))) [
       | inr k ↦ absurd (ample ask words entries room .1 (ap (λ (o : Outcome). o .number) (outcome-list ask range z h k)))
       | inl k ↦ ap (λ (o : Outcome). o .number) (outcome-accepted ask range z h k)
     ]
@@ -66,16 +67,16 @@ pub told-listed : (ask : Asked) (a : Fractured) (table list : List ℕ) → told
 unfolding told Condition accepted
 told-listed ask (Done shots cost sliver) table list e =
     let zero : 0 ≡ outcome ask .number = ap (λ (o : Outcome). o .number) e in
-    let n : shots ≡ length (frameShots (drawn ask) (ruleOf ask)) =
+    let n : shots ≡ length (frameShots (ask .mode) (drawn ask) (ruleOf ask)) =
     ap (λ (o : Outcome). o .shots) (e ∙ outcome-zero ask (sym zero))
     in
     let l : length list ≡ length (ask .list) = ap (λ (o : Outcome). length (o .list)) e ∙ lengths-kept ask .1 in
-    elim (le-or (4 * length (frameShots (drawn ask) (ruleOf ask))) (length (ask .list))) [
+    elim (le-or (4 * length (frameShots (ask .mode) (drawn ask) (ruleOf ask))) (length (ask .list))) [
       | inl h ↦ omega (arith, n, l)
       | inr h ↦ absurd (number-none ask (sym (outcome-number ask) ∙ sym zero) because.List h)
     ]
 told-listed ask (Refused why shots) table list e = tt
 
-pub outcome-of : (f : Figure) (l ns : List ℕ) (t w : ℕ) (table list : List ℕ) {o : Outcome} → o ≡ outcome (asked l ns t w table list)
+pub outcome-of : (f : Figure) (l ns : List ℕ) (t w : ℕ) (table list : List ℕ) {o : Outcome} → o ≡ outcome (asked Straight l ns t w table list)
     → l ≡ f .numbers → ns ≡ f .lengths → o ≡ outcome (record { figure = f; threshold = t; weight = w; table = table; list = list })
-outcome-of f l ns t w table list e p q = e ∙ ap₂ (λ (a b : List ℕ). outcome (asked a b t w table list)) p q
+outcome-of f l ns t w table list e p q = e ∙ ap₂ (λ (a b : List ℕ). outcome (asked Straight a b t w table list)) p q

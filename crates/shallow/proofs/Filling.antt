@@ -23,8 +23,9 @@ use lib.ListN.{length, getD}
 use Rattle.sum.proofs.Sum.{le-or, rise}
 use Rattle.outline.specs.Grid.{Grid, Sound, Drawn, stored}
 use Rattle.rule.specs.declared.Rule.{Rule}
+use Rattle.piece.specs.declared.Mode.the-variants.{Straight}
 use Rattle.piece.specs.Piece.{Piece, box, width}
-use Rattle.piece.specs.Straight.{cost}
+use Rattle.piece.specs.Cuts.{cost}
 use Rattle.table.specs.Entry.{pairsBelow, pairCount, pairNo, entryCount, entryOf, Valid}
 use Rattle.table.specs.Run.{Wrote}
 use Rattle.table.specs.Fill.{Ready, Reached, Beyond}
@@ -41,10 +42,10 @@ use Rattle.shallow.proofs.Settling.{sixAt}
 use Rattle.shallow.proofs.Summing.{summed-small, summed-none, whole-grown}
 
 -- a strip stored
-module _ (g : Grid) (r : Rule) (a c : ℕ) (h : a < c) (k : c ≤ g .columns) (t : List ℕ) (done : Reached g r t a c) (u : List ℕ) (f : ℕ → ℕ)
+module _ (g : Grid) (r : Rule) (a c : ℕ) (h : a < c) (k : c ≤ g .columns) (t : List ℕ) (done : Reached Straight g r t a c) (u : List ℕ) (f : ℕ → ℕ)
     (w : Wrote f (pairNo (g .columns) a c * pairCount (g .rows)) (pairCount (g .rows)) t u)
-    (right : (b d : ℕ) → b < d → d ≤ g .rows → f (pairNo (g .rows) b d) ≡ cost g r (box a c b d)) where
-  here : (b d : ℕ) → b < d → d ≤ g .rows → getD u (entryOf (g .columns) (g .rows) (box a c b d)) 0 ≡ cost g r (box a c b d)
+    (right : (b d : ℕ) → b < d → d ≤ g .rows → f (pairNo (g .rows) b d) ≡ cost Straight g r (box a c b d)) where
+  here : (b d : ℕ) → b < d → d ≤ g .rows → getD u (entryOf (g .columns) (g .rows) (box a c b d)) 0 ≡ cost Straight g r (box a c b d)
   here b d q l =
       ap (λ n. getD u n 0) (entry-made (g .columns) (g .rows) a c b d)
       ∙ w .made (pairNo (g .rows) b d) (pair-below (g .rows) b d q l)
@@ -72,24 +73,24 @@ module _ (g : Grid) (r : Rule) (a c : ℕ) (h : a < c) (k : c ≤ g .columns) (t
       side (inr z) = inl (omega (arith, i, row-before (pairNo (g .columns) (p .a) (p .c)) (pairNo (g .columns) a c) (pairCount (g .rows)) z))
       side (inl z) = inr (omega (arith, row-before (pairNo (g .columns) a c) (pairNo (g .columns) (p .a) (p .c)) (pairCount (g .rows)) (more z)))
 
-  stored-reached : Reached g r u a (c + 1)
+  stored-reached : Reached Straight g r u a (c + 1)
   stored-reached = record { right = λ p v o. go p v o }
     where
       apart : (p : Piece) → (p .a ≡ a) × (p .c ≡ c) → (a < p .a) ⊎ ((p .a ≡ a) × (p .c < c)) → ⊥
       apart p z (inl i) = omega (arith, z .0)
       apart p z (inr i) = omega (arith, z .1, i .1)
 
-      other : (p : Piece) → Valid (g .columns) (g .rows) p → (a < p .a) ⊎ ((p .a ≡ a) × (p .c < c)) → getD u (entryOf (g .columns) (g .rows) p) 0 ≡ cost g r p
+      other : (p : Piece) → Valid (g .columns) (g .rows) p → (a < p .a) ⊎ ((p .a ≡ a) × (p .c < c)) → getD u (entryOf (g .columns) (g .rows) p) 0 ≡ cost Straight g r p
       other p v o = away p v (λ e. apart p (pair-same (g .columns) (p .a) (p .c) a c (v .ac) (v .cx) h k e) o) ∙ done .right p v o
 
-      go : (p : Piece) → Valid (g .columns) (g .rows) p → (a < p .a) ⊎ ((p .a ≡ a) × (p .c < c + 1)) → getD u (entryOf (g .columns) (g .rows) p) 0 ≡ cost g r p
+      go : (p : Piece) → Valid (g .columns) (g .rows) p → (a < p .a) ⊎ ((p .a ≡ a) × (p .c < c + 1)) → getD u (entryOf (g .columns) (g .rows) p) 0 ≡ cost Straight g r p
       go p v (inl i) = other p v (inl i)
       go p v (inr i) = elim (le-or c (p .c)) [
         | inr z ↦ other p v (inr (i .0, z))
         | inl z ↦
             (let e : p .c ≡ c = omega (arith, i .1) in
             let f : box a c (p .b) (p .d) ≡ p = (λ n. record { a = sym (i .0) n; c = sym e n; b = p .b; d = p .d }) in
-            subst (λ q. getD u (entryOf (g .columns) (g .rows) q) 0 ≡ cost g r q) f (here (p .b) (p .d) (v .bd) (v .dy)))
+            subst (λ q. getD u (entryOf (g .columns) (g .rows) q) 0 ≡ cost Straight g r q) f (here (p .b) (p .d) (v .bd) (v .dy)))
       ]
 
   stored-beyond : Beyond (entryCount (g .columns) (g .rows)) t u
@@ -106,11 +107,11 @@ pub record Strips (g : Grid) (r : Rule) (a c at : ℕ) (t u : List ℕ) : Type 0
   pub above : a < c
   pub most : c ≤ g .columns + 1
   pub at-is : at ≡ pairNo (g .columns) a c * pairCount (g .rows)
-  pub done : Reached g r u a c
+  pub done : Reached Straight g r u a c
   pub beyond : Beyond (entryCount (g .columns) (g .rows)) t u
 
 pub strips-start : (g : Grid) (r : Rule) (a start : ℕ) (t : List ℕ) → a < g .columns → start ≡ pairsBelow (g .columns) a * pairCount (g .rows)
-    → Reached g r t a (a + 1)
+    → Reached Straight g r t a (a + 1)
     → Strips g r a (a + 1) start t t
 strips-start g r a start t h e f =
     record {
@@ -123,7 +124,7 @@ strips-start g r a start t h e f =
 
 module _ (g : Grid) (r : Rule) (a c at : ℕ) (t u : List ℕ) (s : Strips g r a c at t u) where
   pub strips-more : (v : List ℕ) (f : ℕ → ℕ) (n : ℕ) → c ≤ g .columns → n ≡ pairCount (g .rows) → Wrote f at n u v
-      → ((b d : ℕ) → b < d → d ≤ g .rows → f (pairNo (g .rows) b d) ≡ cost g r (box a c b d))
+      → ((b d : ℕ) → b < d → d ≤ g .rows → f (pairNo (g .rows) b d) ≡ cost Straight g r (box a c b d))
       → Strips g r a (c + 1) (at + n) t v
   strips-more v f n k p w right =
       record {
@@ -137,8 +138,8 @@ module _ (g : Grid) (r : Rule) (a c at : ℕ) (t u : List ℕ) (s : Strips g r a
       wrote : Wrote f (pairNo (g .columns) a c * pairCount (g .rows)) (pairCount (g .rows)) u v
       wrote = subst (λ m. Wrote f m (pairCount (g .rows)) u v) (s .at-is) (subst (λ m. Wrote f at m u v) p w)
 
-  pub strips-end : g .columns < c → Reached g r u a (g .columns + 1)
-  strips-end h = reached-at g r u a c (g .columns + 1) (omega (arith, s .most)) (s .done)
+  pub strips-end : g .columns < c → Reached Straight g r u a (g .columns + 1)
+  strips-end h = reached-at Straight g r u a c (g .columns + 1) (omega (arith, s .most)) (s .done)
 
   pub strips-room : Sound g → c ≤ g .columns → entryCount (g .columns) (g .rows) ≤ length t → (at + pairCount (g .rows) ≤ length u) × (at ≤ 54000)
   unfolding entryCount
@@ -235,18 +236,18 @@ module _ (columns rows : ℕ) (xs ys cs : List ℕ) (r : Rule) (t : List ℕ) (r
       → start ≡ pairsBelow columns a * pairCount rows
   turn-first a first n start e p z = z ∙ ap₂ _*_ p e ∙ mul-comm (pairCount rows) (pairsBelow columns a)
 
-  pub turn-start : (a start : ℕ) → a < columns → start ≡ pairsBelow columns a * pairCount rows → Reached G r t a (a + 1) → Strips G r a (a + 1) start t t
+  pub turn-start : (a start : ℕ) → a < columns → start ≡ pairsBelow columns a * pairCount rows → Reached Straight G r t a (a + 1) → Strips G r a (a + 1) start t t
   unfolding stored
   turn-start a start h e f = strips-start G r a start t h e f
 
   module _ (a c at : ℕ) (u : List ℕ) (s : Strips G r a c at t u) where
     pub turn-more : (v : List ℕ) (f : ℕ → ℕ) (n : ℕ) → c ≤ columns → n ≡ pairCount rows → Wrote f at n u v
-        → ((b d : ℕ) → b < d → d ≤ rows → f (pairNo rows b d) ≡ cost G r (box a c b d))
+        → ((b d : ℕ) → b < d → d ≤ rows → f (pairNo rows b d) ≡ cost Straight G r (box a c b d))
         → Strips G r a (c + 1) (at + n) t v
     unfolding stored
     turn-more v f n k p w right = strips-more G r a c at t u s v f n k p w right
 
-    pub turn-end : columns < c → Reached G r u a (columns + 1) × Beyond (entryCount columns rows) t u
+    pub turn-end : columns < c → Reached Straight G r u a (columns + 1) × Beyond (entryCount columns rows) t u
     unfolding stored
     turn-end h = (strips-end G r a c at t u s h, s .beyond)
 
@@ -260,13 +261,13 @@ row-next g r a c b d row w = (let z : c ≡ c + 1 - 1 = omega arith in subst (λ
 
 -- the costs by the numbers of the y pairs
 module _ (g : Grid) (r : Rule) (a c : ℕ) where
-  pub one-right : (x : ℕ) → x ≡ cost g r (box a c 0 1) → (b d : ℕ) → b < d → d ≤ 1 → x ≡ cost g r (box a c b d)
+  pub one-right : (x : ℕ) → x ≡ cost Straight g r (box a c 0 1) → (b d : ℕ) → b < d → d ≤ 1 → x ≡ cost Straight g r (box a c b d)
   one-right x e zero (suc zero) h k = e
   one-right x e zero zero h k = absurd (omega arith)
   one-right x e zero (suc (suc d)) h k = absurd (omega arith)
   one-right x e (suc b) d h k = absurd (omega arith)
 
-  pub two-right : (x : Three) → TopTwo g r a c 0 x → (b d : ℕ) → b < d → d ≤ 2 → threeAt x (pairNo 2 b d) ≡ cost g r (box a c b d)
+  pub two-right : (x : Three) → TopTwo g r a c 0 x → (b d : ℕ) → b < d → d ≤ 2 → threeAt x (pairNo 2 b d) ≡ cost Straight g r (box a c b d)
   unfolding threeAt pairNo pairsBelow
   two-right x w zero zero h k = absurd (omega arith)
   two-right x w zero (suc zero) h k = w .first-is
@@ -278,7 +279,7 @@ module _ (g : Grid) (r : Rule) (a c : ℕ) where
   two-right x w (suc zero) (suc (suc (suc d))) h k = absurd (omega arith)
   two-right x w (suc (suc b)) d h k = absurd (omega arith)
 
-  pub three-right : (x y : Three) → LowThree g r a c x → TopTwo g r a c 1 y → (b d : ℕ) → b < d → d ≤ 3 → sixAt x y (pairNo 3 b d) ≡ cost g r (box a c b d)
+  pub three-right : (x y : Three) → LowThree g r a c x → TopTwo g r a c 1 y → (b d : ℕ) → b < d → d ≤ 3 → sixAt x y (pairNo 3 b d) ≡ cost Straight g r (box a c b d)
   unfolding sixAt pairNo pairsBelow
   three-right x y w v zero zero h k = absurd (omega arith)
   three-right x y w v zero (suc zero) h k = w .first-is
@@ -377,12 +378,12 @@ module _ (columns count n : ℕ) (e : count ≡ n) (xs ys cs : List ℕ) (r : Ru
   pub to-ready : (t : List ℕ) → Ready (stored columns count xs ys cs) r xs ys cs t → Ready (stored columns n xs ys cs) r xs ys cs t
   to-ready t w = subst (λ m. Ready (stored columns m xs ys cs) r xs ys cs t) e w
 
-  pub to-reached : (t : List ℕ) (a c : ℕ) → Reached (stored columns count xs ys cs) r t a c → Reached (stored columns n xs ys cs) r t a c
-  to-reached t a c w = subst (λ m. Reached (stored columns m xs ys cs) r t a c) e w
+  pub to-reached : (t : List ℕ) (a c : ℕ) → Reached Straight (stored columns count xs ys cs) r t a c → Reached Straight (stored columns n xs ys cs) r t a c
+  to-reached t a c w = subst (λ m. Reached Straight (stored columns m xs ys cs) r t a c) e w
 
-  pub back-filled : (t u : List ℕ) (a c : ℕ) → Reached (stored columns n xs ys cs) r u a c × Beyond (entryCount columns n) t u
-      → Reached (stored columns count xs ys cs) r u a c × Beyond (entryCount columns count) t u
-  back-filled t u a c w = subst (λ m. Reached (stored columns m xs ys cs) r u a c × Beyond (entryCount columns m) t u) (sym e) w
+  pub back-filled : (t u : List ℕ) (a c : ℕ) → Reached Straight (stored columns n xs ys cs) r u a c × Beyond (entryCount columns n) t u
+      → Reached Straight (stored columns count xs ys cs) r u a c × Beyond (entryCount columns count) t u
+  back-filled t u a c w = subst (λ m. Reached Straight (stored columns m xs ys cs) r u a c × Beyond (entryCount columns m) t u) (sym e) w
 
 pub three-left : (n : ℕ) → 1 ≤ n → n ≤ 3 → (n ≡ 1 → ⊥) → (n ≡ 2 → ⊥) → n ≡ 3
 three-left zero h k p q = absurd (omega arith)

@@ -19,8 +19,9 @@ use lib.ListN.{length, getD, set}
 use Rattle.sum.proofs.Sum.{le-or}
 use Rattle.outline.specs.Grid.{Grid, Sound}
 use Rattle.rule.specs.declared.Rule.{Rule}
+use Rattle.piece.specs.declared.Mode.the-variants.{Straight}
 use Rattle.piece.specs.Piece.{box, mostCost}
-use Rattle.piece.specs.Straight.{cost}
+use Rattle.piece.specs.Cuts.{cost}
 use Rattle.piece.proofs.Bound.{cost-most}
 use Rattle.table.specs.Entry.{pairsBelow, pairCount, pairNo, entryCount}
 use Rattle.table.specs.Run.{Wrote, Lowest}
@@ -55,26 +56,26 @@ module _ (g : Grid) (r : Rule) (s : Strip) (t : List ℕ) (k : Placed g r s t) w
 
   -- the costs of the parts are in the table
   part-low : (b d j : ℕ) → b < d → d ≤ g .rows → a < j → j < c
-      → getD t (pairNo (g .columns) a j * pairCount (g .rows) + pairNo (g .rows) b d) 0 ≡ cost g r (box a j b d)
+      → getD t (pairNo (g .columns) a j * pairCount (g .rows) + pairNo (g .rows) b d) 0 ≡ cost Straight g r (box a j b d)
   part-low b d j q l p x =
       ap (λ n. getD t n 0) (sym (entry-made (g .columns) (g .rows) a j b d))
       ∙ k .done .right (box a j b d) (record { ac = p; cx = omega (arith, k .cx); bd = q; dy = l }) (inr (refl, x))
 
   part-high : (b d j : ℕ) → b < d → d ≤ g .rows → a < j → j < c
-      → getD t (pairNo (g .columns) j c * pairCount (g .rows) + pairNo (g .rows) b d) 0 ≡ cost g r (box j c b d)
+      → getD t (pairNo (g .columns) j c * pairCount (g .rows) + pairNo (g .rows) b d) 0 ≡ cost Straight g r (box j c b d)
   part-high b d j q l p x =
       ap (λ n. getD t n 0) (sym (entry-made (g .columns) (g .rows) j c b d))
       ∙ k .done .right (box j c b d) (record { ac = x; cx = k .cx; bd = q; dy = l }) (inl p)
 
   parted-cost : (b d j : ℕ) → b < d → d ≤ g .rows → a < j → j < c
-      → parted t (s .columns) (s .pairs) a c (pairNo (g .rows) b d) j ≡ cost g r (box a j b d) + cost g r (box j c b d)
+      → parted t (s .columns) (s .pairs) a c (pairNo (g .rows) b d) j ≡ cost Straight g r (box a j b d) + cost Straight g r (box j c b d)
   unfolding parted
   parted-cost b d j q l p x =
       ap₂ (λ m n. parted t m n a c (pairNo (g .rows) b d) j) (k .columns-are) (k .pairs-are)
       ∙ ap₂ _+_ (part-low b d j q l p x) (part-high b d j q l p x)
 
-  price-most : (u v b d : ℕ) → u < v → v ≤ g .columns → b < d → d ≤ g .rows → cost g r (box u v b d) ≤ mostCost
-  price-most u v b d h l p q = cost-most g r (k .sound) (box u v b d) (omega arith) l (omega arith) q (k .weight-most)
+  price-most : (u v b d : ℕ) → u < v → v ≤ g .columns → b < d → d ≤ g .rows → cost Straight g r (box u v b d) ≤ mostCost
+  price-most u v b d h l p q = cost-most Straight g r (k .sound) (box u v b d) (omega arith) l (omega arith) q (k .weight-most)
 
   parted-fits : (j i : ℕ) → a < j → j < c → i < s .pairs → parted t (s .columns) (s .pairs) a c i j < 2 ^ 32
   parted-fits j i p x q =
@@ -109,22 +110,22 @@ module _ (g : Grid) (r : Rule) (s : Strip) (t : List ℕ) (k : Placed g r s t) w
   )
 
   -- two costs together fit
-  pub cost-fits : (b d x y : ℕ) (e f : ℕ) → b < d → d ≤ g .rows → x < y → y ≤ g .rows → e ≡ cost g r (box a c b d) → f ≡ cost g r (box a c x y)
+  pub cost-fits : (b d x y : ℕ) (e f : ℕ) → b < d → d ≤ g .rows → x < y → y ≤ g .rows → e ≡ cost Straight g r (box a c b d) → f ≡ cost Straight g r (box a c x y)
       → e + f < 2 ^ 32
   cost-fits b d x y e f h l p q m n = omega (arith, price-most a c b d (k .ac) (k .cx) h l, price-most a c x y (k .ac) (k .cx) p q)
 
   -- the cost of a piece, from its sums, its vertical cuts and its horizontal ones
   piece-cost : (b d i v best x : ℕ) (sums : Sums) → b < d → d ≤ g .rows → Whole g r a c b d sums → i ≡ pairNo (g .rows) b d
       → Lowest (parted t (s .columns) (s .pairs) a c i) a c uncut v
-      → Lowest (λ j. cost g r (box a c b j) + cost g r (box a c j d)) b d v best
+      → Lowest (λ j. cost Straight g r (box a c b j) + cost Straight g r (box a c j d)) b d v best
       → Judged (sums .inside) (sums .cells) (shotOf r (s .width) sums) best x
-      → x ≡ cost g r (box a c b d)
+      → x ≡ cost Straight g r (box a c b d)
   piece-cost b d i v best x sums h l w e low across j =
       judged-piece g r (k .sound) (k .weight-most) a c b d (k .ac) (k .cx) h l (sums .inside) (sums .cells) (shotOf r (s .width) sums) v best x
       (w .summed .inside-are)
       (w .summed .cells-are)
       (whole-shot g (k .sound) r a c b d (s .width) sums (k .width-is) w)
-      (lowest-same (parted t (s .columns) (s .pairs) a c i) (λ j. cost g r (box a j b d) + cost g r (box j c b d)) a c uncut uncut v v
+      (lowest-same (parted t (s .columns) (s .pairs) a c i) (λ j. cost Straight g r (box a j b d) + cost Straight g r (box j c b d)) a c uncut uncut v v
       (λ j p q. ap (λ n. parted t (s .columns) (s .pairs) a c n j) e ∙ parted-cost b d j h l p q)
       refl
       refl
@@ -135,30 +136,30 @@ module _ (g : Grid) (r : Rule) (s : Strip) (t : List ℕ) (k : Placed g r s t) w
   pub row-cost : (b d i v x : ℕ) (sums : Sums) → d ≡ b + 1 → d ≤ g .rows → Whole g r a c b d sums → i ≡ pairNo (g .rows) b d
       → Lowest (parted t (s .columns) (s .pairs) a c i) a c uncut v
       → Judged (sums .inside) (sums .cells) (shotOf r (s .width) sums) v x
-      → x ≡ cost g r (box a c b d)
+      → x ≡ cost Straight g r (box a c b d)
   row-cost b d i v x sums z l w e low j =
       piece-cost b d i v v x sums (omega arith) l w e low (lowest-between _ b d v (omega arith)) j
 
   pub pair-cost : (b i v y z best x : ℕ) (sums : Sums) → b + 2 ≤ g .rows → Whole g r a c b (b + 2) sums → i ≡ pairNo (g .rows) b (b + 2)
       → Lowest (parted t (s .columns) (s .pairs) a c i) a c uncut v
-      → y ≡ cost g r (box a c b (b + 1)) → z ≡ cost g r (box a c (b + 1) (b + 2)) → best ≡ min v (y + z)
+      → y ≡ cost Straight g r (box a c b (b + 1)) → z ≡ cost Straight g r (box a c (b + 1) (b + 2)) → best ≡ min v (y + z)
       → Judged (sums .inside) (sums .cells) (shotOf r (s .width) sums) best x
-      → x ≡ cost g r (box a c b (b + 2))
+      → x ≡ cost Straight g r (box a c b (b + 2))
   pair-cost b i v y z best x sums l w e low ey ez eb j =
       piece-cost b (b + 2) i v best x sums (omega arith) l w e low
-      (rw eb (across-two (λ j. cost g r (box a c b j) + cost g r (box a c j (b + 2))) b v (y + z) (ap₂ _+_ ey ez)))
+      (rw eb (across-two (λ j. cost Straight g r (box a c b j) + cost Straight g r (box a c j (b + 2))) b v (y + z) (ap₂ _+_ ey ez)))
       j
 
   pub triple-cost : (i v y₁ z₁ y₂ z₂ lower best x : ℕ) (sums : Sums) → 3 ≤ g .rows → Whole g r a c 0 3 sums → i ≡ pairNo (g .rows) 0 3
       → Lowest (parted t (s .columns) (s .pairs) a c i) a c uncut v
-      → y₁ ≡ cost g r (box a c 0 1) → z₁ ≡ cost g r (box a c 1 3) → y₂ ≡ cost g r (box a c 0 2) → z₂ ≡ cost g r (box a c 2 3)
+      → y₁ ≡ cost Straight g r (box a c 0 1) → z₁ ≡ cost Straight g r (box a c 1 3) → y₂ ≡ cost Straight g r (box a c 0 2) → z₂ ≡ cost Straight g r (box a c 2 3)
       → lower ≡ min v (y₁ + z₁) → best ≡ min lower (y₂ + z₂)
       → Judged (sums .inside) (sums .cells) (shotOf r (s .width) sums) best x
-      → x ≡ cost g r (box a c 0 3)
+      → x ≡ cost Straight g r (box a c 0 3)
   triple-cost i v y₁ z₁ y₂ z₂ lower best x sums l w e low e₁ f₁ e₂ f₂ el eb j =
       piece-cost 0 3 i v best x sums (omega arith) l w e low
       (rw eb (rw el
-      (across-three (λ j. cost g r (box a c 0 j) + cost g r (box a c j 3)) v (y₁ + z₁) (y₂ + z₂) (ap₂ _+_ e₁ f₁) (ap₂ _+_ e₂ f₂))))
+      (across-three (λ j. cost Straight g r (box a c 0 j) + cost Straight g r (box a c j 3)) v (y₁ + z₁) (y₂ + z₂) (ap₂ _+_ e₁ f₁) (ap₂ _+_ e₂ f₂))))
       j
 
 -- how many pieces a strip has

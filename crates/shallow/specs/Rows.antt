@@ -16,8 +16,9 @@ use lib.ListN.{length, getD}
 use Rattle.outline.specs.Grid.{Grid, Sound}
 use Rattle.rule.specs.declared.Rule.{Rule}
 use Rattle.rule.specs.Rules.{limit}
+use Rattle.piece.specs.declared.Mode.the-variants.{Straight}
 use Rattle.piece.specs.Piece.{box, width}
-use Rattle.piece.specs.Straight.{cost}
+use Rattle.piece.specs.Cuts.{cost}
 use Rattle.table.specs.Entry.{pairsBelow, pairCount, pairNo, entryCount}
 use Rattle.table.specs.Fill.{Reached}
 use Rattle.shallow.specs.declared.cuts.Strip.{Strip}
@@ -36,7 +37,7 @@ pub record Placed (g : Grid) (r : Rule) (s : Strip) (t : List ℕ) : Type 0 wher
   pub at-is : s .at ≡ pairNo (g .columns) (s .a .0) (s .c .0) * pairCount (g .rows)
   pub width-is : s .width ≡ width g (s .a .0) (s .c .0)
   pub room : entryCount (g .columns) (g .rows) ≤ length t
-  pub done : Reached g r t (s .a .0) (s .c .0)
+  pub done : Reached Straight g r t (s .a .0) (s .c .0)
 
 pub record OneRow (g : Grid) (r : Rule) (s : Strip) (row : Sums) (t : List ℕ) : Type 0 where
   pub placed : Placed g r s t
@@ -50,9 +51,9 @@ pub record TwoRows (g : Grid) (r : Rule) (s : Strip) (b : ℕ) (low high : Sums)
   pub high-sums : Whole g r (s .a .0) (s .c .0) (b + 1) (b + 2) high
 
 pub record TopTwo (g : Grid) (r : Rule) (a c b : ℕ) (x : Three) : Type 0 where
-  pub first-is : x .first ≡ cost g r (box a c b (b + 1))
-  pub second-is : x .second ≡ cost g r (box a c b (b + 2))
-  pub third-is : x .third ≡ cost g r (box a c (b + 1) (b + 2))
+  pub first-is : x .first ≡ cost Straight g r (box a c b (b + 1))
+  pub second-is : x .second ≡ cost Straight g r (box a c b (b + 2))
+  pub third-is : x .third ≡ cost Straight g r (box a c (b + 1) (b + 2))
 
 pub record ThreeRows (g : Grid) (r : Rule) (s : Strip) (low middle high : Sums) (above : Three) (t : List ℕ) : Type 0 where
   pub placed : Placed g r s t
@@ -63,9 +64,9 @@ pub record ThreeRows (g : Grid) (r : Rule) (s : Strip) (low middle high : Sums) 
   pub above-costs : TopTwo g r (s .a .0) (s .c .0) 1 above
 
 pub record LowThree (g : Grid) (r : Rule) (a c : ℕ) (x : Three) : Type 0 where
-  pub first-is : x .first ≡ cost g r (box a c 0 1)
-  pub second-is : x .second ≡ cost g r (box a c 0 2)
-  pub third-is : x .third ≡ cost g r (box a c 0 3)
+  pub first-is : x .first ≡ cost Straight g r (box a c 0 1)
+  pub second-is : x .second ≡ cost Straight g r (box a c 0 2)
+  pub third-is : x .third ≡ cost Straight g r (box a c 0 3)
 
 unfoldable pub threeAt : Three → ℕ → ℕ
 threeAt x i = getD (x .first ∷ x .second ∷ x .third ∷ []) i 0

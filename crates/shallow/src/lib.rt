@@ -12,6 +12,7 @@ ghost use mathlib.Core.List.{_++_};
 ghost use Prim.Native.Nat.{ℕ, _+_, _≤_, _<_};
 ghost use lib.ListN.{length, drop};
 ghost use Rattle.outline.specs.Grid.{stored};
+ghost use Rattle.piece.specs.declared.Mode.the-variants.{Straight};
 ghost use Rattle.table.specs.Entry.{pairsBelow, entryCount, costs};
 ghost use Rattle.table.specs.Fill.{Ready, Reached, Beyond};
 
@@ -30,8 +31,8 @@ fn fill_from(
 )
     requires { ⌜ Ready (stored columns rows (now xs) (now ys) (now cells)) rule (now xs) (now ys) (now cells) (now table) ⌝ }
     requires { ⌜ (rows ≤ 3) × ((a .0 < columns) × (first ≡ pairsBelow columns (a .0))) ⌝ }
-    requires { ⌜ Reached (stored columns rows (now xs) (now ys) (now cells)) rule (now table) (a .0) (a .0 + 1) ⌝ }
-    ensures { λ _. ⌜ Reached (stored columns rows (now (xs .entry)) (now (ys .entry)) (now (cells .entry))) rule (now (table .exit)) (a .0) (columns + 1) ⌝ }
+    requires { ⌜ Reached Straight (stored columns rows (now xs) (now ys) (now cells)) rule (now table) (a .0) (a .0 + 1) ⌝ }
+    ensures { λ _. ⌜ Reached Straight (stored columns rows (now (xs .entry)) (now (ys .entry)) (now (cells .entry))) rule (now (table .exit)) (a .0) (columns + 1) ⌝ }
     ensures { λ _. ⌜ Beyond (entryCount columns rows) (now (table .entry)) (now (table .exit)) ⌝ }
 {
     if rows == 1 {
@@ -56,7 +57,7 @@ pub fn fill(
 )
     requires { ⌜ Ready (stored columns rows (now xs) (now ys) (now cells)) rule (now xs) (now ys) (now cells) (now table) ⌝ }
     requires { ⌜ rows ≤ 3 ⌝ }
-    ensures { λ _. ⌜ now (table .exit) ≡ costs (stored columns rows (now (xs .entry)) (now (ys .entry)) (now (cells .entry))) rule ++ drop (length (costs (stored columns rows (now (xs .entry)) (now (ys .entry)) (now (cells .entry))) rule)) (now (table .entry)) ⌝ }
+    ensures { λ _. ⌜ now (table .exit) ≡ costs Straight (stored columns rows (now (xs .entry)) (now (ys .entry)) (now (cells .entry))) rule ++ drop (length (costs Straight (stored columns rows (now (xs .entry)) (now (ys .entry)) (now (cells .entry))) rule)) (now (table .entry)) ⌝ }
 {
     let mut first = numbering::pair_count(columns);
     let mut a = columns;

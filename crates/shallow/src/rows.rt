@@ -13,8 +13,9 @@ ghost use mathlib.Core.Path.{_≡_};
 ghost use Prim.Native.Nat.{ℕ, _+_, _*_, _≤_, _<_};
 ghost use lib.ListN.{length};
 ghost use Rattle.outline.specs.Grid.{Grid, stored};
+ghost use Rattle.piece.specs.declared.Mode.the-variants.{Straight};
 ghost use Rattle.piece.specs.Piece.{box};
-ghost use Rattle.piece.specs.Straight.{cost};
+ghost use Rattle.piece.specs.Cuts.{cost};
 ghost use Rattle.table.specs.Entry.{pairsBelow, entryCount};
 ghost use Rattle.table.specs.Run.{Wrote};
 ghost use Rattle.table.specs.Fill.{Ready, Reached, Beyond};
@@ -23,7 +24,7 @@ ghost use Rattle.shallow.specs.Rows.{OneRow, TwoRows, ThreeRows, TopTwo,
 // The cost of a strip of one row of cells.
 fn one_row(table: &[u32], strip: Strip, rule: Rule, row: Sums) -> u32
     requires { ⌜ ((g : Grid) × OneRow g rule strip row (now table)) ⌝ }
-    ensures { λ x. ⌜ ((g : Grid) → OneRow g rule strip row (now (table .entry)) → x ≡ cost g rule (box (strip .a .0) (strip .c .0) 0 1)) ⌝ }
+    ensures { λ x. ⌜ ((g : Grid) → OneRow g rule strip row (now (table .entry)) → x ≡ cost Straight g rule (box (strip .a .0) (strip .c .0) 0 1)) ⌝ }
 {
     let best = cuts::least_cut(table, strip, 0);
     sums::settled(row, rule, strip.width, best)
@@ -103,8 +104,8 @@ pub fn fill_one(
 )
     requires { ⌜ Ready (stored columns 1 (now xs) (now ys) (now cells)) rule (now xs) (now ys) (now cells) (now table) ⌝ }
     requires { ⌜ (a .0 < columns) × (first ≡ pairsBelow columns (a .0)) ⌝ }
-    requires { ⌜ Reached (stored columns 1 (now xs) (now ys) (now cells)) rule (now table) (a .0) (a .0 + 1) ⌝ }
-    ensures { λ _. ⌜ Reached (stored columns 1 (now (xs .entry)) (now (ys .entry)) (now (cells .entry))) rule (now (table .exit)) (a .0) (columns + 1) ⌝ }
+    requires { ⌜ Reached Straight (stored columns 1 (now xs) (now ys) (now cells)) rule (now table) (a .0) (a .0 + 1) ⌝ }
+    ensures { λ _. ⌜ Reached Straight (stored columns 1 (now (xs .entry)) (now (ys .entry)) (now (cells .entry))) rule (now (table .exit)) (a .0) (columns + 1) ⌝ }
     ensures { λ _. ⌜ Beyond (entryCount columns 1) (now (table .entry)) (now (table .exit)) ⌝ }
 {
     let mut row = sums::empty(ys, 0);
@@ -143,8 +144,8 @@ pub fn fill_two(
 )
     requires { ⌜ Ready (stored columns 2 (now xs) (now ys) (now cells)) rule (now xs) (now ys) (now cells) (now table) ⌝ }
     requires { ⌜ (a .0 < columns) × (first ≡ pairsBelow columns (a .0)) ⌝ }
-    requires { ⌜ Reached (stored columns 2 (now xs) (now ys) (now cells)) rule (now table) (a .0) (a .0 + 1) ⌝ }
-    ensures { λ _. ⌜ Reached (stored columns 2 (now (xs .entry)) (now (ys .entry)) (now (cells .entry))) rule (now (table .exit)) (a .0) (columns + 1) ⌝ }
+    requires { ⌜ Reached Straight (stored columns 2 (now xs) (now ys) (now cells)) rule (now table) (a .0) (a .0 + 1) ⌝ }
+    ensures { λ _. ⌜ Reached Straight (stored columns 2 (now (xs .entry)) (now (ys .entry)) (now (cells .entry))) rule (now (table .exit)) (a .0) (columns + 1) ⌝ }
     ensures { λ _. ⌜ Beyond (entryCount columns 2) (now (table .entry)) (now (table .exit)) ⌝ }
 {
     let start = 3 * first;
@@ -187,8 +188,8 @@ pub fn fill_three(
 )
     requires { ⌜ Ready (stored columns 3 (now xs) (now ys) (now cells)) rule (now xs) (now ys) (now cells) (now table) ⌝ }
     requires { ⌜ (a .0 < columns) × (first ≡ pairsBelow columns (a .0)) ⌝ }
-    requires { ⌜ Reached (stored columns 3 (now xs) (now ys) (now cells)) rule (now table) (a .0) (a .0 + 1) ⌝ }
-    ensures { λ _. ⌜ Reached (stored columns 3 (now (xs .entry)) (now (ys .entry)) (now (cells .entry))) rule (now (table .exit)) (a .0) (columns + 1) ⌝ }
+    requires { ⌜ Reached Straight (stored columns 3 (now xs) (now ys) (now cells)) rule (now table) (a .0) (a .0 + 1) ⌝ }
+    ensures { λ _. ⌜ Reached Straight (stored columns 3 (now (xs .entry)) (now (ys .entry)) (now (cells .entry))) rule (now (table .exit)) (a .0) (columns + 1) ⌝ }
     ensures { λ _. ⌜ Beyond (entryCount columns 3) (now (table .entry)) (now (table .exit)) ⌝ }
 {
     let start = 6 * first;

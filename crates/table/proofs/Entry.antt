@@ -6,7 +6,7 @@
 --   pair-*       == the number of a pair: its bounds, no two pairs have the same one, every number is a pair's
 --   entry-*      == the entry of a piece: below the count of entries, and no other piece's
 --   pairs-*      == the list of pairs: its length, and what stands at a pair's number
---   costs-*      == the list of costs: its length, what stands at a piece's entry, and when a table begins with it
+--   tabled-*, costs-*   == the list of entries, of any price and of the costs: its length, what stands at a piece's entry, and when a table begins with it
 use Prim.Native.Nat.{ℕ, zero, suc, _+_, _*_, _-_, _/_, _≤_, _<_}
 use mathlib.Core.Path.{_≡_, refl, sym, _∙_, ap, ap₂, subst}
 use mathlib.Core.Logic.{inl, inr}
@@ -23,9 +23,10 @@ use Rattle.sum.specs.Sum.{join}
 use Rattle.sum.proofs.Sum.{le-or}
 use Rattle.outline.specs.Grid.{Grid}
 use Rattle.rule.specs.declared.Rule.{Rule}
+use Rattle.piece.specs.declared.Mode.{Mode}
 use Rattle.piece.specs.Piece.{Piece, box}
-use Rattle.piece.specs.Straight.{run, between, cost}
-use Rattle.table.specs.Entry.{pairsBelow, pairCount, pairNo, Pair, pair, pairs, entryCount, entryOf, Valid, costs}
+use Rattle.piece.specs.Cuts.{run, between, cost}
+use Rattle.table.specs.Entry.{pairsBelow, pairCount, pairNo, Pair, pair, pairs, entryCount, entryOf, Valid, tabled, costs}
 
 pub below-zero : (m : ℕ) → pairsBelow m 0 ≡ 0
 unfolding pairsBelow
@@ -274,53 +275,69 @@ piece-of m n i h =
       entry-made m n (x .0) (x .1) (y .0) (y .1) ∙ ap₂ (λ j k. j * pairCount n + k) (x .4) (y .4) ∙ e .4,
     )
 
-module _ (g : Grid) (r : Rule) where
-  -- the costs of the pieces of one x pair
-  costRow : Pair → List ℕ
-  costRow x = map (λ y. cost g r (box (x .low) (x .high) (y .low) (y .high))) (pairs (g .rows))
+module _ (f : Piece → ℕ) (m n : ℕ) where
+  -- the entries of one x pair
+  rowOf : Pair → List ℕ
+  rowOf x = map (λ y. f (box (x .low) (x .high) (y .low) (y .high))) (pairs n)
 
-  costRow-length : (x : Pair) → length (costRow x) ≡ pairCount (g .rows)
-  unfolding costRow
-  costRow-length x = length-map (pairs (g .rows)) (λ y. cost g r (box (x .low) (x .high) (y .low) (y .high))) ∙ pairs-length (g .rows)
+  rowOf-length : (x : Pair) → length (rowOf x) ≡ pairCount n
+  unfolding rowOf
+  rowOf-length x = length-map (pairs n) (λ y. f (box (x .low) (x .high) (y .low) (y .high))) ∙ pairs-length n
 
-  pub costs-length : length (costs g r) ≡ entryCount (g .columns) (g .rows)
-  unfolding costs costRow entryCount
-  costs-length =
-      grid-length (pair 0 0) 0 (costRow) (pairCount (g .rows)) costRow-length (pairs (g .columns))
-      ∙ ap (λ n. n * pairCount (g .rows)) (pairs-length (g .columns))
+  pub tabled-length : length (tabled f m n) ≡ entryCount m n
+  unfolding tabled rowOf entryCount
+  tabled-length =
+      grid-length (pair 0 0) 0 rowOf (pairCount n) rowOf-length (pairs m) ∙ ap (λ k. k * pairCount n) (pairs-length m)
 
-  pub costs-at : (p : Piece) → Valid (g .columns) (g .rows) p → getD (costs g r) (entryOf (g .columns) (g .rows) p) 0 ≡ cost g r p
-  unfolding costs costRow entryOf
-  costs-at p v =
-      grid-at (pair 0 0) 0 costRow (pairCount (g .rows)) costRow-length (pairs (g .columns)) (pairNo (g .columns) (p .a) (p .c)) (pairNo (g .rows) (p .b) (p .d))
-      (omega (arith, pairs-length (g .columns), pair-below (g .columns) (p .a) (p .c) (v .ac) (v .cx)))
-      (pair-below (g .rows) (p .b) (p .d) (v .bd) (v .dy))
-      ∙ ap (λ x. getD (costRow x) (pairNo (g .rows) (p .b) (p .d)) 0) (pairs-at (g .columns) (p .a) (p .c) (v .ac) (v .cx))
-      ∙ map-at (λ w. cost g r (box (p .a) (p .c) (w .low) (w .high))) (pairs (g .rows)) (pairNo (g .rows) (p .b) (p .d)) (pair 0 0)
-      (omega (arith, pairs-length (g .rows), pair-below (g .rows) (p .b) (p .d) (v .bd) (v .dy)))
-      ∙ ap (λ w. cost g r (box (p .a) (p .c) (w .low) (w .high))) (pairs-at (g .rows) (p .b) (p .d) (v .bd) (v .dy))
+  pub tabled-at : (p : Piece) → Valid m n p → getD (tabled f m n) (entryOf m n p) 0 ≡ f p
+  unfolding tabled rowOf entryOf
+  tabled-at p v =
+      grid-at (pair 0 0) 0 rowOf (pairCount n) rowOf-length (pairs m) (pairNo m (p .a) (p .c)) (pairNo n (p .b) (p .d))
+      (omega (arith, pairs-length m, pair-below m (p .a) (p .c) (v .ac) (v .cx)))
+      (pair-below n (p .b) (p .d) (v .bd) (v .dy))
+      ∙ ap (λ x. getD (rowOf x) (pairNo n (p .b) (p .d)) 0) (pairs-at m (p .a) (p .c) (v .ac) (v .cx))
+      ∙ map-at (λ w. f (box (p .a) (p .c) (w .low) (w .high))) (pairs n) (pairNo n (p .b) (p .d)) (pair 0 0)
+      (omega (arith, pairs-length n, pair-below n (p .b) (p .d) (v .bd) (v .dy)))
+      ∙ ap (λ w. f (box (p .a) (p .c) (w .low) (w .high))) (pairs-at n (p .b) (p .d) (v .bd) (v .dy))
+
+  -- a table that has f of every piece begins with the list of those
+  pub tabled-whole : (t u : List ℕ) → entryCount m n ≤ length u → length u ≡ length t
+      → ((p : Piece) → Valid m n p → getD u (entryOf m n p) 0 ≡ f p)
+      → ((k : ℕ) → entryCount m n ≤ k → getD u k 0 ≡ getD t k 0)
+      → u ≡ tabled f m n ++ drop (length (tabled f m n)) t
+  tabled-whole t u room long right beyond =
+      sym (take-append-drop e u)
+      ∙ ap₂ _++_ (ext-getD 0 (take e u) (tabled f m n) (length-take-le e u room ∙ sym tabled-length) front) (back ∙ ap (λ k. drop k t) (sym tabled-length))
+    where
+      e : ℕ
+      e = entryCount m n
+
+      at-piece : (p : Piece) → Valid m n p → (i : ℕ) → entryOf m n p ≡ i → i < e → getD (take e u) i 0 ≡ getD (tabled f m n) i 0
+      at-piece p v i q l =
+          getD-take e u i 0 l ∙ ap (λ j. getD u j 0) (sym q) ∙ right p v ∙ sym (tabled-at p v) ∙ ap (λ j. getD (tabled f m n) j 0) q
+
+      front : (i : ℕ) → i < length (take e u) → getD (take e u) i 0 ≡ getD (tabled f m n) i 0
+      front i q =
+          let l : i < e = omega (arith, length-take-le e u room) in
+          let p = piece-of m n i l in
+          at-piece (p .0) (p .1) i (p .2) l
+
+      back : drop e u ≡ drop e t
+      back = ext-getD 0 (drop e u) (drop e t) (omega (arith, length-drop e u, length-drop e t)) (λ i q. getD-drop e u i 0 ∙ beyond (e + i) (omega arith) ∙ sym (getD-drop e t i 0))
+
+module _ (mode : Mode) (g : Grid) (r : Rule) where
+  pub costs-length : length (costs mode g r) ≡ entryCount (g .columns) (g .rows)
+  unfolding costs
+  costs-length = tabled-length (cost mode g r) (g .columns) (g .rows)
+
+  pub costs-at : (p : Piece) → Valid (g .columns) (g .rows) p → getD (costs mode g r) (entryOf (g .columns) (g .rows) p) 0 ≡ cost mode g r p
+  unfolding costs
+  costs-at p v = tabled-at (cost mode g r) (g .columns) (g .rows) p v
 
   -- a table that has every cost begins with the list of costs
   pub costs-whole : (t u : List ℕ) → entryCount (g .columns) (g .rows) ≤ length u → length u ≡ length t
-      → ((p : Piece) → Valid (g .columns) (g .rows) p → getD u (entryOf (g .columns) (g .rows) p) 0 ≡ cost g r p)
+      → ((p : Piece) → Valid (g .columns) (g .rows) p → getD u (entryOf (g .columns) (g .rows) p) 0 ≡ cost mode g r p)
       → ((k : ℕ) → entryCount (g .columns) (g .rows) ≤ k → getD u k 0 ≡ getD t k 0)
-      → u ≡ costs g r ++ drop (length (costs g r)) t
-  costs-whole t u room long right beyond =
-      sym (take-append-drop n u)
-      ∙ ap₂ _++_ (ext-getD 0 (take n u) (costs g r) (length-take-le n u room ∙ sym costs-length) front) (back ∙ ap (λ k. drop k t) (sym costs-length))
-    where
-      n : ℕ
-      n = entryCount (g .columns) (g .rows)
-
-      at-piece : (p : Piece) → Valid (g .columns) (g .rows) p → (i : ℕ) → entryOf (g .columns) (g .rows) p ≡ i → i < n → getD (take n u) i 0 ≡ getD (costs g r) i 0
-      at-piece p v i e l =
-          getD-take n u i 0 l ∙ ap (λ j. getD u j 0) (sym e) ∙ right p v ∙ sym (costs-at p v) ∙ ap (λ j. getD (costs g r) j 0) e
-
-      front : (i : ℕ) → i < length (take n u) → getD (take n u) i 0 ≡ getD (costs g r) i 0
-      front i q =
-          let l : i < n = omega (arith, length-take-le n u room) in
-          let p = piece-of (g .columns) (g .rows) i l in
-          at-piece (p .0) (p .1) i (p .2) l
-
-      back : drop n u ≡ drop n t
-      back = ext-getD 0 (drop n u) (drop n t) (omega (arith, length-drop n u, length-drop n t)) (λ i q. getD-drop n u i 0 ∙ beyond (n + i) (omega arith) ∙ sym (getD-drop n t i 0))
+      → u ≡ costs mode g r ++ drop (length (costs mode g r)) t
+  unfolding costs
+  costs-whole t u room long right beyond = tabled-whole (cost mode g r) (g .columns) (g .rows) t u room long right beyond

@@ -15,8 +15,8 @@ use lib.ListN.{length, getD, drop}
 use Rattle.sum.proofs.Sum.{le-or}
 use Rattle.outline.specs.Grid.{Grid, stored}
 use Rattle.rule.specs.declared.Rule.{Rule}
+use Rattle.piece.specs.declared.Mode.{Mode}
 use Rattle.piece.specs.Piece.{Piece}
-use Rattle.piece.specs.Straight.{cost}
 use Rattle.table.specs.Entry.{entryCount, entryOf, Valid, costs}
 use Rattle.table.specs.Fill.{Ready, Reached, Beyond}
 use Rattle.table.proofs.Entry
@@ -33,16 +33,16 @@ ready-later g r xs ys cs t u n p k =
     record { sound = k .sound; drawn = k .drawn; weight-most = k .weight-most; room = omega (arith, k .room, p .long) }
 
 -- no strip yet
-pub reached-none : (g : Grid) (r : Rule) (t : List ℕ) → Reached g r t (g .columns) (g .columns + 1)
-reached-none g r t = record { right = λ p v o. absurd (go p v o) }
+pub reached-none : (mode : Mode) (g : Grid) (r : Rule) (t : List ℕ) → Reached mode g r t (g .columns) (g .columns + 1)
+reached-none mode g r t = record { right = λ p v o. absurd (go p v o) }
   where
     go : (p : Piece) → Valid (g .columns) (g .rows) p → (g .columns < p .a) ⊎ ((p .a ≡ g .columns) × (p .c < g .columns + 1)) → ⊥
     go p v (inl h) = omega (arith, v .ac, v .cx)
     go p v (inr h) = omega (arith, v .ac, v .cx, h .0)
 
 -- all strips from a line on: those that begin above the line before it
-pub reached-back : (g : Grid) (r : Rule) (t : List ℕ) (a : ℕ) → 0 < a → Reached g r t a (g .columns + 1) → Reached g r t (a - 1) (a - 1 + 1)
-reached-back g r t a h f = record { right = λ p v o. f .right p v (go p v o) }
+pub reached-back : (mode : Mode) (g : Grid) (r : Rule) (t : List ℕ) (a : ℕ) → 0 < a → Reached mode g r t a (g .columns + 1) → Reached mode g r t (a - 1) (a - 1 + 1)
+reached-back mode g r t a h f = record { right = λ p v o. f .right p v (go p v o) }
   where
     go : (p : Piece) → Valid (g .columns) (g .rows) p → (a - 1 < p .a) ⊎ ((p .a ≡ a - 1) × (p .c < a - 1 + 1)) → (a < p .a) ⊎ ((p .a ≡ a) × (p .c < g .columns + 1))
     go p v (inl q) = elim (le-or (p .a) a) [
@@ -51,15 +51,15 @@ reached-back g r t a h f = record { right = λ p v o. f .right p v (go p v o) }
     ]
     go p v (inr q) = absurd (omega (arith, q .0, q .1, v .ac))
 
-pub reached-at : (g : Grid) (r : Rule) (t : List ℕ) (a c d : ℕ) → c ≡ d → Reached g r t a c → Reached g r t a d
-reached-at g r t a c d e f = subst (Reached g r t a) e f
+pub reached-at : (mode : Mode) (g : Grid) (r : Rule) (t : List ℕ) (a c d : ℕ) → c ≡ d → Reached mode g r t a c → Reached mode g r t a d
+reached-at mode g r t a c d e f = subst (Reached mode g r t a) e f
 
 -- all strips
-pub reached-all : (g : Grid) (r : Rule) (xs ys cs t u : List ℕ) (a : ℕ) → a ≤ 0 → Ready g r xs ys cs t → Beyond (entryCount (g .columns) (g .rows)) t u
-    → Reached g r u a (g .columns + 1)
-    → u ≡ costs g r ++ drop (length (costs g r)) t
-reached-all g r xs ys cs t u a h k p f =
-    Entry.costs-whole g r t u (omega (arith, k .room, p .long)) (p .long) (λ q v. f .right q v (go q v)) (p .kept)
+pub reached-all : (mode : Mode) (g : Grid) (r : Rule) (xs ys cs t u : List ℕ) (a : ℕ) → a ≤ 0 → Ready g r xs ys cs t → Beyond (entryCount (g .columns) (g .rows)) t u
+    → Reached mode g r u a (g .columns + 1)
+    → u ≡ costs mode g r ++ drop (length (costs mode g r)) t
+reached-all mode g r xs ys cs t u a h k p f =
+    Entry.costs-whole mode g r t u (omega (arith, k .room, p .long)) (p .long) (λ q v. f .right q v (go q v)) (p .kept)
   where
     go : (q : Piece) → Valid (g .columns) (g .rows) q → (a < q .a) ⊎ ((q .a ≡ a) × (q .c < g .columns + 1))
     go q v = elim (le-or (q .a) a) [
@@ -69,19 +69,19 @@ reached-all g r xs ys cs t u a h k p f =
 
 module _ (columns rows : ℕ) (xs ys cs : List ℕ) (r : Rule) (t : List ℕ) (ready : Ready (stored columns rows xs ys cs) r xs ys cs t) where
   -- the fill from the highest line down
-  pub fill-none : Reached (stored columns rows xs ys cs) r t columns (columns + 1)
+  pub fill-none : {mode : Mode} → Reached mode (stored columns rows xs ys cs) r t columns (columns + 1)
   unfolding stored
-  fill-none = reached-none (stored columns rows xs ys cs) r t
+  fill-none {mode = mode} = reached-none mode (stored columns rows xs ys cs) r t
 
   pub fill-limits : (1 ≤ columns) × ((columns ≤ 15) × ((1 ≤ rows) × (rows ≤ 15)))
   unfolding stored
   fill-limits = (ready .sound .columns-some, (ready .sound .columns-most, (ready .sound .rows-some, ready .sound .rows-most)))
 
-  pub fill-back : (u : List ℕ) (a : ℕ) → 0 < a → Reached (stored columns rows xs ys cs) r u a (columns + 1) → Reached (stored columns rows xs ys cs) r u (a - 1) (a - 1 + 1)
+  pub fill-back : {mode : Mode} (u : List ℕ) (a : ℕ) → 0 < a → Reached mode (stored columns rows xs ys cs) r u a (columns + 1) → Reached mode (stored columns rows xs ys cs) r u (a - 1) (a - 1 + 1)
   unfolding stored
-  fill-back u a h f = reached-back (stored columns rows xs ys cs) r u a h f
+  fill-back {mode = mode} u a h f = reached-back mode (stored columns rows xs ys cs) r u a h f
 
-  pub fill-all : (u : List ℕ) (a : ℕ) → a ≤ 0 → Beyond (entryCount columns rows) t u → Reached (stored columns rows xs ys cs) r u a (columns + 1)
-      → u ≡ costs (stored columns rows xs ys cs) r ++ drop (length (costs (stored columns rows xs ys cs) r)) t
+  pub fill-all : {mode : Mode} (u : List ℕ) (a : ℕ) → a ≤ 0 → Beyond (entryCount columns rows) t u → Reached mode (stored columns rows xs ys cs) r u a (columns + 1)
+      → u ≡ costs mode (stored columns rows xs ys cs) r ++ drop (length (costs mode (stored columns rows xs ys cs) r)) t
   unfolding stored
-  fill-all u a h p f = reached-all (stored columns rows xs ys cs) r xs ys cs t u a h ready p f
+  fill-all {mode = mode} u a h p f = reached-all mode (stored columns rows xs ys cs) r xs ys cs t u a h ready p f

@@ -9,14 +9,16 @@
 --   entryCount columns rows  == how many pieces, and so entries, there are
 --   entryOf columns rows p   == the entry of the piece p: the number of its x pair x the count of y pairs + the number of its y pair
 --   Valid columns rows p     == p is a piece of a grid of so many columns and rows
---   costs g r                == the cost of every piece of the grid g under the rule r, in the order of entries
+--   tabled f columns rows    == what f has for each piece of such a grid, in the order of entries
+--   costs mode g r           == the cost of every piece of the grid g under the rule r, in that order
 use Prim.Native.Nat.{ℕ, zero, suc, _+_, _*_, _-_, _≤_, _<_}
 use mathlib.Core.List.{List, map}
 use Rattle.sum.specs.Sum.{join}
 use Rattle.outline.specs.Grid.{Grid}
 use Rattle.rule.specs.declared.Rule.{Rule}
+use Rattle.piece.specs.declared.Mode.{Mode}
 use Rattle.piece.specs.Piece.{Piece, box}
-use Rattle.piece.specs.Straight.{run, between, cost}
+use Rattle.piece.specs.Cuts.{run, between, cost}
 
 unfoldable pub pairsBelow : ℕ → ℕ → ℕ
 pairsBelow last zero = 0
@@ -50,5 +52,8 @@ pub record Valid (columns rows : ℕ) (p : Piece) : Type 0 where
   pub bd : p .b < p .d
   pub dy : p .d ≤ rows
 
-unfoldable pub costs : Grid → Rule → List ℕ
-costs g r = join (λ x. map (λ y. cost g r (box (x .low) (x .high) (y .low) (y .high))) (pairs (g .rows))) (pairs (g .columns))
+unfoldable pub tabled : (Piece → ℕ) → ℕ → ℕ → List ℕ
+tabled f columns rows = join (λ x. map (λ y. f (box (x .low) (x .high) (y .low) (y .high))) (pairs rows)) (pairs columns)
+
+unfoldable pub costs : Mode → Grid → Rule → List ℕ
+costs mode g r = tabled (cost mode g r) (g .columns) (g .rows)

@@ -19,12 +19,13 @@ use Rattle.sum.proofs.Sum.{le-or}
 use Rattle.recurrence.specs.Scheme.{Kind, outside, full, mixed}
 use Rattle.outline.specs.Grid.{Grid}
 use Rattle.rule.specs.declared.Rule.{Rule}
+use Rattle.piece.specs.declared.Mode.the-variants.{Straight}
 use Rattle.piece.specs.Piece.{Piece, box, kind, leftPart, rightPart, lowerPart, upperPart}
 use Rattle.piece.specs.Meant.{meant}
-use Rattle.piece.specs.Straight.{cost}
+use Rattle.piece.specs.Cuts.{cost}
 use Rattle.piece.proofs.Cells as cell
 use Rattle.piece.proofs.Kind.{kind-all, full-cell}
-use Rattle.piece.proofs.Straight.{cost-zero, cost-outside}
+use Rattle.piece.proofs.Cuts.{straight-only, cost-zero, cost-outside}
 use Rattle.piece.proofs.Choice.{choice-vertical, choice-horizontal, choice-some}
 use Rattle.piece.proofs.Bound.{cost-most}
 use Rattle.table.specs.Entry.{pairCount, pairNo, entryOf, Valid}
@@ -72,12 +73,12 @@ module _ (g : Grid) (r : Rule) (t cells : List ℕ) (plan : Plan) (f : Costed g 
   pub entry-within : n < length t
   entry-within = omega (arith, z .entry, entry-below _ _ (meant p) w, f .entries)
 
-  pub cost-here : getD t n 0 ≡ cost g r (meant p)
+  pub cost-here : getD t n 0 ≡ cost Straight g r (meant p)
   cost-here = ap (λ i. getD t i 0) (z .entry) ∙ f .cost-at (meant p) w
 
   pub verdict-outside : getD t n 0 ≡ 0 → verdict.Outside ≡ verdictOf g r (meant p)
   unfolding verdictOf
-  verdict-outside e = rw (cost-zero g r (meant p) (sym cost-here ∙ e), verdictOf)
+  verdict-outside e = rw (cost-zero Straight g r (meant p) (sym cost-here ∙ e), verdictOf)
 
   -- the cells, as memory has them
   seen : (i j : ℕ) → Within p i j → (getD cells (16 * i + j) 0 ≡ only (g .inside i j) 1) × cell.Within (meant p) i j
@@ -103,7 +104,7 @@ module _ (g : Grid) (r : Rule) (t cells : List ℕ) (plan : Plan) (f : Costed g 
   is-mixed e h = go (kind g (meant p)) refl
     where
       go : (k : Kind) → kind g (meant p) ≡ k → kind g (meant p) ≡ mixed
-      go outside q = absurd (e (cost-here ∙ cost-outside g r (meant p) q))
+      go outside q = absurd (e (cost-here ∙ cost-outside Straight g r (meant p) q))
       go full q =
           let s = seen (h .0) (h .1) (h .2) in
           absurd (h .3 (s .0 ∙ ap (λ b. only b 1) (full-cell g (meant p) q (h .0) (h .1) (s .1))))
@@ -114,12 +115,12 @@ module _ (g : Grid) (r : Rule) (t cells : List ℕ) (plan : Plan) (f : Costed g 
 
   -- the costs of two parts together are a number
   module _ (q : Piece) (k : Valid (plan .columns) (plan .rows) q) where
-    part-cost : (i : ℕ) → i ≡ entryOf (plan .columns) (plan .rows) q → getD t i 0 ≡ cost g r q
+    part-cost : (i : ℕ) → i ≡ entryOf (plan .columns) (plan .rows) q → getD t i 0 ≡ cost Straight g r q
     part-cost i e = ap (λ (n : ℕ). getD t n 0) e ∙ f .cost-at q k
 
-    part-most : cost g r q ≤ 2097345000
+    part-most : cost Straight g r q ≤ 2097345000
     part-most =
-        cost-most g r (f .sound) q (omega (arith, k)) (omega (arith, k, f .columns)) (omega (arith, k)) (omega (arith, k, f .rows)) (f .weight)
+        cost-most Straight g r (f .sound) q (omega (arith, k)) (omega (arith, k, f .columns)) (omega (arith, k)) (omega (arith, k, f .rows)) (f .weight)
 
   left-valid : (j : ℕ) → p .a .0 < j → j < p .c .0
       → Valid (plan .columns) (plan .rows) (leftPart (meant p) j) × Valid (plan .columns) (plan .rows) (rightPart (meant p) j)
@@ -136,7 +137,7 @@ module _ (g : Grid) (r : Rule) (t cells : List ℕ) (plan : Plan) (f : Costed g 
   )
 
   across-x : (j : ℕ) → p .a .0 < j → j < p .c .0
-      → across t (cuts-x plan p n) j ≡ cost g r (leftPart (meant p) j) + cost g r (rightPart (meant p) j)
+      → across t (cuts-x plan p n) j ≡ cost Straight g r (leftPart (meant p) j) + cost Straight g r (rightPart (meant p) j)
   unfolding across
   across-x j h k =
       let v = left-valid j h k in
@@ -144,7 +145,7 @@ module _ (g : Grid) (r : Rule) (t cells : List ℕ) (plan : Plan) (f : Costed g 
       (part-cost (rightPart (meant p) j) (v .1) _ (part-x plan p n (z .entry) (f .pairs) j (p .c .0)))
 
   across-y : (j : ℕ) → p .b .0 < j → j < p .d .0
-      → across t (cuts-y plan p n) j ≡ cost g r (lowerPart (meant p) j) + cost g r (upperPart (meant p) j)
+      → across t (cuts-y plan p n) j ≡ cost Straight g r (lowerPart (meant p) j) + cost Straight g r (upperPart (meant p) j)
   unfolding across
   across-y j h k =
       let v = lower-valid j h k in
@@ -191,7 +192,7 @@ module _ (g : Grid) (r : Rule) (t cells : List ℕ) (plan : Plan) (f : Costed g 
 
   module _ (e : getD t n 0 ≡ 0 → ⊥) (h : AllInside cells p false) (u : Found)
       (o : Finds t (cuts-x plan p n) (getD t n 0) u) where
-    met-x : (j : ℕ) → p .a .0 < j → j < p .c .0 → cost g r (leftPart (meant p) j) + cost g r (rightPart (meant p) j) ≡ cost g r (meant p)
+    met-x : (j : ℕ) → p .a .0 < j → j < p .c .0 → cost Straight g r (leftPart (meant p) j) + cost Straight g r (rightPart (meant p) j) ≡ cost Straight g r (meant p)
         → across t (cuts-x plan p n) j ≡ getD t n 0
     met-x j a b q = across-x j a b ∙ q ∙ sym cost-here
 
@@ -212,16 +213,16 @@ module _ (g : Grid) (r : Rule) (t cells : List ℕ) (plan : Plan) (f : Costed g 
         (sized (rightPart (meant p) i) (u .upper) (o .upper l ∙ part-x plan p n (z .entry) (f .pairs) i (p .c .0)))
         ∙ ap (λ k. verdict.Cut (numbered g (lowPart (meant p) k)) (numbered g (highPart (meant p) k)))
         (sym
-        (choice-vertical g r (meant p) i a l (λ j b c q. s .passed j (omega arith) c (met-x j b (omega arith) q))
+        (choice-vertical Straight g r (meant p) i a l (λ j b c q. s .passed j (omega arith) c (met-x j b (omega arith) q))
         (sym (across-x i a l) ∙ s .found l ∙ cost-here))))
 
     module _ (v : Found) (y : Finds t (cuts-y plan p n) (getD t n 0) v) where
-      met-y : (k : ℕ) → p .b .0 < k → k < p .d .0 → cost g r (lowerPart (meant p) k) + cost g r (upperPart (meant p) k) ≡ cost g r (meant p)
+      met-y : (k : ℕ) → p .b .0 < k → k < p .d .0 → cost Straight g r (lowerPart (meant p) k) + cost Straight g r (upperPart (meant p) k) ≡ cost Straight g r (meant p)
           → across t (cuts-y plan p n) k ≡ getD t n 0
       met-y k a b q = across-y k a b ∙ q ∙ sym cost-here
 
       none : p .c .0 ≤ u .line .0 → (k : ℕ) → p .a .0 < k → k < p .c .0
-          → cost g r (leftPart (meant p) k) + cost g r (rightPart (meant p) k) ≡ cost g r (meant p)
+          → cost Straight g r (leftPart (meant p) k) + cost Straight g r (rightPart (meant p) k) ≡ cost Straight g r (meant p)
           → ⊥
       none l k a b q = o .first .passed k (omega arith) (omega arith) (met-x k a b q)
 
@@ -230,8 +231,9 @@ module _ (g : Grid) (r : Rule) (t cells : List ℕ) (plan : Plan) (f : Costed g 
         | inr q ↦ q
         | inl q ↦
             absurd
-            (choice-some g r (meant p) (is-mixed e h) (none l)
-            (λ k a b c. y .first .passed k (omega arith) (omega arith) (met-y k a b c)))
+            (choice-some Straight g r (meant p) (is-mixed e h) (none l)
+            (λ k a b c. y .first .passed k (omega arith) (omega arith) (met-y k a b c))
+            (λ t j l k m z. absurd (straight-only z)))
       ]
 
       pub verdict-horizontal : p .c .0 ≤ u .line .0
@@ -252,5 +254,5 @@ module _ (g : Grid) (r : Rule) (t cells : List ℕ) (plan : Plan) (f : Costed g 
           (sized (upperPart (meant p) j) (v .upper) (y .upper b ∙ part-y plan p n (z .entry) (f .pairs) j (p .d .0)))
           ∙ ap (λ k. verdict.Cut (numbered g (lowPart (meant p) k)) (numbered g (highPart (meant p) k)))
           (sym
-          (choice-horizontal g r (meant p) (none l) j a b (λ k c d q. s .passed k (omega arith) d (met-y k c (omega (arith, s .most)) q))
+          (choice-horizontal Straight g r (meant p) (none l) j a b (λ k c d q. s .passed k (omega arith) d (met-y k c (omega (arith, s .most)) q))
           (sym (across-y j a b) ∙ s .found b ∙ cost-here))))

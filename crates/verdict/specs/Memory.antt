@@ -12,9 +12,10 @@ use Rattle.sum.specs.Sum.{only}
 use Rattle.outline.specs.Grid.{Grid, Sound}
 use Rattle.rule.specs.declared.Rule.{Rule}
 use Rattle.rule.specs.Rules.{limit}
+use Rattle.piece.specs.declared.Mode.the-variants.{Straight}
 use Rattle.piece.specs.Piece.{Piece}
 use Rattle.piece.specs.Meant.{meant}
-use Rattle.piece.specs.Straight.{cost}
+use Rattle.piece.specs.Cuts.{cost}
 use Rattle.table.specs.Entry.{Valid, pairCount, entryOf, entryCount}
 use Rattle.verdict.specs.declared.Plan.{Plan}
 use Rattle.verdict.specs.declared.Numbered.{Numbered}
@@ -28,7 +29,7 @@ pub record Costed (g : Grid) (r : Rule) (table cells : List ℕ) (plan : Plan) :
   pub cells-length : length cells ≡ 256
   pub cell-at : (i j : ℕ) → i < 16 → j < 16 → getD cells (16 * i + j) 0 ≡ only (g .inside i j) 1
   pub entries : entryCount (plan .columns) (plan .rows) ≤ length table
-  pub cost-at : (p : Piece) → Valid (plan .columns) (plan .rows) p → getD table (entryOf (plan .columns) (plan .rows) p) 0 ≡ cost g r p
+  pub cost-at : (p : Piece) → Valid (plan .columns) (plan .rows) p → getD table (entryOf (plan .columns) (plan .rows) p) 0 ≡ cost Straight g r p
 
 pub record Known (plan : Plan) (p : Numbered) : Type 0 where
   pub valid : Valid (plan .columns) (plan .rows) (meant (p .piece))

@@ -17,8 +17,9 @@ use Rattle.outline.specs.Grid.{Grid, Sound, Drawn, stored}
 use Rattle.rule.specs.declared.Rule.{Rule}
 use Rattle.rule.specs.Rules.{limit}
 use Rattle.rule.specs.Charge.{sliverOf, chargeOf}
+use Rattle.piece.specs.declared.Mode.the-variants.{Straight}
 use Rattle.piece.specs.Piece.{Piece, box, mostCost, cells, insideCells, width, height, left, right, bottom, top, sliver, charge}
-use Rattle.piece.specs.Straight.{cost}
+use Rattle.piece.specs.Cuts.{cost}
 use Rattle.piece.proofs.Cells.{cells-product}
 use Rattle.piece.proofs.Bound.{cost-most}
 use Rattle.table.specs.Entry.{pairsBelow, pairCount, pairNo, entryCount, entryOf, Valid, costs}
@@ -40,25 +41,77 @@ use Rattle.widths.proofs.Lane.{pairs-small}
 
 -- the price of a piece of the strip that begins at the x line a
 unfoldable pub priceOf : Grid → Rule → ℕ → ℕ → ℕ → ℕ → ℕ
-priceOf g r w a b d = cost g r (box a (a + w) b d)
+priceOf g r w a b d = cost Straight g r (box a (a + w) b d)
 
--- each piece narrower than w has its cost
-pub record Filled (g : Grid) (r : Rule) (w : ℕ) (t : List ℕ) : Type 0 where
-  pub right : (p : Piece) → Valid (g .columns) (g .rows) p → p .c < p .a + w → getD t (entryOf (g .columns) (g .rows) p) 0 ≡ cost g r p
+-- each piece narrower than w has its price
+pub record Filled (price : Piece → ℕ) (g : Grid) (w : ℕ) (t : List ℕ) : Type 0 where
+  pub right : (p : Piece) → Valid (g .columns) (g .rows) p → p .c < p .a + w → getD t (entryOf (g .columns) (g .rows) p) 0 ≡ price p
+
+-- the strips of one width are stored, whatever the price of a piece is
+module _ (price : Piece → ℕ) (g : Grid) (w : ℕ) (some : 1 ≤ w) (t : List ℕ) (f : Filled price g w t) where
+  module _ (side u : List ℕ) (store : Stored (g .columns) (pairCount (g .rows)) w side t u)
+      (right : (a b d : ℕ) → a + w ≤ g .columns → b < d → d ≤ g .rows → getD side (spot (g .rows) a b d) 0 ≡ price (box a (a + w) b d)) where
+    here : (a b d : ℕ) → a + w ≤ g .columns → b < d → d ≤ g .rows → getD u (entryOf (g .columns) (g .rows) (box a (a + w) b d)) 0 ≡ price (box a (a + w) b d)
+    unfolding spot
+    here a b d l bd dy =
+        ap (λ n. getD u n 0) (Entry.entry-made (g .columns) (g .rows) a (a + w) b d)
+        ∙ store .made a (pairNo (g .rows) b d) l (Entry.pair-below (g .rows) b d bd dy)
+        ∙ right a b d l bd dy
+
+    away : (p : Piece) → Valid (g .columns) (g .rows) p → p .c < p .a + w → getD u (entryOf (g .columns) (g .rows) p) 0 ≡ getD t (entryOf (g .columns) (g .rows) p) 0
+    unfolding entryOf
+    away p v n = store .kept (pairNo (g .columns) (p .a) (p .c) * pairCount (g .rows) + pairNo (g .rows) (p .b) (p .d)) (λ a l. apart a l (le-or (pairNo (g .columns) a (a + w)) (pairNo (g .columns) (p .a) (p .c))))
+      where
+        i : pairNo (g .rows) (p .b) (p .d) < pairCount (g .rows)
+        i = Entry.pair-below (g .rows) (p .b) (p .d) (v .bd) (v .dy)
+
+        other : (a : ℕ) → a + w ≤ g .columns → pairNo (g .columns) a (a + w) ≡ pairNo (g .columns) (p .a) (p .c) → ⊥
+        other a l e =
+            let z = Entry.pair-same (g .columns) a (a + w) (p .a) (p .c) (omega arith) l (v .ac) (v .cx) e in
+            omega (arith, z .0, z .1)
+
+        less : (x y : ℕ) → x ≤ y → (x ≡ y → ⊥) → x < y
+        less x y h z = elim (le-or y x) [
+          | inl k ↦ absurd (z (omega arith))
+          | inr k ↦ k
+        ]
+
+        apart : (a : ℕ) → a + w ≤ g .columns
+            → (pairNo (g .columns) a (a + w) ≤ pairNo (g .columns) (p .a) (p .c)) ⊎ (pairNo (g .columns) (p .a) (p .c) < pairNo (g .columns) a (a + w))
+            → (pairNo (g .columns) (p .a) (p .c) * pairCount (g .rows) + pairNo (g .rows) (p .b) (p .d) < pairNo (g .columns) a (a + w) * pairCount (g .rows))
+            ⊎ (pairNo (g .columns) a (a + w) * pairCount (g .rows) + pairCount (g .rows) ≤ pairNo (g .columns) (p .a) (p .c) * pairCount (g .rows) + pairNo (g .rows) (p .b) (p .d))
+        apart a l (inr z) = inl (omega (arith, i, row-before (pairNo (g .columns) (p .a) (p .c)) (pairNo (g .columns) a (a + w)) (pairCount (g .rows)) z))
+        apart a l (inl z) = inr (omega (arith, row-before (pairNo (g .columns) a (a + w)) (pairNo (g .columns) (p .a) (p .c)) (pairCount (g .rows)) (less _ _ z (other a l))))
+
+    pub filled-more : Filled price g (w + 1) u
+    filled-more = record { right = λ p v n. go p v n (le-or (p .a + w) (p .c)) }
+      where
+        go : (p : Piece) → Valid (g .columns) (g .rows) p → p .c < p .a + (w + 1) → (p .a + w ≤ p .c) ⊎ (p .c < p .a + w) → getD u (entryOf (g .columns) (g .rows) p) 0 ≡ price p
+        go p v n (inr z) = away p v z ∙ f .right p v z
+        go p v n (inl z) =
+            let e : p .a + w ≡ p .c = omega arith in
+            let q : box (p .a) (p .a + w) (p .b) (p .d) ≡ p = (λ i. record { a = p .a; c = e i; b = p .b; d = p .d }) in
+            subst (λ x. getD u (entryOf (g .columns) (g .rows) x) 0 ≡ price x) q (here (p .a) (p .b) (p .d) (omega (arith, v .cx)) (v .bd) (v .dy))
+
+    pub stored-beyond : (k : ℕ) → entryCount (g .columns) (g .rows) ≤ k → getD u k 0 ≡ getD t k 0
+    unfolding entryCount
+    stored-beyond k h =
+        store .kept k
+        (λ a l. inr (omega (arith, row-before (pairNo (g .columns) a (a + w)) (pairCount (g .columns)) (pairCount (g .rows)) (Entry.pair-below (g .columns) a (a + w) (omega arith) l))))
 
 module _ (g : Grid) (r : Rule) (xs ys cs : List ℕ) (sound : Sound g) (drawn : Drawn g xs ys cs) (hw : r .weight ≤ limit) where
-  cost-up : (a c b d : ℕ) → a < c → c ≤ g .columns → b < d → d ≤ g .rows → cost g r (box a c b d) ≤ mostCost
-  cost-up a c b d ac cx bd dy = cost-most g r sound (box a c b d) (omega arith) cx (omega arith) dy hw
+  cost-up : (a c b d : ℕ) → a < c → c ≤ g .columns → b < d → d ≤ g .rows → cost Straight g r (box a c b d) ≤ mostCost
+  cost-up a c b d ac cx bd dy = cost-most Straight g r sound (box a c b d) (omega arith) cx (omega arith) dy hw
 
-  module _ (w : ℕ) (some : 1 ≤ w) (most : w ≤ g .columns) (t : List ℕ) (f : Filled g r w t) where
+  module _ (w : ℕ) (some : 1 ≤ w) (most : w ≤ g .columns) (t : List ℕ) (f : Filled (cost Straight g r) g w t) where
     part : (a c b d : ℕ) → a < c → c ≤ g .columns → c < a + w → b < d → d ≤ g .rows
-        → getD t (pairNo (g .columns) a c * pairCount (g .rows) + pairNo (g .rows) b d) 0 ≡ cost g r (box a c b d)
+        → getD t (pairNo (g .columns) a c * pairCount (g .rows) + pairNo (g .rows) b d) 0 ≡ cost Straight g r (box a c b d)
     part a c b d ac cx n bd dy =
         ap (λ i. getD t i 0) (sym (Entry.entry-made (g .columns) (g .rows) a c b d))
         ∙ f .right (box a c b d) (record { ac = ac; cx = cx; bd = bd; dy = dy }) n
 
     parted-cost : (a b d j : ℕ) → a + w ≤ g .columns → b < d → d ≤ g .rows → a < j → j < a + w
-        → parted t (g .columns) (pairCount (g .rows)) a (a + w) (pairNo (g .rows) b d) j ≡ cost g r (box a j b d) + cost g r (box j (a + w) b d)
+        → parted t (g .columns) (pairCount (g .rows)) a (a + w) (pairNo (g .rows) b d) j ≡ cost Straight g r (box a j b d) + cost Straight g r (box j (a + w) b d)
     unfolding parted
     parted-cost a b d j l bd dy p q = ap₂ _+_ (part a j b d p (omega arith) q bd dy) (part j (a + w) b d q l (omega arith) bd dy)
 
@@ -121,10 +174,10 @@ module _ (g : Grid) (r : Rule) (xs ys cs : List ℕ) (sound : Sound g) (drawn : 
       module _ (side made : List ℕ) (cheap : (a p q : ℕ) → a < 16 → p < q → q ≤ g .rows → getD side (spot (g .rows) a p q) 0 ≤ mostCost)
           (weighed : Weighed (g .columns) (pairCount (g .rows)) w t side made) where
         vertical : (a b d : ℕ) → a + w ≤ g .columns → b < d → d ≤ g .rows
-            → Lowest (λ j. cost g r (box a j b d) + cost g r (box j (a + w) b d)) a (a + w) uncut (getD made (spot (g .rows) a b d) 0)
+            → Lowest (λ j. cost Straight g r (box a j b d) + cost Straight g r (box j (a + w) b d)) a (a + w) uncut (getD made (spot (g .rows) a b d) 0)
         unfolding spot
         vertical a b d l bd dy =
-            lowest-same (parted t (g .columns) (pairCount (g .rows)) a (a + w) (pairNo (g .rows) b d)) (λ j. cost g r (box a j b d) + cost g r (box j (a + w) b d)) a (a + w) uncut uncut
+            lowest-same (parted t (g .columns) (pairCount (g .rows)) a (a + w) (pairNo (g .rows) b d)) (λ j. cost Straight g r (box a j b d) + cost Straight g r (box j (a + w) b d)) a (a + w) uncut uncut
             (getD made (16 * pairNo (g .rows) b d + a) 0) (getD made (16 * pairNo (g .rows) b d + a) 0)
             (λ j p q. parted-cost a b d j l bd dy p q)
             refl
@@ -157,60 +210,9 @@ module _ (g : Grid) (r : Rule) (xs ys cs : List ℕ) (sound : Sound g) (drawn : 
             none p q pq qr (inl u) = omega arith
             none p q pq qr (inr u) = omega (arith, u .0)
 
-    -- the strips of the width w are stored
-    module _ (side u : List ℕ) (store : Stored (g .columns) (pairCount (g .rows)) w side t u)
-        (right : (a b d : ℕ) → a + w ≤ g .columns → b < d → d ≤ g .rows → getD side (spot (g .rows) a b d) 0 ≡ cost g r (box a (a + w) b d)) where
-      here : (a b d : ℕ) → a + w ≤ g .columns → b < d → d ≤ g .rows → getD u (entryOf (g .columns) (g .rows) (box a (a + w) b d)) 0 ≡ cost g r (box a (a + w) b d)
-      unfolding spot
-      here a b d l bd dy =
-          ap (λ n. getD u n 0) (Entry.entry-made (g .columns) (g .rows) a (a + w) b d)
-          ∙ store .made a (pairNo (g .rows) b d) l (Entry.pair-below (g .rows) b d bd dy)
-          ∙ right a b d l bd dy
-
-      away : (p : Piece) → Valid (g .columns) (g .rows) p → p .c < p .a + w → getD u (entryOf (g .columns) (g .rows) p) 0 ≡ getD t (entryOf (g .columns) (g .rows) p) 0
-      unfolding entryOf
-      away p v n = store .kept (pairNo (g .columns) (p .a) (p .c) * pairCount (g .rows) + pairNo (g .rows) (p .b) (p .d)) (λ a l. apart a l (le-or (pairNo (g .columns) a (a + w)) (pairNo (g .columns) (p .a) (p .c))))
-        where
-          i : pairNo (g .rows) (p .b) (p .d) < pairCount (g .rows)
-          i = Entry.pair-below (g .rows) (p .b) (p .d) (v .bd) (v .dy)
-
-          other : (a : ℕ) → a + w ≤ g .columns → pairNo (g .columns) a (a + w) ≡ pairNo (g .columns) (p .a) (p .c) → ⊥
-          other a l e =
-              let z = Entry.pair-same (g .columns) a (a + w) (p .a) (p .c) (omega arith) l (v .ac) (v .cx) e in
-              omega (arith, z .0, z .1)
-
-          less : (x y : ℕ) → x ≤ y → (x ≡ y → ⊥) → x < y
-          less x y h z = elim (le-or y x) [
-            | inl k ↦ absurd (z (omega arith))
-            | inr k ↦ k
-          ]
-
-          apart : (a : ℕ) → a + w ≤ g .columns
-              → (pairNo (g .columns) a (a + w) ≤ pairNo (g .columns) (p .a) (p .c)) ⊎ (pairNo (g .columns) (p .a) (p .c) < pairNo (g .columns) a (a + w))
-              → (pairNo (g .columns) (p .a) (p .c) * pairCount (g .rows) + pairNo (g .rows) (p .b) (p .d) < pairNo (g .columns) a (a + w) * pairCount (g .rows))
-              ⊎ (pairNo (g .columns) a (a + w) * pairCount (g .rows) + pairCount (g .rows) ≤ pairNo (g .columns) (p .a) (p .c) * pairCount (g .rows) + pairNo (g .rows) (p .b) (p .d))
-          apart a l (inr z) = inl (omega (arith, i, row-before (pairNo (g .columns) (p .a) (p .c)) (pairNo (g .columns) a (a + w)) (pairCount (g .rows)) z))
-          apart a l (inl z) = inr (omega (arith, row-before (pairNo (g .columns) a (a + w)) (pairNo (g .columns) (p .a) (p .c)) (pairCount (g .rows)) (less _ _ z (other a l))))
-
-      pub filled-more : Filled g r (w + 1) u
-      filled-more = record { right = λ p v n. go p v n (le-or (p .a + w) (p .c)) }
-        where
-          go : (p : Piece) → Valid (g .columns) (g .rows) p → p .c < p .a + (w + 1) → (p .a + w ≤ p .c) ⊎ (p .c < p .a + w) → getD u (entryOf (g .columns) (g .rows) p) 0 ≡ cost g r p
-          go p v n (inr z) = away p v z ∙ f .right p v z
-          go p v n (inl z) =
-              let e : p .a + w ≡ p .c = omega arith in
-              let q : box (p .a) (p .a + w) (p .b) (p .d) ≡ p = (λ i. record { a = p .a; c = e i; b = p .b; d = p .d }) in
-              subst (λ x. getD u (entryOf (g .columns) (g .rows) x) 0 ≡ cost g r x) q (here (p .a) (p .b) (p .d) (omega (arith, v .cx)) (v .bd) (v .dy))
-
-      pub stored-beyond : (k : ℕ) → entryCount (g .columns) (g .rows) ≤ k → getD u k 0 ≡ getD t k 0
-      unfolding entryCount
-      stored-beyond k h =
-          store .kept k
-          (λ a l. inr (omega (arith, row-before (pairNo (g .columns) a (a + w)) (pairCount (g .columns)) (pairCount (g .rows)) (Entry.pair-below (g .columns) a (a + w) (omega arith) l))))
-
 -- where the fill stands
 pub record State (g : Grid) (r : Rule) (w : ℕ) (t₀ t side : List ℕ) : Type 0 where
-  pub filled : Filled g r w t
+  pub filled : Filled (cost Straight g r) g w t
   pub beyond : Beyond (entryCount (g .columns) (g .rows)) t₀ t
   pub side-long : length side ≡ 1920
   pub cheap : (a p q : ℕ) → a < 16 → p < q → q ≤ g .rows → getD side (spot (g .rows) a p q) 0 ≤ mostCost
@@ -272,11 +274,11 @@ module _ (columns rows : ℕ) (xs ys cs : List ℕ) (r : Rule) (t₀ : List ℕ)
       unfolding stored priceOf
       told-width made₂ u long settled store =
           record {
-            filled = filled-more G r xs ys cs (ready .sound) (ready .drawn) (ready .weight-most) w some most t (state .filled) made₂ u stored-rows right;
+            filled = filled-more (cost Straight G r) G w some t (state .filled) made₂ u stored-rows right;
             beyond =
                 record {
                   long = store .long ∙ state .beyond .long;
-                  kept = λ k h. stored-beyond G r xs ys cs (ready .sound) (ready .drawn) (ready .weight-most) w some most t (state .filled) made₂ u stored-rows right k h ∙ state .beyond .kept k h;
+                  kept = λ k h. stored-beyond (cost Straight G r) G w some t (state .filled) made₂ u stored-rows right k h ∙ state .beyond .kept k h;
                 };
             side-long = long ∙ weighed .long ∙ state .side-long;
             cheap =
@@ -298,11 +300,11 @@ module _ (columns rows : ℕ) (xs ys cs : List ℕ) (r : Rule) (t₀ : List ℕ)
           stored-rows : Stored columns (pairCount rows) w made₂ t u
           stored-rows = subst (λ i. Stored columns i w made₂ t u) e store
 
-          right : (a b d : ℕ) → a + w ≤ columns → b < d → d ≤ rows → getD made₂ (spot rows a b d) 0 ≡ cost G r (box a (a + w) b d)
+          right : (a b d : ℕ) → a + w ≤ columns → b < d → d ≤ rows → getD made₂ (spot rows a b d) 0 ≡ cost Straight G r (box a (a + w) b d)
           right a b d l bd dy = end .done a b d (omega arith) bd dy (all b d dy)
 
   pub state-all : (w : ℕ) (t side : List ℕ) → columns < w → State G r w t₀ t side
-      → t ≡ costs G r ++ drop (length (costs G r)) t₀
+      → t ≡ costs Straight G r ++ drop (length (costs Straight G r)) t₀
   unfolding stored
   state-all w t side h state =
-      Entry.costs-whole G r t₀ t (omega (arith, ready .room, state .beyond .long)) (state .beyond .long) (λ p v. state .filled .right p v (omega (arith, v .cx))) (state .beyond .kept)
+      Entry.costs-whole Straight G r t₀ t (omega (arith, ready .room, state .beyond .long)) (state .beyond .long) (λ p v. state .filled .right p v (omega (arith, v .cx))) (state .beyond .kept)

@@ -2,6 +2,7 @@
 use mathlib.Core.Path.{_≡_, sym, _∙_, ap}
 use borrow.Author.Needs.{needs}
 use Rattle.rule.specs.Rules.{madeTold, given, ruleTold}
+use Rattle.piece.specs.declared.Mode.the-variants.{Straight}
 use Rattle.demands.specs.Promise.{asked}
 use Rattle.fracture.proofs.Settled.{told-rule, rule-range, rule-outcome}
 use Rattle.fracture.proofs.fracture.Statement.{statement}
@@ -30,10 +31,10 @@ same-length-2 : tie.Need-same-length-2
 same-length-2 c = search needs
 
 returns : tie.Need-returns
-returns c = c .before .before .before .before .fracture-by .ensures .0 ∙ rule-outcome (asked _ _ _ _ _ _) (made (c .before .before .before .before .before .before .before .before))
+returns c = c .before .before .before .before .fracture-by .ensures .0 ∙ rule-outcome (asked Straight _ _ _ _ _ _) (made (c .before .before .before .before .before .before .before .before))
 
 returns-2 : tie.Need-returns-2
-returns-2 c = told-rule (asked _ _ _ _ _ _) (c .before .why .given .0 .0) (sym (ap madeTold (c .before .why .given .1)) ∙ c .before .before .before .new .ensures)
+returns-2 c = told-rule (asked Straight _ _ _ _ _ _) (c .before .why .given .0 .0) (sym (ap madeTold (c .before .why .given .1)) ∙ c .before .before .before .new .ensures)
 
 pub fracture-spec : {M : Type 1} → statement M
 fracture-spec =

@@ -3,6 +3,7 @@ use Prim.Native.Nat.{_+_, _-_, _≤_}
 use mathlib.Core.Path.{_≡_}
 use native.Mathlib.Omega.{arith}
 use Rattle.outline.specs.Grid.{stored}
+use Rattle.piece.specs.declared.Mode.the-variants.{Straight}
 use Rattle.table.specs.Entry.{pairsBelow, entryCount}
 use Rattle.table.specs.Fill.{Reached, Beyond}
 use Rattle.table.proofs.Pairs.{first-all, first-back, first-enough}
@@ -15,7 +16,7 @@ abbrev Inv-loop : tie.InvT-loop
 Inv-loop xs ys cells columns rows rule table₀ first₀ a₀ table first a =
     (a ≤ columns)
     × ((first ≡ pairsBelow columns a)
-    × (Reached (stored columns rows xs ys cells) rule table a (columns + 1) × Beyond (entryCount columns rows) table₀ table))
+    × (Reached Straight (stored columns rows xs ys cells) rule table a (columns + 1) × Beyond (entryCount columns rows) table₀ table))
 
 abbrev μ-loop : tie.MeasureT-loop
 μ-loop xs ys cells columns rows rule table₀ first₀ a₀ table first a = a

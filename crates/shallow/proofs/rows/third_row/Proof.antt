@@ -3,8 +3,9 @@ use Prim.Native.Nat.{ℕ, _+_, _-_}
 use mathlib.Core.Path.{_≡_, sym, _∙_, ap, subst}
 use native.Mathlib.Omega.{arith}
 use Rattle.outline.specs.Grid.{Grid}
+use Rattle.piece.specs.declared.Mode.the-variants.{Straight}
 use Rattle.piece.specs.Piece.{box}
-use Rattle.piece.specs.Straight.{cost}
+use Rattle.piece.specs.Cuts.{cost}
 use Rattle.shallow.specs.Sums.{Whole}
 use Rattle.shallow.specs.Rows.{ThreeRows}
 use Rattle.shallow.proofs.Summing.{whole-stacked}
@@ -23,7 +24,7 @@ Of g c = (let a = entry c .args in ThreeRows g (a .rule) (a .strip) (a .low) (a 
 
 -- its piece between the y lines b and d
 abbrev Price : Grid → tie.After-least-cuts → ℕ → ℕ → ℕ
-Price g c b d = (let a = entry c .args in cost g (a .rule) (box (a .strip .a .0) (a .strip .c .0) b d))
+Price g c b d = (let a = entry c .args in cost Straight g (a .rule) (box (a .strip .a .0) (a .strip .c .0) b d))
 
 first-is : (c : tie.After-settled) (g : Grid) → Of g (c .before) → c .settled .result ≡ Price g (c .before) 0 1
 first-is c g w =

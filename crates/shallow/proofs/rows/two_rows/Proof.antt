@@ -3,8 +3,9 @@ use Prim.Native.Nat.{ℕ, _+_, _-_}
 use mathlib.Core.Path.{_≡_, sym, _∙_, ap, subst}
 use native.Mathlib.Omega.{arith}
 use Rattle.outline.specs.Grid.{Grid}
+use Rattle.piece.specs.declared.Mode.the-variants.{Straight}
 use Rattle.piece.specs.Piece.{box}
-use Rattle.piece.specs.Straight.{cost}
+use Rattle.piece.specs.Cuts.{cost}
 use Rattle.shallow.specs.Sums.{Whole}
 use Rattle.shallow.specs.Rows.{TwoRows}
 use Rattle.shallow.proofs.Summing.{whole-stacked}
@@ -22,7 +23,7 @@ abbrev Of : Grid → ℕ → tie.After-least-cuts → Type 0
 Of g b c = (let a = entry c .args in TwoRows g (a .rule) (a .strip) b (a .low) (a .high) (a .table .now))
 
 first-is : (c : tie.After-settled) (g : Grid) (b : ℕ) → Of g b (c .before)
-    → c .settled .result ≡ cost g (entry (c .before) .args .rule) (box (entry (c .before) .args .strip .a .0) (entry (c .before) .args .strip .c .0) b (b + 1))
+    → c .settled .result ≡ cost Straight g (entry (c .before) .args .rule) (box (entry (c .before) .args .strip .a .0) (entry (c .before) .args .strip .c .0) b (b + 1))
 first-is c g b w =
     row-cost g _ _ _ (w .placed) b (b + 1) _ _ _ _ (omega arith) (omega (arith, w .rows-are)) (w .low-sums)
     (ap (λ n. n - 3) (w .placed .pairs-are) ∙ top-pairs (g .rows) b (w .rows-are) .0)
@@ -31,7 +32,7 @@ first-is c g b w =
 
 third-is : (c : tie.After-settled2) (g : Grid) (b : ℕ) → Of g b (c .before .before)
     → c .settled2 .result
-    ≡ cost g (entry (c .before .before) .args .rule) (box (entry (c .before .before) .args .strip .a .0) (entry (c .before .before) .args .strip .c .0) (b + 1) (b + 2))
+    ≡ cost Straight g (entry (c .before .before) .args .rule) (box (entry (c .before .before) .args .strip .a .0) (entry (c .before .before) .args .strip .c .0) (b + 1) (b + 2))
 third-is c g b w =
     row-cost g _ _ _ (w .placed) (b + 1) (b + 2) _ _ _ _ (omega arith) (omega (arith, w .rows-are)) (w .high-sums)
     (ap (λ n. n - 3 + 2) (w .placed .pairs-are) ∙ top-pairs (g .rows) b (w .rows-are) .1 .1)
