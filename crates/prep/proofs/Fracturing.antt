@@ -78,5 +78,5 @@ told-listed ask (Done shots cost sliver) table list e =
 told-listed ask (Refused why shots) table list e = tt
 
 pub outcome-of : (f : Figure) (l ns : List ℕ) (t w : ℕ) (table list : List ℕ) {o : Outcome} → o ≡ outcome (asked Straight l ns t w table list)
-    → l ≡ f .numbers → ns ≡ f .lengths → o ≡ outcome (record { figure = f; threshold = t; weight = w; table = table; list = list })
+    → l ≡ f .numbers → ns ≡ f .lengths → o ≡ outcome (record { mode = Straight; figure = f; threshold = t; weight = w; table = table; list = list })
 outcome-of f l ns t w table list e p q = e ∙ ap₂ (λ (a b : List ℕ). outcome (asked Straight a b t w table list)) p q

@@ -14,6 +14,7 @@ ghost use mathlib.Core.Bool.{true, _||_};
 ghost use mathlib.Core.Path.{_≡_};
 ghost use Prim.Native.Nat.{_≤_, _<_};
 ghost use Rattle.job.specs.Calls.{taken, told as handed};
+ghost use Rattle.piece.specs.declared.Mode.the-variants.{Straight};
 ghost use Rattle.demands.specs.Promise.{outcome};
 ghost use Rattle.fracture.specs.Told.{told};
 ghost use Rattle.prep.specs.Lines.{refusedBy};
@@ -96,7 +97,7 @@ fn fracture_outline(
 ) -> Fractured
     requires { ⌜ Sound (now job) header ⌝ }
     requires { ⌜ k < header .outlines ⌝ }
-    ensures { λ a. ⌜ told a (now (table .exit)) (now (list .exit)) ≡ outcome (record { figure = said (now (job .entry)) k; threshold = header .threshold; weight = header .weight; table = now (table .entry); list = now (list .entry) }) ⌝ }
+    ensures { λ a. ⌜ told a (now (table .exit)) (now (list .exit)) ≡ outcome (record { mode = Straight; figure = said (now (job .entry)) k; threshold = header .threshold; weight = header .weight; table = now (table .entry); list = now (list .entry) }) ⌝ }
 {
     let mut corners = [0u16; 2 * MOST_CORNERS];
     let mut lengths = [0u16; MOST_RINGS];
