@@ -66,7 +66,9 @@ enum pw_refusal {
   PW_RECORD = 16,       /* a record out of order, of another data type or of wrong length, an XY without points, or
                            bytes after ENDEL */
   PW_NOT_CLOSED = 17,   /* last point unlike the first */
-  PW_EXTENT = 18        /* extent above 65535 */
+  PW_EXTENT = 18,       /* extent above 65535 */
+  PW_SHOT_LIST = 21     /* a shot list whose length is no multiple of four, or a shot whose high x or y is not
+                           above its low one */
 };
 
 /* Room that is enough for every figure and every job. */
@@ -146,6 +148,20 @@ uint32_t pw_gdsii_read(const uint8_t *element, size_t len, uint16_t *list, size_
 uint32_t pw_gdsii_fracture(const uint8_t *element, size_t len, uint32_t *table, size_t table_len,
                            uint16_t *list, size_t list_len, uint32_t *shots, uint32_t *cost, uint32_t *sliver,
                            int32_t *shift_x, int32_t *shift_y, size_t *offset);
+
+/* A shot with its partner's number in the list, or its own number where it has none. */
+struct pw_joined {
+  uint16_t x_low, y_low, x_high, y_high;
+  size_t partner;
+};
+
+/* Joins the shots of a list (4 numbers each) in pairs, for a writer that exposes an L in one flash. Two shots
+ * can be joined when a right side touches a left one, or a top a bottom, along a stretch and at least one end
+ * of these sides coincides. In list order, each free shot takes the first later free one that it can join.
+ * Afterwards the front of table holds the shots with their partners; flashes is shots less pairs. What lies
+ * beyond the shots is not touched.
+ * Refuses: PW_SHOT_LIST, then PW_BUFFER_SHORT where the table has fewer entries than there are shots. */
+uint32_t pw_join(const uint16_t *list, size_t list_len, struct pw_joined *table, size_t table_len, size_t *flashes);
 
 #ifdef __cplusplus
 }

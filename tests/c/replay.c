@@ -69,6 +69,28 @@ ROOM(table, 32)
 ROOM(list, 16)
 ROOM(lengths, 16)
 
+/* a table of pairs, its entries field by field */
+static struct pw_joined room_of_pairs[MOST];
+
+static struct pw_joined *lend_pairs(size_t length, uint32_t mark) {
+  for (size_t i = 0; i < length + 2 * MARGIN; i++) {
+    uint32_t x = mark + (uint32_t)i * 2654435761u;
+    struct pw_joined entry = {(uint16_t)x, (uint16_t)(x >> 16), (uint16_t)~x, (uint16_t)~(x >> 16), x};
+    room_of_pairs[i] = entry;
+  }
+  return room_of_pairs + MARGIN;
+}
+
+static uint32_t hash_pairs(size_t length) {
+  uint32_t h = 2166136261u;
+  for (size_t i = 0; i < length + 2 * MARGIN; i++) {
+    const struct pw_joined *e = &room_of_pairs[i];
+    uint32_t fields[6] = {e->x_low, e->y_low, e->x_high, e->y_high, (uint32_t)e->partner, (uint32_t)((uint64_t)e->partner >> 32)};
+    for (size_t f = 0; f < 6; f++) h = (h ^ fields[f]) * 16777619u;
+  }
+  return h;
+}
+
 /* ---- comparison */
 
 static uint64_t replayed, wrong;
@@ -213,6 +235,15 @@ static void fracture_boundary(void) {
   expect("list", hash_list(list_len));
 }
 
+static void join(void) {
+  size_t list_len = size(), table_len = size(), flashes = 77;
+  uint32_t mark = word();
+  for (size_t i = 0; i < list_len; i++) corners[i] = (uint16_t)word();
+  expect("join", pw_join(corners, list_len, lend_pairs(table_len, mark), table_len, &flashes));
+  expect("flashes", flashes);
+  expect("pairs", hash_pairs(table_len));
+}
+
 int main(void) {
   int over = 0;
   while (!over) {
@@ -229,6 +260,7 @@ int main(void) {
     case 10: read_boundary(); break;
     case 11: fracture_boundary(); break;
     case 12: over = 1; break;
+    case 30: join(); break;
     default:
       say("replay: the record is not whole\n");
       return 2;

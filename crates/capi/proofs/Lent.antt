@@ -5,8 +5,9 @@
 --   outline-missing   == 13, for k not below the count of a sound job
 --   outline-part      == where outline k of a sound job stands
 --   signed-lent       == two signed numbers that are lent on as they are, read back from their bits
+--   pairing-lent      == a pairing's answer, said by its number and its flashes
 use Prim.Native.Nat.{ℕ, _-_, _<_, _≤_}
-use mathlib.Core.Path.{_≡_, _∙_, sym, ap, ap₂}
+use mathlib.Core.Path.{_≡_, refl, _∙_, sym, ap, ap₂}
 use mathlib.Core.List.{List}
 use native.Mathlib.Omega.{arith}
 use lib.ListN.{length, getD}
@@ -22,7 +23,10 @@ use Rattle.job.specs.Job.{Header, Job, job}
 use Rattle.job.specs.Steps.{whole, located}
 use Rattle.job.specs.Calls.{noPart}
 use Rattle.job.proofs.Calls.{fault-whole, read-whole, job-said, located-nth}
-use Rattle.capi.specs.Lent.{outlineLent, jobPart, partSaid, outlineSaid}
+use Rattle.join.specs.declared.Joined.{Joined}
+use Rattle.join.specs.declared.Pairing.{Pairing}
+use Rattle.join.specs.Join.{joinLent, joinTold, Promise}
+use Rattle.capi.specs.Lent.{outlineLent, jobPart, partSaid, outlineSaid, flashesOf, pairingNo}
 
 pub renumbered : {A : Type 0} (said : ℕ → A) {n m : ℕ} {b : A} → n ≡ m → said m ≡ b → said n ≡ b
 renumbered said e f = ap said e ∙ f
@@ -30,6 +34,14 @@ renumbered said e f = ap said e ∙ f
 pub signed-lent : {A : Type 0} (said : ℤ → ℤ → A) {x y : ℤ} {b : A} → SFits w32 x → SFits w32 y → said x y ≡ b
     → said (toZ w32 (ofZ w32 x)) (toZ w32 (ofZ w32 y)) ≡ b
 signed-lent said {x} {y} f g e = ap₂ said (toZ-ofZ w32 x f) (toZ-ofZ w32 y g) ∙ e
+
+told-lent : (answer : Pairing) (u : List Joined) → joinTold answer u ≡ joinLent (pairingNo answer) (flashesOf answer) u
+told-lent (Pairing.Flashes n) u = refl
+told-lent (Pairing.Refused why) u = refl
+
+pub pairing-lent : (l : List ℕ) (t u : List Joined) (answer : Pairing) (n f : ℕ) → Promise l t (joinTold answer u) → f ≡ flashesOf answer → n ≡ pairingNo answer
+    → Promise l t (joinLent n f u)
+pairing-lent l t u answer n f p e g = simp (e, g) (rw (sym (told-lent answer u)) p)
 
 module _ (s : List ℕ) (k : ℕ) where
   pub outline-fault : {r : Refusal} {p n : ℕ} → fault r p ≡ whole s → n ≡ refusalNo r → outlineLent n 0 0 p ≡ outlineSaid s k

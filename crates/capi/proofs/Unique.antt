@@ -10,6 +10,7 @@
 --   write-one                   == pw_write_header, pw_write_outline
 --   boundary-one                == pw_gdsii_read
 --   plate-one                   == pw_gdsii_fracture
+--   join-one                    == pw_join
 use Prim.Native.Nat.{ℕ}
 use mathlib.Core.Path.{_≡_, sym, _∙_, ap}
 use mathlib.Core.List.{List}
@@ -18,6 +19,9 @@ use Rattle.rule.specs.Rules.{Told}
 use Rattle.demands.specs.Promise.{Outcome}
 use Rattle.job.specs.Calls.{CheckSaid, UnpackSaid, WriteSaid}
 use Rattle.gdsii.specs.Calls.{BoundarySaid, PlateSaid}
+use Rattle.join.specs.declared.Joined.{Joined}
+use Rattle.join.specs.Join.{JoinSaid, joinLent, Promise}
+use Rattle.join.proofs.Settled.{join-settled}
 use Rattle.capi.specs.Lent.{presetLent, fractureLent, NumberSaid, numberLent, checkLent, OutlineSaid, outlineLent, unpackLent, writeLent, boundaryLent, plateLent}
 
 pub preset-one : (said : Told) (n t w n′ t′ w′ : ℕ) → presetLent n t w ≡ said → presetLent n′ t′ w′ ≡ said
@@ -124,3 +128,9 @@ plate-one said n s c v at n′ s′ c′ v′ at′ x y x′ y′ table list tab
       ap (λ (o : PlateSaid). o .table) e,
       ap (λ (o : PlateSaid). o .list) e,
     )
+
+pub join-one : (l : List ℕ) (t : List Joined) (n f n′ f′ : ℕ) (table table′ : List Joined)
+    → Promise l t (joinLent n f table) → Promise l t (joinLent n′ f′ table′) → (n ≡ n′) × (f ≡ f′) × (table ≡ table′)
+join-one l t n f n′ f′ table table′ p q =
+    let e = join-settled l t (joinLent n f table) (joinLent n′ f′ table′) p q in
+    (ap (λ (o : JoinSaid). o .number) e, ap (λ (o : JoinSaid). o .flashes) e, ap (λ (o : JoinSaid). o .table) e)

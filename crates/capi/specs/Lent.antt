@@ -8,6 +8,7 @@
 --   OutlineSaid, outlineSaid s k  == where outline k of the job s starts and how long it is, or the refusal and the offset
 --   outlineLent                == the number returned and the numbers lent
 --   boundaryLent, plateLent    == the number returned, the numbers lent, and what the slices lent hold then
+--   flashesOf, pairingNo       == the flashes and the number of a pairing's answer; what is lent of it is `joinLent`
 use Prim.Native.Nat.{ℕ, _-_}
 use mathlib.Core.List.{List}
 use mathlib.Core.Bool.{cond}
@@ -22,6 +23,7 @@ use Rattle.number.specs.Reading.{Reading, read, fault}
 use Rattle.job.specs.Job.{Job, Part, job}
 use Rattle.job.specs.Calls.{CheckSaid, UnpackSaid, WriteSaid, noPart}
 use Rattle.gdsii.specs.Calls.{BoundarySaid, PlateSaid}
+use Rattle.join.specs.declared.Pairing.{Pairing}
 
 abbrev pub presetLent : ℕ → ℕ → ℕ → Told
 presetLent n t w = record { number = n; threshold = t; weight = w }
@@ -93,3 +95,11 @@ plateLent n shots cost sliver x y at table list =
       table = table;
       list = list;
     }
+
+abbrev pub flashesOf : Pairing → ℕ
+flashesOf (Pairing.Flashes n) = n
+flashesOf (Pairing.Refused why) = 0
+
+abbrev pub pairingNo : Pairing → ℕ
+pairingNo (Pairing.Flashes n) = 0
+pairingNo (Pairing.Refused why) = refusalNo why

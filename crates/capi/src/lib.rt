@@ -11,6 +11,8 @@ use job::unpack;
 use job::unpack::Unpacked;
 use job::write;
 use job::write::Written;
+use join::Joined;
+use join::Pairing;
 use number::Cursor;
 use number::Read;
 use refusal::Refusal;
@@ -28,7 +30,8 @@ ghost use Rattle.fracture.specs.Told.{told};
 ghost use Rattle.number.specs.Number.{number as readNumber};
 ghost use Rattle.job.specs.Calls.{checked, unpacked, headerWritten, outlineWritten};
 ghost use Rattle.gdsii.specs.Calls.{boundaryRead, boundaryFractured};
-ghost use Rattle.capi.specs.Lent.{presetLent, numberLent, numberSaid, checkLent, outlineLent, outlineSaid, unpackLent, writeLent, fractureLent, boundaryLent, plateLent};
+ghost use Rattle.join.specs.Join.{joinLent, Promise};
+ghost use Rattle.capi.specs.Lent.{presetLent, numberLent, numberSaid, checkLent, outlineLent, outlineSaid, unpackLent, writeLent, fractureLent, boundaryLent, plateLent, flashesOf, pairingNo};
 
 // The rule of a preset, or 15.
 #[no_mangle]
@@ -364,4 +367,35 @@ pub extern "C" fn pw_gdsii_fracture(
             refusal_no(r)
         }
     }
+}
+
+// The flashes of an answer; none beside a refusal.
+fn flashes_of(answer: Pairing) -> usize
+    ensures { λ r. ⌜ r ≡ flashesOf answer ⌝ }
+{
+    match answer {
+        Pairing::Flashes(n) => n,
+        Pairing::Refused(_) => 0,
+    }
+}
+
+// The number of an answer's refusal, 0 for none.
+fn pairing_no(answer: Pairing) -> u32
+    ensures { λ r. ⌜ r ≡ pairingNo answer ⌝ }
+{
+    match answer {
+        Pairing::Flashes(_) => 0,
+        Pairing::Refused(why) => refusal_no(why),
+    }
+}
+
+// How many flashes the shots of a list take, joined in pairs, with the shots and their partners at the front of the table; or 21, 14.
+#[no_mangle]
+pub extern "C" fn pw_join(list: &[u16], table: &mut [Joined], flashes: &mut usize) -> u32
+    ensures settled { λ r. ⌜ Promise (now (list .entry)) (now (table .entry)) (joinLent r (now (flashes .exit)) (now (table .exit))) ⌝ }
+{
+    let answer = join::join(list, table);
+    let n = flashes_of(answer);
+    *flashes = n;
+    pairing_no(answer)
 }

@@ -1,1 +1,2 @@
 pub mod Shot
+pub mod Bad

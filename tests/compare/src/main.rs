@@ -9,6 +9,7 @@
 mod fractures;
 mod gdsii;
 mod jobs;
+mod joins;
 mod progress;
 mod record;
 mod room;
@@ -82,6 +83,8 @@ fn main() {
     gdsii::longest(&plan, &progress);
     gdsii::others(&plan, &progress);
     gdsii::elements(&plan, &progress);
+    joins::rows(&plan, &progress);
+    joins::lists(&plan, &progress);
     if let Some(file) = &plan.record {
         record::write(file, plan.seed, &progress);
     }

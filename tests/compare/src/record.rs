@@ -6,13 +6,15 @@
 //! largest there is stands as 0xffffffff. Then its outcome, two words for each: the number, the single
 //! numbers, a hash over each lent buffer with 16 elements before and beyond it. Calls: 1 preset,
 //! 2 fracture, 3 fracture by the default rule, 4 number, 5 job check, 6 job outline, 7 unpack, 8 write
-//! header, 9 write outline, 10 read a boundary, 11 fracture one, 12 the end. A shift has its sign.
+//! header, 9 write outline, 10 read a boundary, 11 fracture one, 12 the end, 30 join. A shift has its sign.
+//! An entry of a table of pairs is hashed field by field, its partner as two words.
 
 use crate::progress::Progress;
 use drawings::jobs::{damaged, outline, sound, DAMAGES};
 use drawings::seeded::Seeded;
-use drawings::{elements, figures, outlines};
+use drawings::{elements, figures, outlines, shots};
 use law::figure::figure;
+use law::joining::Joined;
 use law::{Calls, Drawing, Law, Told};
 use std::io::Write;
 
@@ -20,6 +22,7 @@ const MARGIN: usize = 16;
 const OUTLINES: u64 = 6_000;
 const JOBS: u64 = 6_000;
 const ELEMENTS: u64 = 6_000;
+const LISTS: u64 = 6_000;
 
 struct Record {
     words: Vec<u32>,
@@ -156,6 +159,27 @@ impl Record {
         self.outcome(told, 6, &[hash(table.into_iter()), hash(list.into_iter().map(u32::from))]);
     }
 
+    fn join(&mut self, list: &[u16], entries: usize, mark: u32) {
+        self.words.push(30);
+        self.size(list.len());
+        self.size(entries);
+        self.words.push(mark);
+        self.words.extend(list.iter().map(|&number| number as u32));
+        let mut table = lend(entries, mark, 32, |x| Joined {
+            x_low: x as u16,
+            y_low: (x >> 16) as u16,
+            x_high: !x as u16,
+            y_high: !(x >> 16) as u16,
+            partner: x as usize,
+        });
+        let told = Law.join(list, &mut table[MARGIN..MARGIN + entries]);
+        let fields = table.into_iter().flat_map(|e| {
+            let partner = e.partner as u64;
+            [e.x_low.into(), e.y_low.into(), e.x_high.into(), e.y_high.into(), partner as u32, (partner >> 32) as u32]
+        });
+        self.outcome(told, 1, &[hash(fields)]);
+    }
+
     fn writers(&mut self, s: &mut Seeded) {
         let pick = |s: &mut Seeded| s.pick(&[0, 127, 128, 255, 256, 1000, 1001, u32::MAX]);
         let (threshold, weight, outlines) = (pick(s), pick(s), pick(s));
@@ -248,6 +272,14 @@ pub fn write(file: &str, seed: u64, progress: &Progress) {
         let few = (s.within(0, 64), s.within(0, 300), s.within(0, 60));
         let rooms = s.pick(&[(64, 14_400, 900), few]);
         record.boundary(&element, rooms, turn as u32);
+    }
+    for turn in 0..LISTS {
+        let mut s = Seeded::new(seed << 32 | 0x10f2 << 16 | turn);
+        let list = shots::any(&mut s);
+        let room = list.len() / 4;
+        let few = s.within(0, room);
+        let entries = s.pick(&[room, room, room + 1, room + 9, few]);
+        record.join(&list, entries, turn as u32);
     }
     record.words.push(12);
     let bytes: Vec<u8> = record.words.iter().flat_map(|word| word.to_le_bytes()).collect();

@@ -23,6 +23,13 @@ impl Element for u32 {
     }
 }
 
+impl Element for law::joining::Joined {
+    fn canary(at: usize) -> law::joining::Joined {
+        let n = u16::canary(at);
+        law::joining::Joined { x_low: n, y_low: !n, x_high: n ^ 1, y_high: n ^ 2, partner: !at }
+    }
+}
+
 /// Elements on either side.
 const MARGIN: usize = 16;
 

@@ -8,6 +8,7 @@
 //! | `figures` | figures of several rings, sound and bad |
 //! | `jobs` | jobs, sound and damaged |
 //! | `elements` | boundary elements of GDSII streams, sound and damaged |
+//! | `shots` | lists of shots to join, sound and bad |
 //! | `document` | the drawings of document 01, and those of windows, with their outcomes |
 
 pub mod document;
@@ -16,3 +17,4 @@ pub mod figures;
 pub mod jobs;
 pub mod outlines;
 pub mod seeded;
+pub mod shots;

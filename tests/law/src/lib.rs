@@ -14,6 +14,7 @@
 //! | `call` | the fracture calls, with lent memory |
 //! | `bytes` | numbers, jobs, unpacking, the writers |
 //! | `gdsii` | one boundary element of a GDSII stream |
+//! | `joining` | shots joined in pairs |
 //! | `program` | what the job program prints |
 //! | `nano` | the same costs once more, nanometre by nanometre, for small figures |
 //! | `every` | every cutting of a small figure, with its price |
@@ -25,6 +26,7 @@ pub mod drawing;
 pub mod every;
 pub mod figure;
 pub mod gdsii;
+pub mod joining;
 pub mod nano;
 pub mod program;
 
@@ -67,6 +69,7 @@ pub trait Calls {
     fn write_outline(&self, drawing: &Drawing, out: &mut [u8]) -> Told;
     fn gdsii_read(&self, element: &[u8], list: &mut [u16]) -> Told;
     fn gdsii_fracture(&self, element: &[u8], table: &mut [u32], list: &mut [u16]) -> Told;
+    fn join(&self, list: &[u16], table: &mut [joining::Joined]) -> Told;
 }
 
 /// The documents themselves.
@@ -105,5 +108,8 @@ impl Calls for Law {
     }
     fn gdsii_fracture(&self, element: &[u8], table: &mut [u32], list: &mut [u16]) -> Told {
         gdsii::told_fracture(element, table, list)
+    }
+    fn join(&self, list: &[u16], table: &mut [joining::Joined]) -> Told {
+        joining::told_join(list, table)
     }
 }

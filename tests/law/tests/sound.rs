@@ -175,3 +175,25 @@ fn refusals_over_all_rings() {
         assert_eq!(lengths(&[4, length], &[&square, &window]), 2, "a window as a ring of {length}");
     }
 }
+
+/// Joining is told by the corners of the union: for all pairs of shots on a small sheet that is what document 02
+/// says of their sides.
+#[test]
+fn joining_by_corners_is_joining_by_sides() {
+    let spans: Vec<(u16, u16)> = (0..5).flat_map(|a| (a + 1..6).map(move |b| (a, b))).collect();
+    let shots: Vec<[u16; 4]> = spans.iter().flat_map(|x| spans.iter().map(move |y| [x.0, y.0, x.1, y.1])).collect();
+    let touch = |end: u16, start: u16, a: (u16, u16), b: (u16, u16)| {
+        end == start && a.0.max(b.0) < a.1.min(b.1) && (a.0 == b.0 || a.1 == b.1)
+    };
+    let beside = |a: &[u16; 4], b: &[u16; 4]| touch(a[2], b[0], (a[1], a[3]), (b[1], b[3]));
+    let below = |a: &[u16; 4], b: &[u16; 4]| touch(a[3], b[1], (a[0], a[2]), (b[0], b[2]));
+    let mut joined = 0;
+    for a in &shots {
+        for b in &shots {
+            let sides = beside(a, b) || beside(b, a) || below(a, b) || below(b, a);
+            assert_eq!(law::joining::can_be_joined(a, b), sides, "{a:?} {b:?}");
+            joined += sides as usize;
+        }
+    }
+    assert!(joined > 1_000, "{joined}");
+}

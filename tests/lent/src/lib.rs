@@ -5,6 +5,8 @@
 
 #![allow(clippy::too_many_arguments)]
 
+#[cfg(archive)]
+use law::joining::Joined;
 use law::{Calls, Drawing, Told};
 
 type Fractures = unsafe extern "C" fn(
@@ -68,6 +70,9 @@ mod pw {
         pub fn pw_gdsii_fracture(
             element: *const u8, len: usize, table: *mut u32, table_len: usize, list: *mut u16, list_len: usize,
             shots: *mut u32, cost: *mut u32, sliver: *mut u32, shift_x: *mut i32, shift_y: *mut i32, offset: *mut usize,
+        ) -> u32;
+        pub fn pw_join(
+            list: *const u16, list_len: usize, table: *mut law::joining::Joined, table_len: usize, flashes: *mut usize,
         ) -> u32;
     }
 }
@@ -223,5 +228,12 @@ impl Calls for Library {
         };
         let numbers = [shots as u64, cost as u64, sliver as u64, signed(shift_x), signed(shift_y), offset as u64];
         Told::of(number, &numbers)
+    }
+
+    fn join(&self, list: &[u16], table: &mut [Joined]) -> Told {
+        let mut flashes = MARK_SIZE;
+        let number =
+            unsafe { pw::pw_join(list.as_ptr(), list.len(), table.as_mut_ptr(), table.len(), &mut flashes) };
+        Told::of(number, &[flashes as u64])
     }
 }

@@ -1,0 +1,3 @@
+pub mod Join
+pub mod Union
+pub mod Steps
