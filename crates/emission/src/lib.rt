@@ -1,4 +1,5 @@
 // Emission: the shots of a piece, written in list order.
+use outline::MOST_LINES;
 use outline::place_of;
 use piece::Piece;
 use verdict::Numbered;
@@ -20,7 +21,13 @@ ghost use Rattle.emission.specs.Emission.{InLists, Written, Walk, Emitta
 pub mod measuring;
 
 // Writes the four numbers of a shot, x low, y low, x high, y high, from the index at on; hands back the index behind them.
-fn write_shot(xs: &[u16], ys: &[u16], list: &mut [u16], at: usize, p: Piece) -> usize
+fn write_shot(
+    xs: &[u16; MOST_LINES],
+    ys: &[u16; MOST_LINES],
+    list: &mut [u16],
+    at: usize,
+    p: Piece,
+) -> usize
     requires { ⌜ InLists (now xs) (now ys) p ⌝ }
     requires { ⌜ at + 4 ≤ length (now list) ⌝ }
     ensures { λ n. ⌜ (now (list .exit) ≡ sets (now (list .entry)) at (getD (now (xs .entry)) (p .a .0) 0 ∷ getD (now (ys .entry)) (p .b .0) 0 ∷ getD (now (xs .entry)) (p .c .0) 0 ∷ getD (now (ys .entry)) (p .d .0) 0 ∷ [])) × (n ≡ at + 4) ⌝ }
@@ -41,8 +48,8 @@ fn write_shot(xs: &[u16], ys: &[u16], list: &mut [u16], at: usize, p: Piece) -> 
 pub fn emit(
     costs: &[u32],
     cells: &[u8],
-    xs: &[u16],
-    ys: &[u16],
+    xs: &[u16; MOST_LINES],
+    ys: &[u16; MOST_LINES],
     list: &mut [u16],
     plan: Plan,
     at: usize,

@@ -3,6 +3,7 @@ use super::Fractured;
 use emission::emit;
 use emission::measuring::slivers;
 use outline::Line;
+use outline::MOST_LINES;
 use piece::Piece;
 use refusal::Refusal;
 use verdict::Numbered;
@@ -52,8 +53,8 @@ fn frame_of(plan: Plan) -> Numbered
 fn room_for(
     costs: &[u32],
     cells: &[u8],
-    xs: &[u16],
-    ys: &[u16],
+    xs: &[u16; MOST_LINES],
+    ys: &[u16; MOST_LINES],
     plan: Plan,
     frame: Numbered,
     numbers: usize,
@@ -80,8 +81,8 @@ fn room_for(
 pub fn deliver(
     costs: &[u32],
     cells: &[u8],
-    xs: &[u16],
-    ys: &[u16],
+    xs: &[u16; MOST_LINES],
+    ys: &[u16; MOST_LINES],
     list: &mut [u16],
     plan: Plan,
 ) -> Fractured

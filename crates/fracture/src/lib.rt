@@ -36,8 +36,8 @@ pub enum Fractured {
 fn fracture_grid(
     columns: usize,
     rows: usize,
-    xs: &[u16],
-    ys: &[u16],
+    xs: &[u16; MOST_LINES],
+    ys: &[u16; MOST_LINES],
     cells: &[u8],
     rule: Rule,
     table: &mut [u32],

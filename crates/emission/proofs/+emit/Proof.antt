@@ -38,10 +38,10 @@ cut : (t : ℕ) (c : emit-lts.After-known-told (
   emit-below t,
   emit.Post,
 ) (emit-at t) emit.Post) (g : Grid) (r : Rule)
-    → Costed g r (c .before .before .before .before .before .before .before .before .before .args .costs .now) (c .before .before .before .before .before .before .before .before .before .args .cells .now) (c .before .before .before .before .before .before .before .before .before .args .plan)
-    → Halves g r (c .before .before .before .before .before .before .before .before .before .args .plan) (meant (c .before .before .before .before .before .before .before .before .before .args .p .piece)) (c .before .verdict .given .0 .0) (c .before .verdict .given .0 .1 .0)
+    → Costed g r (c .before .before .before .before .before .before .before .args .costs .now) (c .before .before .before .before .before .before .before .args .cells .now) (c .before .before .before .before .before .before .before .args .plan)
+    → Halves g r (c .before .before .before .before .before .before .before .args .plan) (meant (c .before .before .before .before .before .before .before .args .p .piece)) (c .before .verdict .given .0 .0) (c .before .verdict .given .0 .1 .0)
 cut t c g r f =
-    halves g r _ _ _ f _ (c .before .before .before .before .before .before .before .before .before .pre .1 .known .valid) _ _
+    halves g r _ _ _ f _ (c .before .before .before .before .before .before .before .pre .1 .known .valid) _ _
     (sym (c .before .verdict .given .1) ∙ c .before .before .before .judge .ensures g r f)
 
 emit-judge-requires : (t : ℕ) → emit-lts.Need-judge-requires (
@@ -53,7 +53,7 @@ emit-judge-requires : (t : ℕ) → emit-lts.Need-judge-requires (
   emit.Post,
 ) (emit-at t) emit.Post
 emit-judge-requires t c κs =
-    let w = c .before .before .before .before .before .pre .1 in
+    let w = c .before .before .before .pre .1 in
     record { grid = w .grid; rule = w .rule; costed = w .walk .costed; known = w .known }
 
 emit-enum-told : (t : ℕ) → emit-lts.Need-enum-told (
@@ -86,7 +86,7 @@ emit-write-shot-requires : (t : ℕ) → emit-lts.Need-write-shot-requires (
 ) (emit-at t) emit.Post
 emit-write-shot-requires t c κs =
     let v = c .before .before in
-    let s = v .before .before .before .before .before .before .before .before in
+    let s = v .before .before .before .before .before .before in
     let w = s .pre .1 in
     let e = told-shot (w .grid) (w .rule) _ (sym (v .enum-told2 .given .1) ∙ v .before .before .judge .ensures (w .grid) (w .rule) (w .walk .costed)) in
     (emit-one _ _ _ _ _ _ _ (w .walk) (s .args .p .piece) (w .known .valid), omega (arith, w .fits, ap length e))
@@ -110,7 +110,7 @@ emit-emit-requires : (t : ℕ) → emit-lts.Need-emit-requires (
   emit.Post,
 ) (emit-at t) emit.Post
 emit-emit-requires t c κs =
-    let s = c .before .before .before .before .before .before .before .before .before .before in
+    let s = c .before .before .before .before .before .before .before .before in
     let w = s .pre .1 in
     let z = cut t (c .before) (w .grid) (w .rule) (w .walk .costed) in
     (low-less _ _ _ _ _ _ z (s .pre .0), emit-low _ _ _ _ _ _ _ _ w _ _ z)
@@ -125,7 +125,7 @@ emit-emit-requires-2 : (t : ℕ) → emit-lts.Need-emit-requires-2 (
 ) (emit-at t) emit.Post
 emit-emit-requires-2 t c κs =
     let m = c .before .before .before in
-    let s = m .before .before .before .before .before .before .before .before .before .before .before in
+    let s = m .before .before .before .before .before .before .before .before .before in
     let w = s .pre .1 in
     let z = cut t (m .before .before) (w .grid) (w .rule) (w .walk .costed) in (
       high-less _ _ _ _ _ _ z (s .pre .0),
@@ -163,7 +163,7 @@ emit-returns-2 : (t : ℕ) → emit-lts.Need-returns-2 (
 ) (emit-at t) emit.Post
 emit-returns-2 t c g r w =
     let v = c .before .before .before .before .before in
-    let s = v .before .before .before .before .before .before .before .before in
+    let s = v .before .before .before .before .before .before in
     written-as g _ _ _ _ (told-shot g r _ (sym (v .enum-told2 .given .1) ∙ v .before .before .judge .ensures g r (w .costed)))
     (written-one g r _ _ _ _ _ w _ (s .pre .1 .known .valid) _ _ _ (c .before .before .write-shot .ensures))
 

@@ -60,9 +60,10 @@ same-length c = search needs
 
 returns : tie.Need-returns
 returns c =
-    let s = c .before .before .before .before .before .before .before .args in (
-      sets-four (s .list .now) (s .at) (c .before .before .before .place-of .ensures) (c .before .before .place-of2 .ensures) (c .before .place-of3 .ensures)
-          (c .place-of4 .ensures),
+    let s = c .before .before .before .before .before .before .before .before .before .args in
+    let low = c .before .before .before .before .before .before in
+    let right = c .before .before in (
+      sets-four (s .list .now) (s .at) (low .place-of .ensures) (c .before .before .before .before .place-of2 .ensures) (right .place-of3 .ensures) (c .place-of4 .ensures),
       refl,
     )
 

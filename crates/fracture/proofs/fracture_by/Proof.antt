@@ -32,15 +32,7 @@ enum-told c = search needs
 
 slice-aggregate-fracture-grid : tie.Need-slice-aggregate-fracture-grid
 unfolding sheet
-slice-aggregate-fracture-grid c = sym (drawing-lengths _ (sheet _ _ _ _) (c .before .before .before .draw .ensures) .xs-length)
-
-slice-aggregate-fracture-grid-2 : tie.Need-slice-aggregate-fracture-grid-2
-unfolding sheet
-slice-aggregate-fracture-grid-2 c = sym (drawing-lengths _ (sheet _ _ _ _) (c .before .before .before .before .draw .ensures) .ys-length)
-
-slice-aggregate-fracture-grid-3 : tie.Need-slice-aggregate-fracture-grid-3
-unfolding sheet
-slice-aggregate-fracture-grid-3 c = sym (drawing-lengths _ (sheet _ _ _ _) (c .before .before .before .before .before .draw .ensures) .cells-length)
+slice-aggregate-fracture-grid c = sym (drawing-lengths _ (sheet _ _ _ _) (c .before .before .before .before .before .draw .ensures) .cells-length)
 
 fracture-grid-requires : tie.Need-fracture-grid-requires
 unfolding sheet
@@ -89,8 +81,6 @@ fracture-by-spec =
     draw-requires
     enum-told
     slice-aggregate-fracture-grid
-    slice-aggregate-fracture-grid-2
-    slice-aggregate-fracture-grid-3
     fracture-grid-requires
     enum-known-answer
     same-length

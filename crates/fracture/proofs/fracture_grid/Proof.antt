@@ -10,21 +10,21 @@ use Rattle.fracture.proofs.fracture_grid.Statement.{statement}
 use Rattle.fracture.proofs.fracture_grid.Tie as tie
 
 entries-requires : tie.Need-entries-requires
-entries-requires c κs = laid-few _ _ (c .before .before .before .before .before .pre .laid)
+entries-requires c κs = laid-few _ _ (c .before .before .before .pre .laid)
 
 returns : tie.Need-returns
 returns c g w = gridded-table g _ w _ _ _ (omega (arith, c .if1 .taken, c .before .entries .ensures))
 
 -- the table has an entry for every piece
 room : (c : tie.Else1)
-    → (let a = c .before .before .before .before .before .before .before .args in
+    → (let a = c .before .before .before .before .before .args in
     entryCount (a .columns) (a .rows) ≤ length (a .table .now))
 room c = omega (arith, c .if1 .left, c .before .entries .ensures)
 
 fill-requires : tie.Need-fill-requires
 fill-requires c κs =
     let w = c .before .before .before .before .before .before .before .before .pre in
-    laid-ready _ _ (w .laid) _ _ (w .weight) (room (c .before))
+    laid-ready _ _ (w .laid) _ _ (w .weight) (room (c .before .before .before))
 
 pair-count-requires : tie.Need-pair-count-requires
 pair-count-requires c κs = laid-few _ _ (c .before .before .before .before .before .before .before .before .before .before .before .pre .laid) .1
@@ -38,7 +38,7 @@ deliver-requires c κs =
     record {
       grid = w .grid;
       rule = s .args .rule;
-      walk = laid-walk _ _ (w .laid) _ _ (laid-filled _ _ (w .laid) _ _ (stored _ _ _ _ _) (w .laid .back) (f .fill .ensures)) (room (f .before .before)) _ (n .pair-count .ensures .0) (w .weight);
+      walk = laid-walk _ _ (w .laid) _ _ (laid-filled _ _ (w .laid) _ _ (stored _ _ _ _ _) (w .laid .back) (f .fill .ensures)) (room (f .before .before .before .before)) _ (n .pair-count .ensures .0) (w .weight);
     }
 
 same-length : tie.Need-same-length
@@ -54,7 +54,7 @@ returns-2 c g w =
     let f = d .before .before .before .before .before .before in
     let s = f .before .before .before .before .before .before .before .before .before in
     let e = laid-filled g _ w _ _ (stored _ _ _ _ _) (w .back) (f .fill .ensures) in
-    let k = room (f .before .before) in
+    let k = room (f .before .before .before .before) in
     gridded-delivered g _ w _ _ e k _ _ _ (d .deliver .ensures _ _ (laid-walk g _ w _ _ e k _ (n .pair-count .ensures .0) (s .pre .weight)))
 
 pub fracture-grid-spec : {M : Type 1} → statement M

@@ -8,10 +8,10 @@ use Rattle.fracture.proofs.delivery.deliver.Tie as tie
 
 -- the function's entry, from where the frame is made
 abbrev start : tie.After-frame-of → tie.Start
-start c = c .before .before .before .before .before .before
+start c = c .before .before .before .before
 
 frame-of-requires : tie.Need-frame-of-requires
-frame-of-requires c κs = walk-sized _ _ _ _ _ (c .before .before .before .before .before .pre .walk .costed)
+frame-of-requires c κs = walk-sized _ _ _ _ _ (c .before .before .before .pre .walk .costed)
 
 room-for-requires : tie.Need-room-for-requires
 room-for-requires c κs = frame-aside _ _ _ _ _ _ _ (start c .pre .walk) _ (c .frame-of .ensures)
@@ -48,7 +48,7 @@ shared-slice-read-cost c =
 
 slivers-requires : tie.Need-slivers-requires
 slivers-requires c κs =
-    let e = c .before .before .before .before .before in
+    let e = c .before .before .before .before .before .before .before in
     let f = e .before .before .before .before .before in
     let w = start f .pre in
     let h = sym (e .before .before .enum-told .given .1) ∙ e .before .before .before .before .room-for .ensures (w .grid) (w .rule) (w .walk) in
@@ -61,7 +61,7 @@ slivers-requires c κs =
 
 cast-t24 : tie.Need-cast-t24
 cast-t24 c =
-    let e = c .before .before .before .before .before .before in
+    let e = c .before .before .before .before .before .before .before .before in
     let f = e .before .before .before .before .before in
     let w = start f .pre in
     omega (
@@ -80,7 +80,7 @@ same-length c = search needs
 
 returns-2 : tie.Need-returns-2
 returns-2 c g r w =
-    let e = c .before .before .before .before .before .before in
+    let e = c .before .before .before .before .before .before .before .before in
     let f = e .before .before .before .before .before in
     let h = sym (e .before .before .enum-told .given .1) ∙ e .before .before .before .before .room-for .ensures g r w in
     let v = e .emit .ensures g r w in
