@@ -79,7 +79,8 @@ enum pw_room {
   PW_RING_LENGTHS = 8,       /* 8 rings */
   PW_HEADER_BYTES = 6,       /* threshold, weight and count of outlines */
   PW_OUTLINE_BYTES = 202,    /* 0, R, 8 times V, and 64 coordinates of 3 bytes */
-  PW_JOB_BYTES = 4096
+  PW_JOB_BYTES = 4096,
+  PW_CUTS_MOST = 134400      /* 16 lines each way */
 };
 
 /* The rule of a preset, 0 to 3. Refuses: PW_NO_PRESET. */
@@ -89,17 +90,22 @@ uint32_t pw_preset(uint32_t number, uint32_t *threshold, uint32_t *weight);
  * rings[0..rings_len) by the rule (threshold in nm, weight in thousandths of a shot per nm of sliver
  * length). Afterwards the front of table holds the cost of every piece, the front of list 4 numbers
  * for each shot (x low, y low, x high, y high); shots, cost (thousandths of a shot) and sliver (nm)
- * are their count and sums.
+ * are their count and sums; cuts is how many cuts were weighed: over every piece with cells of both sorts,
+ * the lines strictly between its ends, at most PW_CUTS_MOST.
  * Refuses: PW_RULE to PW_LIST_SHORT, the first that holds, each tried over all rings. */
 uint32_t pw_fracture(const uint16_t *corners, size_t corners_len, const uint16_t *rings, size_t rings_len,
                      uint32_t threshold, uint32_t weight,
                      uint32_t *table, size_t table_len, uint16_t *list, size_t list_len,
-                     uint32_t *shots, uint32_t *cost, uint32_t *sliver);
+                     uint32_t *shots, uint32_t *cost, uint32_t *sliver, uint32_t *cuts);
 
-/* The same by the default rule, preset 0. Refuses: PW_LENGTH to PW_LIST_SHORT. */
+/* The same by the default rule, preset 1 (10 nm, 100). Refuses: PW_LENGTH to PW_LIST_SHORT. */
 uint32_t pw_fracture_default(const uint16_t *corners, size_t corners_len, const uint16_t *rings, size_t rings_len,
                      uint32_t *table, size_t table_len, uint16_t *list, size_t list_len,
-                     uint32_t *shots, uint32_t *cost, uint32_t *sliver);
+                     uint32_t *shots, uint32_t *cost, uint32_t *sliver, uint32_t *cuts);
+
+/* How many cuts the fracture of the figure will weigh, by any rule: what pw_fracture then reports. No table is
+ * needed. Refuses: PW_LENGTH to PW_EMPTY. */
+uint32_t pw_cuts(const uint16_t *corners, size_t corners_len, const uint16_t *rings, size_t rings_len, uint32_t *cuts);
 
 /* Reads the number that starts at bytes[at]: its value, of any range, and the place behind it.
  * Any at is allowed; past the end is bytes that end, and the offset is the length all the same.
@@ -147,7 +153,7 @@ uint32_t pw_gdsii_read(const uint8_t *element, size_t len, uint16_t *list, size_
  * Refuses as pw_gdsii_read up to PW_EMPTY, then PW_TABLE_SHORT, PW_LIST_SHORT. */
 uint32_t pw_gdsii_fracture(const uint8_t *element, size_t len, uint32_t *table, size_t table_len,
                            uint16_t *list, size_t list_len, uint32_t *shots, uint32_t *cost, uint32_t *sliver,
-                           int32_t *shift_x, int32_t *shift_y, size_t *offset);
+                           uint32_t *cuts, int32_t *shift_x, int32_t *shift_y, size_t *offset);
 
 /* A shot with its partner's number in the list, or its own number where it has none. */
 struct pw_joined {

@@ -117,18 +117,27 @@ static void fracture(int named) {
   size_t corners_len = size(), rings_len = size(), table_len = size(), list_len = size();
   uint32_t mark = word();
   read_drawing(corners_len, rings_len);
-  uint32_t shots = 77, cost = 77, sliver = 77;
+  uint32_t shots = 77, cost = 77, sliver = 77, cuts = 77;
   uint32_t *table = lend_table(table_len, mark);
   uint16_t *list = lend_list(list_len, mark);
   expect("fracture", named ? pw_fracture(corners, corners_len, rings, rings_len, threshold, weight,
-                                         table, table_len, list, list_len, &shots, &cost, &sliver)
+                                         table, table_len, list, list_len, &shots, &cost, &sliver, &cuts)
                            : pw_fracture_default(corners, corners_len, rings, rings_len,
-                                                 table, table_len, list, list_len, &shots, &cost, &sliver));
+                                                 table, table_len, list, list_len, &shots, &cost, &sliver, &cuts));
   expect("shots", shots);
   expect("cost", cost);
   expect("sliver", sliver);
+  expect("cuts", cuts);
   expect("table", hash_table(table_len));
   expect("list", hash_list(list_len));
+}
+
+static void cuts_ahead(void) {
+  size_t corners_len = size(), rings_len = size();
+  uint32_t cuts = 77;
+  read_drawing(corners_len, rings_len);
+  expect("cuts ahead", pw_cuts(corners, corners_len, rings, rings_len, &cuts));
+  expect("cuts", cuts);
 }
 
 static void preset(void) {
@@ -220,14 +229,15 @@ static void read_boundary(void) {
 
 static void fracture_boundary(void) {
   size_t len = size(), table_len = size(), list_len = size(), offset = 77;
-  uint32_t shots = 77, cost = 77, sliver = 77, mark = word();
+  uint32_t shots = 77, cost = 77, sliver = 77, cuts = 77, mark = word();
   int32_t shift_x = 77, shift_y = 77;
   read_bytes(len);
   expect("fracture boundary", pw_gdsii_fracture(bytes, len, lend_table(table_len, mark), table_len, lend_list(list_len, mark),
-                                                list_len, &shots, &cost, &sliver, &shift_x, &shift_y, &offset));
+                                                list_len, &shots, &cost, &sliver, &cuts, &shift_x, &shift_y, &offset));
   expect("shots", shots);
   expect("cost", cost);
   expect("sliver", sliver);
+  expect("cuts", cuts);
   expect_shift("shift in x", shift_x);
   expect_shift("shift in y", shift_y);
   expect("offset", offset);
@@ -261,6 +271,7 @@ int main(void) {
     case 11: fracture_boundary(); break;
     case 12: over = 1; break;
     case 30: join(); break;
+    case 31: cuts_ahead(); break;
     default:
       say("replay: the record is not whole\n");
       return 2;

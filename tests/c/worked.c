@@ -38,22 +38,28 @@ static int run(const uint8_t *job, size_t len) {
   for (size_t k = 0; k < outlines; k++) {
     size_t start, length;
     uint16_t corners[PW_CORNER_NUMBERS], rings[PW_RING_LENGTHS];
-    uint32_t count, ring_count, shots, cost, sliver;
+    uint32_t count, ring_count, shots, cost, sliver, cuts, ahead;
     if (pw_job_outline(job, len, k, &start, &length, &offset)) return 2;
     if (pw_unpack(job + start, length, corners, PW_CORNER_NUMBERS, rings, PW_RING_LENGTHS, &count, &ring_count, &offset))
       return 3;
     if (pw_fracture(corners, 2 * (size_t)count, rings, ring_count, threshold, weight, table, PW_TABLE_ENTRIES,
-                    list, PW_LIST_NUMBERS, &shots, &cost, &sliver))
+                    list, PW_LIST_NUMBERS, &shots, &cost, &sliver, &cuts))
       return 4;
     print_shots(k, shots, cost, sliver);
-    /* the same by preset 0, and with no rule named */
-    uint32_t preset_threshold, preset_weight, shots_again, cost_again, sliver_again;
-    if (pw_preset(0, &preset_threshold, &preset_weight)) return 5;
-    if (preset_threshold != threshold || preset_weight != weight) return 6;
+    /* by preset 1, and with no rule named: the same; the cuts weighed are those of any rule */
+    uint32_t threshold_one, weight_one;
+    uint32_t shots_one, cost_one, sliver_one, cuts_one, shots_again, cost_again, sliver_again, cuts_again;
+    if (pw_preset(1, &threshold_one, &weight_one) || threshold_one != 10 || weight_one != 100) return 5;
+    if (pw_fracture(corners, 2 * (size_t)count, rings, ring_count, threshold_one, weight_one, table, PW_TABLE_ENTRIES,
+                    list, PW_LIST_NUMBERS, &shots_one, &cost_one, &sliver_one, &cuts_one))
+      return 6;
     if (pw_fracture_default(corners, 2 * (size_t)count, rings, ring_count, table, PW_TABLE_ENTRIES,
-                            list, PW_LIST_NUMBERS, &shots_again, &cost_again, &sliver_again))
+                            list, PW_LIST_NUMBERS, &shots_again, &cost_again, &sliver_again, &cuts_again))
       return 7;
-    if (shots_again != shots || cost_again != cost || sliver_again != sliver) return 8;
+    if (shots_again != shots_one || cost_again != cost_one || sliver_again != sliver_one || cuts_again != cuts_one) return 8;
+    if (cuts_one != cuts) return 12;
+    /* what is told ahead */
+    if (pw_cuts(corners, 2 * (size_t)count, rings, ring_count, &ahead) || ahead != cuts || cuts > PW_CUTS_MOST) return 13;
     /* written anew, the outline is the part that it was read from */
     uint8_t part[PW_OUTLINE_BYTES];
     size_t written;

@@ -16,11 +16,11 @@ static uint32_t number(void) {
 }
 
 int main(void) {
-  uint32_t calls = number(), rings_len = number(), shots, cost, sliver;
+  uint32_t calls = number(), rings_len = number(), shots, cost, sliver, cuts;
   for (uint32_t i = 0; i < rings_len && i < 8; i++) rings[i] = (uint16_t)number();
   uint32_t corners_len = number();
   for (uint32_t i = 0; i < corners_len && i < 64; i++) corners[i] = (uint16_t)number();
   for (uint32_t i = 0; i < calls; i++)
-    if (pw_fracture(corners, corners_len, rings, rings_len, 25, 40, table, 14400, list, 900, &shots, &cost, &sliver)) return 1;
+    if (pw_fracture(corners, corners_len, rings, rings_len, 25, 40, table, 14400, list, 900, &shots, &cost, &sliver, &cuts)) return 1;
   return 0;
 }

@@ -3,6 +3,7 @@
 --
 --   preset-one                  == pw_preset
 --   fracture-one                == pw_fracture, pw_fracture_default
+--   cuts-one                    == pw_cuts
 --   number-one                  == pw_number
 --   check-one                   == pw_job_check
 --   outline-one                 == pw_job_outline
@@ -17,12 +18,13 @@ use mathlib.Core.List.{List}
 use lib.IntN.{ℤ}
 use Rattle.rule.specs.Rules.{Told}
 use Rattle.demands.specs.Promise.{Outcome}
+use Rattle.demands.specs.Cuts.{Ahead}
 use Rattle.job.specs.Calls.{CheckSaid, UnpackSaid, WriteSaid}
 use Rattle.gdsii.specs.Calls.{BoundarySaid, PlateSaid}
 use Rattle.join.specs.declared.Joined.{Joined}
 use Rattle.join.specs.Join.{JoinSaid, joinLent, Promise}
 use Rattle.join.proofs.Settled.{join-settled}
-use Rattle.capi.specs.Lent.{presetLent, fractureLent, NumberSaid, numberLent, checkLent, OutlineSaid, outlineLent, unpackLent, writeLent, boundaryLent, plateLent}
+use Rattle.capi.specs.Lent.{presetLent, fractureLent, cutsLent, NumberSaid, numberLent, checkLent, OutlineSaid, outlineLent, unpackLent, writeLent, boundaryLent, plateLent}
 
 pub preset-one : (said : Told) (n t w n′ t′ w′ : ℕ) → presetLent n t w ≡ said → presetLent n′ t′ w′ ≡ said
     → (n ≡ n′) × (t ≡ t′) × (w ≡ w′)
@@ -30,18 +32,22 @@ preset-one said n t w n′ t′ w′ p q =
     let e = p ∙ sym q in
     (ap (λ (o : Told). o .number) e, ap (λ (o : Told). o .threshold) e, ap (λ (o : Told). o .weight) e)
 
-pub fracture-one : (said : Outcome) (n s c v n′ s′ c′ v′ : ℕ) (table list table′ list′ : List ℕ)
-    → fractureLent n s c v table list ≡ said → fractureLent n′ s′ c′ v′ table′ list′ ≡ said
-    → (n ≡ n′) × (s ≡ s′) × (c ≡ c′) × (v ≡ v′) × (table ≡ table′) × (list ≡ list′)
-fracture-one said n s c v n′ s′ c′ v′ table list table′ list′ p q =
+pub fracture-one : (said : Outcome) (n s c v w n′ s′ c′ v′ w′ : ℕ) (table list table′ list′ : List ℕ)
+    → fractureLent n s c v w table list ≡ said → fractureLent n′ s′ c′ v′ w′ table′ list′ ≡ said
+    → (n ≡ n′) × (s ≡ s′) × (c ≡ c′) × (v ≡ v′) × (w ≡ w′) × (table ≡ table′) × (list ≡ list′)
+fracture-one said n s c v w n′ s′ c′ v′ w′ table list table′ list′ p q =
     let e = p ∙ sym q in (
       ap (λ (o : Outcome). o .number) e,
       ap (λ (o : Outcome). o .shots) e,
       ap (λ (o : Outcome). o .cost) e,
       ap (λ (o : Outcome). o .sliver) e,
+      ap (λ (o : Outcome). o .cuts) e,
       ap (λ (o : Outcome). o .table) e,
       ap (λ (o : Outcome). o .list) e,
     )
+
+pub cuts-one : (said : Ahead) (n w n′ w′ : ℕ) → cutsLent n w ≡ said → cutsLent n′ w′ ≡ said → (n ≡ n′) × (w ≡ w′)
+cuts-one said n w n′ w′ p q = let e = p ∙ sym q in (ap (λ (o : Ahead). o .number) e, ap (λ (o : Ahead). o .cuts) e)
 
 pub number-one : (said : NumberSaid) (n v next at n′ v′ next′ at′ : ℕ)
     → numberLent n v next at ≡ said → numberLent n′ v′ next′ at′ ≡ said
@@ -113,15 +119,16 @@ boundary-one said n corners at n′ corners′ at′ x y x′ y′ list list′ 
       ap (λ (o : BoundarySaid). o .list) e,
     )
 
-pub plate-one : (said : PlateSaid) (n s c v at n′ s′ c′ v′ at′ : ℕ) (x y x′ y′ : ℤ) (table list table′ list′ : List ℕ)
-    → plateLent n s c v x y at table list ≡ said → plateLent n′ s′ c′ v′ x′ y′ at′ table′ list′ ≡ said
-    → (n ≡ n′) × (s ≡ s′) × (c ≡ c′) × (v ≡ v′) × (x ≡ x′) × (y ≡ y′) × (at ≡ at′) × (table ≡ table′) × (list ≡ list′)
-plate-one said n s c v at n′ s′ c′ v′ at′ x y x′ y′ table list table′ list′ p q =
+pub plate-one : (said : PlateSaid) (n s c v w at n′ s′ c′ v′ w′ at′ : ℕ) (x y x′ y′ : ℤ) (table list table′ list′ : List ℕ)
+    → plateLent n s c v w x y at table list ≡ said → plateLent n′ s′ c′ v′ w′ x′ y′ at′ table′ list′ ≡ said
+    → (n ≡ n′) × (s ≡ s′) × (c ≡ c′) × (v ≡ v′) × (w ≡ w′) × (x ≡ x′) × (y ≡ y′) × (at ≡ at′) × (table ≡ table′) × (list ≡ list′)
+plate-one said n s c v w at n′ s′ c′ v′ w′ at′ x y x′ y′ table list table′ list′ p q =
     let e = p ∙ sym q in (
       ap (λ (o : PlateSaid). o .number) e,
       ap (λ (o : PlateSaid). o .shots) e,
       ap (λ (o : PlateSaid). o .cost) e,
       ap (λ (o : PlateSaid). o .sliver) e,
+      ap (λ (o : PlateSaid). o .cuts) e,
       ap (λ (o : PlateSaid). o .shift-x) e,
       ap (λ (o : PlateSaid). o .shift-y) e,
       ap (λ (o : PlateSaid). o .offset) e,

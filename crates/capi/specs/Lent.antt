@@ -2,7 +2,8 @@
 -- by where it starts and how long it is.
 --
 --   presetLent n t w           == the number returned, and the threshold and weight lent
---   fractureLent               == the number returned, the three numbers lent, and what the table and the list hold then
+--   fractureLent               == the number returned, the four numbers lent, and what the table and the list hold then
+--   cutsLent n cuts            == the number returned, and the cuts lent
 --   NumberSaid, numberSaid     == what reading a number tells: document 01's number, the value, the place past it, the offset
 --   numberLent, checkLent, unpackLent, writeLent  == the number returned, the numbers lent, and what the slice lent holds then
 --   OutlineSaid, outlineSaid s k  == where outline k of the job s starts and how long it is, or the refusal and the offset
@@ -17,6 +18,7 @@ use lib.ListN.{length, getD}
 use lib.IntN.{ℤ}
 use Rattle.rule.specs.Rules.{Told}
 use Rattle.demands.specs.Promise.{Outcome}
+use Rattle.demands.specs.Cuts.{Ahead}
 use Rattle.refusal.specs.declared.Refusal.the-variants.{Missing}
 use Rattle.refusal.specs.Refusals.{refusalNo}
 use Rattle.number.specs.Reading.{Reading, read, fault}
@@ -28,9 +30,12 @@ use Rattle.join.specs.declared.Pairing.{Pairing}
 abbrev pub presetLent : ℕ → ℕ → ℕ → Told
 presetLent n t w = record { number = n; threshold = t; weight = w }
 
-abbrev pub fractureLent : ℕ → ℕ → ℕ → ℕ → List ℕ → List ℕ → Outcome
-fractureLent n shots cost sliver table list =
-    record { number = n; shots = shots; cost = cost; sliver = sliver; table = table; list = list }
+abbrev pub fractureLent : ℕ → ℕ → ℕ → ℕ → ℕ → List ℕ → List ℕ → Outcome
+fractureLent n shots cost sliver cuts table list =
+    record { number = n; shots = shots; cost = cost; sliver = sliver; cuts = cuts; table = table; list = list }
+
+abbrev pub cutsLent : ℕ → ℕ → Ahead
+cutsLent n cuts = record { number = n; cuts = cuts }
 
 pub record NumberSaid : Type 0 where
   pub number : ℕ
@@ -82,13 +87,14 @@ abbrev pub boundaryLent : ℕ → ℕ → ℤ → ℤ → ℕ → List ℕ → B
 boundaryLent n corners x y at list =
     record { number = n; corners = corners; shift-x = x; shift-y = y; offset = at; list = list }
 
-abbrev pub plateLent : ℕ → ℕ → ℕ → ℕ → ℤ → ℤ → ℕ → List ℕ → List ℕ → PlateSaid
-plateLent n shots cost sliver x y at table list =
+abbrev pub plateLent : ℕ → ℕ → ℕ → ℕ → ℕ → ℤ → ℤ → ℕ → List ℕ → List ℕ → PlateSaid
+plateLent n shots cost sliver cuts x y at table list =
     record {
       number = n;
       shots = shots;
       cost = cost;
       sliver = sliver;
+      cuts = cuts;
       shift-x = x;
       shift-y = y;
       offset = at;

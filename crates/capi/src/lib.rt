@@ -1,5 +1,6 @@
 // The C interface, as include/pinarewhemi.h declares it. Each function returns the refusal's number, 0 on success, and writes
 // every number that it is lent on every path; its promise is that of its call, said of these numbers.
+use fracture::Forecast;
 use fracture::Fractured;
 use gdsii::Boundary;
 use gdsii::Plate;
@@ -26,12 +27,13 @@ ghost use Rattle.rule.specs.Rules.{presetTold};
 ghost use Rattle.figure.specs.Figure.{figure};
 ghost use Rattle.piece.specs.declared.Mode.the-variants.{Straight};
 ghost use Rattle.demands.specs.Promise.{asked, outcome};
-ghost use Rattle.fracture.specs.Told.{told};
+ghost use Rattle.demands.specs.Cuts.{ahead};
+ghost use Rattle.fracture.specs.Told.{told, byDefault};
 ghost use Rattle.number.specs.Number.{number as readNumber};
 ghost use Rattle.job.specs.Calls.{checked, unpacked, headerWritten, outlineWritten};
 ghost use Rattle.gdsii.specs.Calls.{boundaryRead, boundaryFractured};
 ghost use Rattle.join.specs.Join.{joinLent, Promise};
-ghost use Rattle.capi.specs.Lent.{presetLent, numberLent, numberSaid, checkLent, outlineLent, outlineSaid, unpackLent, writeLent, fractureLent, boundaryLent, plateLent, flashesOf, pairingNo};
+ghost use Rattle.capi.specs.Lent.{presetLent, cutsLent, numberLent, numberSaid, checkLent, outlineLent, outlineSaid, unpackLent, writeLent, fractureLent, boundaryLent, plateLent, flashesOf, pairingNo};
 
 // The rule of a preset, or 15.
 #[no_mangle]
@@ -53,30 +55,33 @@ pub extern "C" fn pw_preset(number: u32, threshold: &mut u32, weight: &mut u32) 
 }
 
 // Lends on what a fracture answers, whatever its buffers hold.
-fn lend(answer: Fractured, shots: &mut u32, cost: &mut u32, sliver: &mut u32) -> u32
-    ensures { λ r. ⌜ ((table list : List ℕ) → fractureLent r (now (shots .exit)) (now (cost .exit)) (now (sliver .exit)) table list ≡ told answer table list) ⌝ }
+fn lend(answer: Fractured, shots: &mut u32, cost: &mut u32, sliver: &mut u32, cuts: &mut u32) -> u32
+    ensures { λ r. ⌜ ((table list : List ℕ) → fractureLent r (now (shots .exit)) (now (cost .exit)) (now (sliver .exit)) (now (cuts .exit)) table list ≡ told answer table list) ⌝ }
 {
     match answer {
         Fractured::Done {
             shots: s,
             cost: k,
             sliver: v,
+            cuts: w,
         } => {
             *shots = s;
             *cost = k;
             *sliver = v;
+            *cuts = w;
             0
         }
         Fractured::Refused(why, needed) => {
             *shots = needed;
             *cost = 0;
             *sliver = 0;
+            *cuts = 0;
             refusal_no(why)
         }
     }
 }
 
-// Shots, cost and sliver length, with the table and the list filled from their fronts; or 1 to 7.
+// Shots, cost, sliver length and cuts weighed, with the table and the list filled from their fronts; or 1 to 7.
 #[no_mangle]
 pub extern "C" fn pw_fracture(
     corners: &[u16],
@@ -88,11 +93,12 @@ pub extern "C" fn pw_fracture(
     shots: &mut u32,
     cost: &mut u32,
     sliver: &mut u32,
+    cuts: &mut u32,
 ) -> u32
-    ensures settled { λ r. ⌜ fractureLent r (now (shots .exit)) (now (cost .exit)) (now (sliver .exit)) (now (table .exit)) (now (list .exit)) ≡ outcome (asked Straight (now (corners .entry)) (now (rings .entry)) threshold weight (now (table .entry)) (now (list .entry))) ⌝ }
+    ensures settled { λ r. ⌜ fractureLent r (now (shots .exit)) (now (cost .exit)) (now (sliver .exit)) (now (cuts .exit)) (now (table .exit)) (now (list .exit)) ≡ outcome (asked Straight (now (corners .entry)) (now (rings .entry)) threshold weight (now (table .entry)) (now (list .entry))) ⌝ }
 {
     let answer = fracture::fracture(corners, rings, threshold, weight, table, list);
-    lend(answer, shots, cost, sliver)
+    lend(answer, shots, cost, sliver, cuts)
 }
 
 // The same by the default preset; or 2 to 7.
@@ -105,11 +111,27 @@ pub extern "C" fn pw_fracture_default(
     shots: &mut u32,
     cost: &mut u32,
     sliver: &mut u32,
+    cuts: &mut u32,
 ) -> u32
-    ensures settled { λ r. ⌜ fractureLent r (now (shots .exit)) (now (cost .exit)) (now (sliver .exit)) (now (table .exit)) (now (list .exit)) ≡ outcome (asked Straight (now (corners .entry)) (now (rings .entry)) (presetTold 0 .threshold) (presetTold 0 .weight) (now (table .entry)) (now (list .entry))) ⌝ }
+    ensures settled { λ r. ⌜ fractureLent r (now (shots .exit)) (now (cost .exit)) (now (sliver .exit)) (now (cuts .exit)) (now (table .exit)) (now (list .exit)) ≡ outcome (byDefault (now (corners .entry)) (now (rings .entry)) (now (table .entry)) (now (list .entry))) ⌝ }
 {
     let answer = fracture::fracture_default(corners, rings, table, list);
-    lend(answer, shots, cost, sliver)
+    lend(answer, shots, cost, sliver, cuts)
+}
+
+// How many cuts the fracture of a figure will weigh; or 2 to 5.
+#[no_mangle]
+pub extern "C" fn pw_cuts(corners: &[u16], rings: &[u16], cuts: &mut u32) -> u32
+    ensures settled { λ r. ⌜ cutsLent r (now (cuts .exit)) ≡ ahead (figure (now (corners .entry)) (now (rings .entry))) ⌝ }
+{
+    *cuts = 0;
+    match fracture::cuts(corners, rings) {
+        Forecast::Cuts(n) => {
+            *cuts = n;
+            0
+        }
+        Forecast::Refused(unfit) => refusal_no(unfit),
+    }
 }
 
 // The number at a place of the bytes and the place past it; or 8, 9, 10 and the offset.
@@ -324,7 +346,7 @@ pub extern "C" fn pw_gdsii_read(
     }
 }
 
-// Shots, cost and sliver length of that ring, fractured by preset 0, with the table and the list filled from their fronts, and the shift;
+// Shots, cost, sliver length and cuts of that ring, fractured by preset 0, with the table and the list filled from their fronts, and the shift;
 // or 8 with the offset of the record cut short, 16, 17, 18, 2 to 7.
 #[no_mangle]
 pub extern "C" fn pw_gdsii_fracture(
@@ -334,15 +356,17 @@ pub extern "C" fn pw_gdsii_fracture(
     shots: &mut u32,
     cost: &mut u32,
     sliver: &mut u32,
+    cuts: &mut u32,
     shift_x: &mut i32,
     shift_y: &mut i32,
     offset: &mut usize,
 ) -> u32
-    ensures settled { λ r. ⌜ plateLent r (now (shots .exit)) (now (cost .exit)) (now (sliver .exit)) (now («shift_x» .exit)) (now («shift_y» .exit)) (now (offset .exit)) (now (table .exit)) (now (list .exit)) ≡ boundaryFractured (now (element .entry)) (now (table .entry)) (now (list .entry)) ⌝ }
+    ensures settled { λ r. ⌜ plateLent r (now (shots .exit)) (now (cost .exit)) (now (sliver .exit)) (now (cuts .exit)) (now («shift_x» .exit)) (now («shift_y» .exit)) (now (offset .exit)) (now (table .exit)) (now (list .exit)) ≡ boundaryFractured (now (element .entry)) (now (table .entry)) (now (list .entry)) ⌝ }
 {
     *shots = 0;
     *cost = 0;
     *sliver = 0;
+    *cuts = 0;
     *shift_x = 0;
     *shift_y = 0;
     *offset = 0;
@@ -351,12 +375,14 @@ pub extern "C" fn pw_gdsii_fracture(
             shots: found,
             cost: charged,
             sliver: long,
+            cuts: weighed,
             shift_x: dx,
             shift_y: dy,
         } => {
             *shots = found;
             *cost = charged;
             *sliver = long;
+            *cuts = weighed;
             *shift_x = dx;
             *shift_y = dy;
             0

@@ -55,7 +55,8 @@
 --   bound-parts          == nor do the entries of all parts of a cut together, the five of a pinwheel among them
 --   rows-hold            == the proved rows of document 01, those with rings, and one that only the order of lines decides (proofs/Rows.antt)
 --   wheel-rows-hold      == rows of two drawings that pinwheels cut best, and of a tie that goes to the straight cut (proofs/Rows.antt)
---   entries-of-L         == the whole table of one of them (proofs/Rows.antt)
+--   new-rows-hold        == rows by the default rule (proofs/Rows.antt)
+--   entries-of-L, new-entries-of-L == the whole table of L by the first rule of the table and by the default (proofs/Rows.antt)
 use Prim.Native.Nat.{ℕ, suc, _+_, _*_, _/_, _≤_, _<_}
 use mathlib.Core.Path.{_≡_, refl, sym, _∙_, ap, subst}
 use mathlib.Core.Bool.{Bool, true, false}

@@ -4,6 +4,11 @@ pub mod Square
 pub mod Ways
 pub mod Figure
 pub mod Accepted
+pub mod Bounded
+pub mod Cuts
+pub mod General
+pub mod Counted
+pub mod CutRows
 pub mod Demands
 pub mod Room
 pub mod Rows

@@ -4,6 +4,7 @@
 --   written-length, written-front, written-at   == its length, its front, one of the numbers written
 --   accepted ask, short ask   == a success, and what 7 gives, with the costs in the table
 --   outcome-rule, outcome-figure, outcome-table, outcome-list, outcome-accepted   == the outcome by the first stage that ends it
+--   Ended, ended         == every outcome is accepted, short or refused
 --   outcome-zero, outcome-seven, outcome-other   == the outcome by its number
 --   outcome-seen         == of a figure a fracture sees nothing but its refusal and its grid
 --   answer-same          == the answer goes by the lengths of the buffers, not by what they held
@@ -28,6 +29,7 @@ use Rattle.outline.specs.Promise.{refusal}
 use Rattle.outline.proofs.Promise.{refusal-most}
 use Rattle.piece.specs.declared.Mode.{Mode}
 use Rattle.table.specs.Entry.{entryCount, costs}
+use Rattle.demands.specs.Cuts.{weighedCuts}
 use Rattle.demands.specs.Promise.{Asked, drawn, ruleOf, frameShots, frameCost, frameSliver, frameNumbers, Outcome, written, refused, delivered, gridded, ruled, outcome}
 use Rattle.demands.specs.Demands.{answer}
 
@@ -59,6 +61,7 @@ module _ (ask : Asked) where
         shots = length (frameShots (ask .mode) (drawn ask) (ruleOf ask));
         cost = frameCost (ask .mode) (drawn ask) (ruleOf ask);
         sliver = frameSliver (ask .mode) (drawn ask) (ruleOf ask);
+        cuts = weighedCuts (drawn ask);
         table = written (costs (ask .mode) (drawn ask) (ruleOf ask)) (ask .table);
         list = written (frameNumbers (ask .mode) (drawn ask) (ruleOf ask)) (ask .list);
       }
@@ -70,6 +73,7 @@ module _ (ask : Asked) where
         shots = length (frameShots (ask .mode) (drawn ask) (ruleOf ask));
         cost = 0;
         sliver = 0;
+        cuts = 0;
         table = written (costs (ask .mode) (drawn ask) (ruleOf ask)) (ask .table);
         list = ask .list;
       }
@@ -124,10 +128,10 @@ module _ (ask : Asked) where
   -- By the number
 
   -- every outcome is one of these
-  abbrev Ended : Type 0
+  abbrev pub Ended : Type 0
   Ended = (outcome ask ≡ accepted) ⊎ ((outcome ask ≡ short) ⊎ ((n : ℕ) × (0 < n) × (n < 7) × (outcome ask ≡ refused n (ask .table) (ask .list))))
 
-  ended : Ended
+  pub ended : Ended
   ended =
       go (inRange (ask .threshold) (ask .weight)) refl (eqb (refusal (ask .figure)) 0) refl
       (ltb (length (ask .table)) (entryCount (drawn ask .columns) (drawn ask .rows))) refl
@@ -240,8 +244,8 @@ module _ (ask : Asked) where
           (cond b
           (cond c (refused 6 table list)
           (cond d
-          (record { number = 7; shots = length (frameShots (ask .mode) g r); cost = 0; sliver = 0; table = written (costs (ask .mode) g r) table; list = list })
-          (record { number = 0; shots = length (frameShots (ask .mode) g r); cost = frameCost (ask .mode) g r; sliver = frameSliver (ask .mode) g r; table = written (costs (ask .mode) g r) table; list = written (frameNumbers (ask .mode) g r) list })))
+          (record { number = 7; shots = length (frameShots (ask .mode) g r); cost = 0; sliver = 0; cuts = 0; table = written (costs (ask .mode) g r) table; list = list })
+          (record { number = 0; shots = length (frameShots (ask .mode) g r); cost = frameCost (ask .mode) g r; sliver = frameSliver (ask .mode) g r; cuts = weighedCuts g; table = written (costs (ask .mode) g r) table; list = written (frameNumbers (ask .mode) g r) list })))
           (refused (refusal (ask .figure)) table list))
           (refused 1 table list))
           ≡ said a b c d

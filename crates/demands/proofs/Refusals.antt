@@ -35,6 +35,7 @@ use Rattle.outline.specs.Grid.{Grid}
 use Rattle.outline.specs.Inside.{grid, insideCells, empty}
 use Rattle.outline.specs.Promise.{refusal}
 use Rattle.table.specs.Entry.{entryCount, costs}
+use Rattle.demands.specs.Cuts.{weighedCuts}
 use Rattle.demands.specs.Promise.{Asked, drawn, ruleOf, frameShots, frameCost, frameSliver, frameNumbers, written, refused, delivered, gridded, ruled, outcome}
 use Rattle.demands.specs.Refusals.{Changes, Keeps, Condition, First}
 
@@ -100,12 +101,13 @@ module _ (ask : Asked) where
           (cond (eqb (no a b c d) 0)
           (cond e (refused 6 (ask .table) (ask .list))
           (cond f
-          (record { number = 7; shots = length (frameShots (ask .mode) G R); cost = 0; sliver = 0; table = written (costs (ask .mode) G R) (ask .table); list = ask .list })
+          (record { number = 7; shots = length (frameShots (ask .mode) G R); cost = 0; sliver = 0; cuts = 0; table = written (costs (ask .mode) G R) (ask .table); list = ask .list })
           (record {
             number = 0;
             shots = length (frameShots (ask .mode) G R);
             cost = frameCost (ask .mode) G R;
             sliver = frameSliver (ask .mode) G R;
+            cuts = weighedCuts G;
             table = written (costs (ask .mode) G R) (ask .table);
             list = written (frameNumbers (ask .mode) G R) (ask .list);
           })))

@@ -3,8 +3,8 @@
 --   right row      == the test of a row, which computes
 --   right-says     == a row that passes it holds
 --   rows-hold      == all of them hold
---   wheel-rows-hold == and those of pinwheels
---   entries-of-L   == the nine entries of L's table by 25 nm and 40, in their order
+--   new-rows-hold, wheel-rows-hold == and those by the default rule, and those of pinwheels
+--   entries-of-L, new-entries-of-L == the nine entries of L's table by 25 nm and 40, and by 10 nm and 100, in their order
 use Prim.Native.Nat.{ℕ, _*_, _≤_, _<_}
 use mathlib.Core.Path.{_≡_, refl, sym, _∙_, ap, ap₂, subst}
 use mathlib.Core.Bool.{Bool, true, false, _&&_, true≢false}
@@ -38,7 +38,7 @@ use Rattle.piece.proofs.Choice.{numbers-length}
 use Rattle.table.specs.Entry.{pairsBelow, pairCount, pairs, entryCount, tabled, costs}
 use Rattle.demands.specs.Promise.{Asked, drawn, ruleOf, frameShots, frameCost, frameSliver, frameNumbers, written, refused, outcome}
 use Rattle.demands.specs.Demands.{Filled}
-use Rattle.demands.specs.Rows.{By, only-by, any as any-rule, Meant, Rival, Row, Says, Holds, L, entriesOfL, rows, wheelRows}
+use Rattle.demands.specs.Rows.{By, only-by, any as any-rule, Meant, Rival, Row, Says, Holds, L, entriesOfL, newEntriesOfL, rows, newRows, wheelRows}
 use Rattle.demands.proofs.Outcome.{accepted, written-front, outcome-seen, outcome-accepted, outcome-figure}
 use Rattle.demands.proofs.Refusals.{and-true}
 use Rattle.demands.proofs.Accepted.{front-table}
@@ -98,6 +98,10 @@ weighed-all mode f r (k ∷ ks) e =
 rows-pass : (right-all rows && same (costs Straight (grid L) (rule 25 40)) entriesOfL) ≡ true
 unfolding right-all rightBy told same weighed refusal fault frameShots frameCost frameSliver frameNumbers entryCount pairCount pairsBelow pairs tabled costs sumOf over join shotsBy cheapest least cells kind frame cellSum kindOf width height left right bottom top lowSide highSide cost shots straightCuts cuts parts between run numbersOf numbers grid gridOf corners coordinate last steps around any edges threes lastButOne turns changes odd share badLength badFigure slanted unturned both neither alike same-coordinate insert rising lines place wall walls covers count within empty inside.insideCells piece.insideCells piece.sliver piece.charge longer sliverOf chargeOf
 rows-pass = refl
+
+new-rows-pass : (right-all newRows && same (costs Straight (grid L) (rule 10 100)) newEntriesOfL) ≡ true
+unfolding right-all rightBy told same weighed refusal fault frameShots frameCost frameSliver frameNumbers entryCount pairCount pairsBelow pairs tabled costs sumOf over join shotsBy cheapest least cells kind frame cellSum kindOf width height left right bottom top lowSide highSide cost shots straightCuts cuts parts between run numbersOf numbers grid gridOf corners coordinate last steps around any edges threes lastButOne turns changes odd share badLength badFigure slanted unturned both neither alike same-coordinate insert rising lines place wall walls covers count within empty inside.insideCells piece.insideCells piece.sliver piece.charge longer sliverOf chargeOf
+new-rows-pass = refl
 
 wheel-rows-pass : right-all wheelRows ≡ true
 unfolding right-all rightBy told same weighed refusal fault frameShots frameCost frameSliver frameNumbers entryCount pairCount pairsBelow pairs tabled costs sumOf over join shotsBy cheapest least cells kind frame cellSum kindOf width height left right bottom top lowSide highSide cost shots turnsOf straightCuts wheels cuts parts between run numbersOf numbers grid gridOf corners coordinate last steps around any edges threes lastButOne turns changes odd share badLength badFigure slanted unturned both neither alike same-coordinate insert rising lines place wall walls covers count within empty inside.insideCells piece.insideCells piece.sliver piece.charge longer sliverOf chargeOf
@@ -198,14 +202,27 @@ all-say (row ∷ l) e = let s = and-true _ _ e in (right-says (row .by) row refl
 pub rows-hold : All Holds rows
 rows-hold = all-say rows (and-true _ _ rows-pass .0)
 
+pub new-rows-hold : All Holds newRows
+new-rows-hold = all-say newRows (and-true _ _ new-rows-pass .0)
+
 pub wheel-rows-hold : All Holds wheelRows
 wheel-rows-hold = all-say wheelRows wheel-rows-pass
 
-pub entries-of-L : (ask : Asked) → ask .mode ≡ Straight → ask .figure ≡ L → ask .threshold ≡ 25 → ask .weight ≡ 40 → Filled (outcome ask)
-    → take 9 (outcome ask .table) ≡ entriesOfL
+-- the entries of L's table by a rule, which were computed
+entries-by : (t w : ℕ) (l : List ℕ) → costs Straight (grid L) (rule t w) ≡ l
+    → (ask : Asked) → ask .mode ≡ Straight → ask .figure ≡ L → ask .threshold ≡ t → ask .weight ≡ w → Filled (outcome ask)
+    → take (length l) (outcome ask .table) ≡ l
 unfolding drawn
-entries-of-L ask way of t w f =
-    let e : costs (ask .mode) (drawn ask) (ruleOf ask) ≡ entriesOfL =
-    ap (λ m. costs m (drawn ask) (ruleOf ask)) way ∙ ap₂ (λ f r. costs Straight (grid f) r) of (ap₂ rule t w) ∙ same-is _ _ (and-true (right-all rows) _ rows-pass .1)
+entries-by t w l made ask way of et ew f =
+    let e : costs (ask .mode) (drawn ask) (ruleOf ask) ≡ l =
+    ap (λ m. costs m (drawn ask) (ruleOf ask)) way ∙ ap₂ (λ f r. costs Straight (grid f) r) of (ap₂ rule et ew) ∙ made
     in
     ap (λ l. take (length l) (outcome ask .table)) (sym e) ∙ front-table ask f ∙ e
+
+pub entries-of-L : (ask : Asked) → ask .mode ≡ Straight → ask .figure ≡ L → ask .threshold ≡ 25 → ask .weight ≡ 40 → Filled (outcome ask)
+    → take 9 (outcome ask .table) ≡ entriesOfL
+entries-of-L = entries-by 25 40 entriesOfL (same-is _ _ (and-true (right-all rows) _ rows-pass .1))
+
+pub new-entries-of-L : (ask : Asked) → ask .mode ≡ Straight → ask .figure ≡ L → ask .threshold ≡ 10 → ask .weight ≡ 100 → Filled (outcome ask)
+    → take 9 (outcome ask .table) ≡ newEntriesOfL
+new-entries-of-L = entries-by 10 100 newEntriesOfL (same-is _ _ (and-true (right-all newRows) _ new-rows-pass .1))

@@ -62,7 +62,7 @@ between-lines f up i j h = elim (le-or j i) [
 ]
 
 -- a test that holds says where the square lies, and back
-held : (x y : ℕ) (s : Shot) → holds x y s ≡ true → (s .xlow ≤ x) × (x < s .xhigh) × (s .ylow ≤ y) × (y < s .yhigh)
+pub held : (x y : ℕ) (s : Shot) → holds x y s ≡ true → (s .xlow ≤ x) × (x < s .xhigh) × (s .ylow ≤ y) × (y < s .yhigh)
 unfolding holds
 held x y s = go (leb (s .xlow) x) refl (ltb x (s .xhigh)) refl (leb (s .ylow) y) refl (ltb y (s .yhigh)) refl
   where
@@ -117,7 +117,7 @@ module _ (g : Grid) (F : ℕ → ℕ → Bool) (sound : Sound g) (shows : Shows 
       )
 
   -- the lowest square of a cell
-  cell-square : (p : Piece) → Valid (g .columns) (g .rows) p → (t : Bool) → ((x y : ℕ) → holds x y (rectangle g p) ≡ true → F x y ≡ t)
+  pub cell-square : (p : Piece) → Valid (g .columns) (g .rows) p → (t : Bool) → ((x y : ℕ) → holds x y (rectangle g p) ≡ true → F x y ≡ t)
       → (i j : ℕ) → Within p i j → g .inside i j ≡ t
   cell-square p v t h i j w =
       let hi : i < g .columns = omega (arith, w .c, v .cx) in

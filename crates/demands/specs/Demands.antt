@@ -49,7 +49,7 @@ abbrev pub pairAt : ℕ → ℕ → ℕ → ℕ
 pairAt n i j = (i * (2 * n + 1 - i)) / 2 + (j - i - 1)
 
 unfoldable pub answer : Outcome → Outcome
-answer o = record { number = o .number; shots = o .shots; cost = o .cost; sliver = o .sliver; table = []; list = [] }
+answer o = record { number = o .number; shots = o .shots; cost = o .cost; sliver = o .sliver; cuts = o .cuts; table = []; list = [] }
 
 abbrev pub Filled : Outcome → Type 0
 Filled o = (o .number ≡ 0) ⊎ (o .number ≡ refusalNo because.List)

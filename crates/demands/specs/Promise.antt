@@ -12,7 +12,7 @@
 --                              == their charges together, in thousandths of a shot; their sliver lengths together, in nm
 --   frameNumbers mode g r      == their numbers: x low, y low, x high, y high of each
 -- The outcome, stage by stage
---   Outcome                    == the number of the refusal, 0 on success; the three values beside it; what both buffers hold then
+--   Outcome                    == the number of the refusal, 0 on success; the four values beside it; what both buffers hold then
 --   written front old          == a buffer that held old, with front written at its front, and everything beyond as it came in
 --   refused n table list       == a refusal by the number n: zeros beside it, and nothing changed
 --   delivered mode g r table list
@@ -39,6 +39,7 @@ use Rattle.piece.specs.declared.Mode.{Mode}
 use Rattle.piece.specs.Piece.{Piece, frame, sliver, charge}
 use Rattle.piece.specs.Cuts.{shots, numbersOf}
 use Rattle.table.specs.Entry.{entryCount, costs}
+use Rattle.demands.specs.Cuts.{weighedCuts}
 
 pub record Asked : Type 0 where
   pub mode : Mode
@@ -75,6 +76,7 @@ pub record Outcome : Type 0 where
   pub shots : ℕ
   pub cost : ℕ
   pub sliver : ℕ
+  pub cuts : ℕ
   pub table : List ℕ
   pub list : List ℕ
 
@@ -82,7 +84,7 @@ unfoldable pub written : List ℕ → List ℕ → List ℕ
 written front old = front ++ drop (length front) old
 
 unfoldable pub refused : ℕ → List ℕ → List ℕ → Outcome
-refused n table list = record { number = n; shots = 0; cost = 0; sliver = 0; table = table; list = list }
+refused n table list = record { number = n; shots = 0; cost = 0; sliver = 0; cuts = 0; table = table; list = list }
 
 unfoldable pub delivered : Mode → Grid → Rule → List ℕ → List ℕ → Outcome
 delivered mode g r table list =
@@ -92,6 +94,7 @@ delivered mode g r table list =
       shots = length (frameShots mode g r);
       cost = 0;
       sliver = 0;
+      cuts = 0;
       table = table;
       list = list;
     })
@@ -100,6 +103,7 @@ delivered mode g r table list =
       shots = length (frameShots mode g r);
       cost = frameCost mode g r;
       sliver = frameSliver mode g r;
+      cuts = weighedCuts g;
       table = table;
       list = written (frameNumbers mode g r) list;
     })

@@ -1,5 +1,5 @@
 -- To believe: the ten proved rows of document 01, "Drawings to test on" (that of the 10 nm square as document 02's Item 4 has it), four with rings,
--- one of a tie, three of flecks, and five of two drawings that pinwheels cut best.
+-- one of a tie, three of flecks, four by the default rule of Item 7, and five of two drawings that pinwheels cut best.
 --
 --   By                 == the rule that a row is for: one of threshold and weight, or any in range
 --   Meant b t w        == the row is for the rule of threshold t and weight w
@@ -10,12 +10,12 @@
 --   Holds row          == for every rule that the row is for, and any buffers with room for 14,400 entries and 225 shots, that is the
 --                         outcome
 --   outline l          == the figure of one ring with the corners of the list l
---   entriesOfL         == all entries of L's table by the rule of 25 nm and 40, in the order of entries
+--   entriesOfL, newEntriesOfL   == all entries of L's table by the rule of 25 nm and 40, and by that of 10 nm and 100, in the order of entries
 --   bar, foot          == a bar that is kept whole though its halves would cost less; a block on a foot of 10 nm
 --   L, B, framed, windowed   == the drawing of "The job program", the block with a nose, a frame with a window, the same with its window first
 --   Z                  == two blocks that share a strip, of which only the order of lines says how it is cut
 --   W1, W2             == two drawings that a pinwheel cuts best, by the first and by the second turn
---   rows, wheelRows    == the table, and its rows of pinwheels
+--   rows, newRows, wheelRows    == the table, its rows by the rule of 10 nm and 100, and its rows of pinwheels
 use Prim.Native.Nat.{ℕ, _*_, _/_, _≤_}
 use mathlib.Core.Path.{_≡_}
 use mathlib.Core.Bool.{true}
@@ -91,6 +91,10 @@ L = outline (0 ∷ 0 ∷ 100 ∷ 0 ∷ 100 ∷ 20 ∷ 60 ∷ 20 ∷ 60 ∷ 80 �
 abbrev pub entriesOfL : List ℕ
 entriesOfL = 3400 ∷ 1000 ∷ 1000 ∷ 6600 ∷ 5200 ∷ 1000 ∷ 4200 ∷ 4200 ∷ 0 ∷ []
 
+-- by 10 nm no shot of L is a sliver: each piece costs its number of shots
+abbrev pub newEntriesOfL : List ℕ
+newEntriesOfL = 1000 ∷ 1000 ∷ 1000 ∷ 1000 ∷ 2000 ∷ 1000 ∷ 1000 ∷ 1000 ∷ 0 ∷ []
+
 -- the block with a nose of 10 nm
 abbrev pub B : Figure
 B = outline (0 ∷ 0 ∷ 200 ∷ 0 ∷ 200 ∷ 50 ∷ 210 ∷ 50 ∷ 210 ∷ 150 ∷ 200 ∷ 150 ∷ 200 ∷ 200 ∷ 0 ∷ 200 ∷ [])
@@ -145,6 +149,15 @@ rows =
       list = [];
       rivals = [];
     }
+    ∷ []
+
+-- document 02, Item 7: what the default rule makes of L, of B, and of bars of 24 and of 9 nm
+abbrev pub newRows : List Row
+newRows =
+    good L 10 100 2000 0 (0 ∷ 0 ∷ 60 ∷ 80 ∷ 60 ∷ 0 ∷ 100 ∷ 20 ∷ []) []
+    ∷ good B 10 100 2000 0 (0 ∷ 0 ∷ 200 ∷ 200 ∷ 200 ∷ 50 ∷ 210 ∷ 150 ∷ []) []
+    ∷ good (outline (0 ∷ 0 ∷ 100 ∷ 0 ∷ 100 ∷ 24 ∷ 0 ∷ 24 ∷ [])) 10 100 1000 0 (0 ∷ 0 ∷ 100 ∷ 24 ∷ []) []
+    ∷ good (outline (0 ∷ 0 ∷ 100 ∷ 0 ∷ 100 ∷ 9 ∷ 0 ∷ 9 ∷ [])) 10 100 21000 200 (0 ∷ 0 ∷ 100 ∷ 9 ∷ []) []
     ∷ []
 
 -- one ring that touches itself, with five lines each way; the other is its mirror image

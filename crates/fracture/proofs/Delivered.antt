@@ -8,6 +8,7 @@
 --   frame-aside, frame-emittable    : its shots have room in 900 numbers, and in a list that has enough
 --   frame-within                    : its entry is the table's
 --   frame-listed, frame-charged     : they are listed once they are written, and the table has what they are charged
+--   walk-shaded                     : the cells are those that are counted
 --   told-lacking, told-listed       : the answer of a list that is too short, and of one that is not
 use Prim.Native.Nat.{ℕ, zero, suc, _+_, _*_, _-_, _/_, _≤_, _<_}
 use mathlib.Core.Path.{_≡_, refl, ap, ap₂, sym, _∙_, subst}
@@ -39,6 +40,8 @@ use Rattle.emission.specs.Emission.{Written, Walk, Emittable}
 use Rattle.emission.specs.Measuring.{shotNo, Stands, Listed}
 use Rattle.emission.proofs.Emitted.{count-cells, count-few, slivers-few}
 use Rattle.emission.proofs.Measured.{numbers-at}
+use Rattle.demands.specs.Cuts.{weighedCuts}
+use Rattle.count.specs.Count.{Shaded}
 use Rattle.demands.specs.Promise.{frameShots, frameCost, frameSliver, frameNumbers, Outcome, written, delivered}
 use Rattle.fracture.specs.declared.Fractured.the-variants.{Done, Refused}
 use Rattle.fracture.specs.declared.delivery.Room.the-variants.{Enough, Short}
@@ -78,6 +81,20 @@ module _ (g : Grid) (r : Rule) (t cs : List ℕ) (plan : Plan) (f : Costed g r t
         rows-some = omega (arith, f .rows, s .rows-some);
         rows-most = omega (arith, f .rows, s .rows-most);
         pairs = f .pairs;
+      }
+
+  pub walk-shaded : Shaded g cs (plan .columns) (plan .rows)
+  walk-shaded =
+      let s = walk-sized in
+      record {
+        across = f .columns;
+        upright = f .rows;
+        columns-some = s .columns-some;
+        columns-most = s .columns-most;
+        rows-some = s .rows-some;
+        rows-most = s .rows-most;
+        cells-length = f .cells-length;
+        cell-at = f .cell-at;
       }
 
   frame-is : box 0 (plan .columns) 0 (plan .rows) ≡ frame g
@@ -215,7 +232,7 @@ module _ (g : Grid) (r : Rule) (t cs xs ys : List ℕ) (plan : Plan) (w : Walk g
   -- the two ends of a delivery
   lacking : List ℕ → Outcome
   lacking list =
-      record { number = 7; shots = length (frameShots Straight g r); cost = 0; sliver = 0; table = t; list = list }
+      record { number = 7; shots = length (frameShots Straight g r); cost = 0; sliver = 0; cuts = 0; table = t; list = list }
 
   listed : List ℕ → Outcome
   listed list =
@@ -224,6 +241,7 @@ module _ (g : Grid) (r : Rule) (t cs xs ys : List ℕ) (plan : Plan) (w : Walk g
         shots = length (frameShots Straight g r);
         cost = frameCost Straight g r;
         sliver = frameSliver Straight g r;
+        cuts = weighedCuts g;
         table = t;
         list = written (frameNumbers Straight g r) list;
       }
@@ -234,15 +252,15 @@ module _ (g : Grid) (r : Rule) (t cs xs ys : List ℕ) (plan : Plan) (w : Walk g
   told-lacking list {k} h =
       let s = short-says (length list) (length (shots Straight g r (meant (p .piece)))) k h in
       let b : length list < 4 * length (frameShots Straight g r) = omega (arith, s .1, ap length same-frame) in
-      (λ i. record { number = 7; shots = (s .0 ∙ ap length same-frame) i; cost = 0; sliver = 0; table = t; list = list })
+      (λ i. record { number = 7; shots = (s .0 ∙ ap length same-frame) i; cost = 0; sliver = 0; cuts = 0; table = t; list = list })
       ∙ sym (ap (λ x. cond x (lacking list) (listed list)) (lt-ltb (length list) (4 * length (frameShots Straight g r)) b))
 
-  pub told-listed : (list list′ : List ℕ) {n v : ℕ} → Enough ≡ roomOf (length list) (length (shots Straight g r (meant (p .piece))))
+  pub told-listed : (list list′ : List ℕ) {n v m : ℕ} → Enough ≡ roomOf (length list) (length (shots Straight g r (meant (p .piece))))
       → Written g list list′ 0 (shots Straight g r (meant (p .piece))) n
-      → v ≡ sumOf (sliver g (plan .rule)) (shots Straight g r (meant (p .piece)))
-      → told (Done (n / 4) (getD t (p .entry) 0) v) t list′ ≡ delivered Straight g r t list
+      → v ≡ sumOf (sliver g (plan .rule)) (shots Straight g r (meant (p .piece))) → m ≡ weighedCuts g
+      → told (Done (n / 4) (getD t (p .entry) 0) v m) t list′ ≡ delivered Straight g r t list
   unfolding delivered told written lacking listed frameCost frameSliver frameNumbers
-  told-listed list list′ h v s =
+  told-listed list list′ h v s k =
       let m = enough-says (length list) (length (shots Straight g r (meant (p .piece)))) h in
       let b : 4 * length (frameShots Straight g r) ≤ length list = omega (arith, m, ap length same-frame) in
       (λ i.
@@ -250,6 +268,7 @@ module _ (g : Grid) (r : Rule) (t cs xs ys : List ℕ) (plan : Plan) (w : Walk g
         number = 0;
         shots = (frame-count list list′ h v ∙ ap length same-frame) i;
         cost = (frame-cost ∙ ap (sumOf (charge g r)) same-frame) i;
+        cuts = k i;
         sliver = (s ∙ ap₂ (λ (x : Rule) (l : List Piece). sumOf (sliver g x) l) (w .rule) same-frame) i;
         table = t;
         list = (front list list′ h v ∙ ap (λ s. written (numbersOf g s) list) same-frame) i;

@@ -2,7 +2,7 @@
 --
 -- Of a call of `fracture` with the corners, ring lengths, threshold t, weight w, table and list that answers Done and leaves table′ and
 -- list′. `settled` is its contract; `typed` is what the language says of a `&[u16]`: each of its numbers is one of the type u16. There is
--- no other premise. `fracture_default` is the same at t and w of preset 0. The theorems speak of what was answered and left: the numbers
+-- no other premise. `fracture_default` is the same at t and w of the default preset. The theorems speak of what was answered and left: the numbers
 -- shots, cost and sliver, table′, and `given`, the shots that the first 4 x shots numbers of list′ say. That the numbers of a `&[u16]` are
 -- `typed` is proved of the code in `fracture_by`, which both calls hand their corners to (its clause `words`).
 --   call-cover           == each unit square is in exactly one given shot if it is inside, and in none if not
@@ -10,8 +10,10 @@
 --   call-these           == count, sliver length and cost are those of these very shots
 --   call-never-cheaper   == no way to cut the frame totals less than the cost
 --   call-attained        == one way has the given shots, and totals the cost
+--   call-cuts            == the cuts are those of the figure at unit squares, and at most 134,400
+--   call-ahead           == they are what `cuts` has told ahead
 --   call-bound           == neither the cost nor a table entry exceeds 2,097,345,000
---   default-row          == `fracture_default` of L answers 2 shots, cost 5200 and sliver length 80, lists them, and leaves L's nine entries
+--   default-row          == `fracture_default` of L answers 2 shots, cost 2000, sliver length 0 and 4 cuts, lists them, and leaves L's nine entries
 use Prim.Native.Nat.{ℕ, _*_, _≤_, _<_}
 use mathlib.Core.Path.{_≡_, refl, sym, _∙_, ap, subst}
 use mathlib.Core.Bool.{Bool, true}
@@ -33,15 +35,21 @@ use Rattle.piece.specs.declared.Mode.the-variants.{Straight}
 use Rattle.piece.specs.Piece.{Piece}
 use Rattle.table.specs.Entry.{entryOf}
 use Rattle.demands.specs.Promise.{Asked, asked, drawn, Outcome, outcome}
+use Rattle.demands.specs.Cuts.{ahead, at, squareCuts}
 use Rattle.demands.specs.Square.{shotSliver, shotCharge}
 use Rattle.demands.specs.Ways.{Way, shotsOf, total, On, frameOf}
 use Rattle.demands.specs.Demands.{Words, PieceOf, reported, entry}
-use Rattle.demands.specs.Rows.{Row, Says, L, entriesOfL}
+use Rattle.demands.specs.Rows.{Row, Says, L}
 use Rattle.demands.proofs.Demands as demands
-use Rattle.demands.proofs.Rows.{rows-hold, entries-of-L}
+use Rattle.demands.proofs.Rows.{new-rows-hold, new-entries-of-L}
+use Rattle.demands.proofs.Counted.{cuts-are, cuts-figure, cuts-most, cuts-ahead}
+use Rattle.demands.proofs.CutRows.{cut-rows}
 use Rattle.fracture.specs.declared.Fractured.{Fractured}
 use Rattle.fracture.specs.declared.Fractured.the-variants.{Done, Refused}
-use Rattle.fracture.specs.Told.{told, byDefault}
+use Rattle.fracture.specs.declared.Forecast.{Forecast}
+use Rattle.fracture.specs.declared.Forecast.the-variants as forecast
+use Rattle.fracture.specs.declared.Forecast.the-variants.{Cuts}
+use Rattle.fracture.specs.Told.{told, byDefault, aheadTold}
 
 module _ (corners lengths : List ℕ) (t w : ℕ) (table list : List ℕ) where
   abbrev ask : Asked
@@ -63,8 +71,8 @@ module _ (corners lengths : List ℕ) (t w : ℕ) (table list : List ℕ) where
   abbrev AnyWay : Type 0
   AnyWay = Way Straight F OnX OnY (frameOf (cornersOf (figure corners lengths)))
 
-  module _ (typed : (i : ℕ) → Fits w16 (getD corners i 0)) (shots cost sliver : ℕ) (table′ list′ : List ℕ)
-      (settled : told (Done shots cost sliver) table′ list′ ≡ outcome ask) where
+  module _ (typed : (i : ℕ) → Fits w16 (getD corners i 0)) (shots cost sliver cuts : ℕ) (table′ list′ : List ℕ)
+      (settled : told (Done shots cost sliver cuts) table′ list′ ≡ outcome ask) where
     abbrev given : List Shot
     given = shotsIn (take (4 * shots) list′)
 
@@ -76,7 +84,7 @@ module _ (corners lengths : List ℕ) (t w : ℕ) (table list : List ℕ) where
     done = sym (ap (λ o. o .number) settled)
 
     -- what holds of the outcome holds of what was told
-    said : (P : Outcome → Type 0) → P (outcome ask) → P (told (Done shots cost sliver) table′ list′)
+    said : (P : Outcome → Type 0) → P (outcome ask) → P (told (Done shots cost sliver cuts) table′ list′)
     said P h = subst P (sym settled) h
 
     pub call-cover : (x y : ℕ) → sumOf (λ s. only (holds x y s) 1) given ≡ only (F x y) 1
@@ -132,13 +140,26 @@ module _ (corners lengths : List ℕ) (t w : ℕ) (table list : List ℕ) where
       said (λ o. (p : Piece) → PieceOf (drawn ask) p → entry o (drawn ask) p ≤ 2097345000) (demands.bound ask words (inl done)),
     )
 
+    pub call-cuts : (cuts ≡ squareCuts F (at X (cornersOf (figure corners lengths))) (at Y (cornersOf (figure corners lengths)))) × (cuts ≤ 134400)
+    unfolding told
+    call-cuts = (
+      said (λ o. o .cuts ≡ squareCuts F (at X (cornersOf (figure corners lengths))) (at Y (cornersOf (figure corners lengths)))) (cuts-figure ask words done),
+      said (λ o. o .cuts ≤ 134400) (cuts-most ask words),
+    )
+
+    -- what was told ahead by the other call
+    pub call-ahead : (f : Forecast) → aheadTold f ≡ ahead (figure corners lengths) → f ≡ Cuts cuts
+    unfolding told aheadTold
+    call-ahead (Cuts n) e = ap Cuts (ap (λ a. a .cuts) (e ∙ cuts-ahead ask done) ∙ sym (ap (λ o. o .cuts) settled))
+    call-ahead (forecast.Refused why) e = absurd (omega (arith, refusal-some why, ap (λ a. a .number) (e ∙ cuts-ahead ask done)))
+
 -- The call without a rule
 
 -- what a row says of an outcome it says of the answer that tells it
-row-told : {row : Row} {r : Rule} {o : Outcome} (s c n : ℕ) (table list : List ℕ) → told (Done s c n) table list ≡ o → Says row r o
+row-told : {row : Row} {r : Rule} {o : Outcome} (s c n k : ℕ) (table list : List ℕ) → told (Done s c n k) table list ≡ o → Says row r o
     → (4 * s ≡ length (row .list)) × (c ≡ row .cost) × (n ≡ row .sliver) × (take (4 * s) list ≡ row .list)
 unfolding told
-row-told s c n table list e q = (
+row-told s c n k table list e q = (
   ap (λ o. 4 * o .shots) e ∙ q .count,
   ap (λ o. o .cost) e ∙ q .cost,
   ap (λ o. o .sliver) e ∙ q .sliver,
@@ -148,14 +169,17 @@ row-told s c n table list e q = (
 -- with room as the rows have it: for 14,400 entries and 225 shots
 pub default-row : (a : Fractured) (table list table′ list′ : List ℕ) → 14400 ≤ length table → 900 ≤ length list
     → told a table′ list′ ≡ outcome (byDefault (L .numbers) (L .lengths) table list)
-    → (a ≡ Done 2 5200 80) × (take 8 list′ ≡ 0 ∷ 0 ∷ 60 ∷ 80 ∷ 60 ∷ 0 ∷ 100 ∷ 20 ∷ []) × (take 9 table′ ≡ entriesOfL)
-unfolding told presetTold inRange
-default-row (Done s c n) table list table′ list′ k m settled =
+    → (a ≡ Done 2 2000 0 4) × (take 8 list′ ≡ 0 ∷ 0 ∷ 60 ∷ 80 ∷ 60 ∷ 0 ∷ 100 ∷ 20 ∷ [])
+    × (take 9 table′ ≡ 1000 ∷ 1000 ∷ 1000 ∷ 1000 ∷ 2000 ∷ 1000 ∷ 1000 ∷ 1000 ∷ 0 ∷ [])
+unfolding told presetTold inRange drawn
+default-row (Done s c n w) table list table′ list′ k m settled =
     let ask = byDefault (L .numbers) (L .lengths) table list in
-    let q = row-told s c n table′ list′ settled (rows-hold .0 ask refl refl (refl, refl) refl k m) in
+    let q = row-told s c n w table′ list′ settled (new-rows-hold .0 ask refl refl (refl, refl) refl k m) in
     let two : s ≡ 2 = omega (arith, q .0) in
-    let full = entries-of-L ask refl refl refl refl (inl (sym (ap (λ o. o .number) settled))) in
-    (cc (q .1, q .2), ap (λ i. take i list′) (sym (q .0)) ∙ q .3, ap (λ o. take 9 (o .table)) settled ∙ full)
+    let done : outcome ask .number ≡ 0 = sym (ap (λ o. o .number) settled) in
+    let full = new-entries-of-L ask refl refl refl refl (inl done) in
+    let four : w ≡ 4 = ap (λ o. o .cuts) settled ∙ cuts-are ask done ∙ cut-rows .0 in
+    (cc (q .1, q .2, four), ap (λ i. take i list′) (sym (q .0)) ∙ q .3, ap (λ o. take 9 (o .table)) settled ∙ full)
 default-row (Refused why s) table list table′ list′ k m settled =
-    let q = rows-hold .0 (byDefault (L .numbers) (L .lengths) table list) refl refl (refl, refl) refl k m in
+    let q = new-rows-hold .0 (byDefault (L .numbers) (L .lengths) table list) refl refl (refl, refl) refl k m in
     absurd (omega (arith, refusal-some why, ap (λ o. o .number) settled, q .number))

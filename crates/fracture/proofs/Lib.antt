@@ -1,4 +1,4 @@
+pub mod Demands
 pub mod Delivered
 pub mod Gridded
 pub mod Settled
-pub mod Demands

@@ -100,10 +100,14 @@ pub fn deliver(
             let at = frame.entry;
             let cost = costs[at];
             let sliver = slivers(cells, xs, ys, list, rule, shots, cost);
+            let columns = plan.columns;
+            let rows = plan.rows;
+            let cuts = count::cuts(cells, columns, rows);
             Fractured::Done {
                 shots: shots as u32,
                 cost,
                 sliver,
+                cuts,
             }
         }
     }

@@ -1,4 +1,4 @@
-// From a figure to its shots by straight cuts: the fill, the delivery, and the two calls.
+// From a figure to its shots by straight cuts: the fill, the delivery, and the calls.
 use delivery::deliver;
 use fill::fill;
 use outline::Answer;
@@ -20,16 +20,28 @@ ghost use Rattle.outline.specs.Grid.{Grid, memory};
 ghost use Rattle.piece.specs.declared.Mode.the-variants.{Straight};
 ghost use Rattle.demands.specs.Promise.{asked, gridded, ruled, outcome};
 ghost use Rattle.demands.specs.Demands.{Words};
+ghost use Rattle.demands.specs.Cuts.{ahead};
 ghost use Rattle.fracture.specs.Delivery.{Laid, Fillable};
-ghost use Rattle.fracture.specs.Told.{told, byDefault};
+ghost use Rattle.fracture.specs.Told.{told, byDefault, aheadTold};
 
 mod delivery;
 
-// What a fracture answers: how many shots, their cost in thousandths of a shot and their sliver length in nm; or why there are none, and
-// beside it how many shots there are where the list is too short for them, else 0.
+// What a fracture answers: how many shots, their cost in thousandths of a shot, their sliver length in nm, and how many cuts were weighed;
+// or why there are none, and beside it how many shots there are where the list is too short for them, else 0.
 pub enum Fractured {
-    Done { shots: u32, cost: u32, sliver: u32 },
+    Done {
+        shots: u32,
+        cost: u32,
+        sliver: u32,
+        cuts: u32,
+    },
     Refused(Refusal, u32),
+}
+
+// What is told of a figure ahead of its fracture: how many cuts it will weigh, or why it will be refused.
+pub enum Forecast {
+    Cuts(u32),
+    Refused(Refusal),
 }
 
 // The fracture of the grid of a figure by a rule in range: 6, 7 or the shots.
@@ -118,5 +130,24 @@ pub fn fracture_default(
     match Rule::preset(Rule::DEFAULT_PRESET) {
         Preset::Row(rule) => fracture_by(corners, lengths, rule, table, list),
         Preset::Refused(why) => Fractured::Refused(why, 0),
+    }
+}
+
+// How many cuts the fracture of a figure will weigh, without a rule, a table or a list; or 2 to 5.
+pub fn cuts(corners: &[u16], lengths: &[u16]) -> Forecast
+    ensures settled { λ a. ⌜ aheadTold a ≡ ahead (figure (now (corners .entry)) (now (lengths .entry))) ⌝ }
+{
+    let mut xs = [0u16; MOST_LINES];
+    let mut ys = [0u16; MOST_LINES];
+    let mut cells = [0u8; MOST_CELLS];
+    let drawing = draw(corners, lengths, &mut xs, &mut ys, &mut cells);
+    let answer = drawing.answer;
+    match answer {
+        Answer::Accepted => {
+            let columns = drawing.columns;
+            let rows = drawing.rows;
+            Forecast::Cuts(count::cuts(&cells, columns, rows))
+        }
+        Answer::Refused(why) => Forecast::Refused(why),
     }
 }

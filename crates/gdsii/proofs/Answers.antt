@@ -4,6 +4,7 @@
 --   held-figure      == the front of the local numbers is the ring, with its number of corners
 --   exit-shape, exit-room, exit-stored == reading: 3 to 5, 14, or the corners
 --   exit-refused, exit-done == a fracture: its refusal, or its shots
+--   qualified-by, qualified-known == a fracture by the rule of preset 0 is the qualified one; and there is that preset
 use Prim.Native.Nat.{ℕ, _-_, _*_, _<_, _≤_}
 use mathlib.Core.Path.{_≡_, _∙_, sym, ap, ap₂}
 use mathlib.Core.List.{List, [], _∷_}
@@ -20,17 +21,20 @@ use Rattle.sum.proofs.Lists.{sets-front}
 use Rattle.refusal.specs.declared.Refusal.{Refusal}
 use Rattle.refusal.specs.Refusals.{refusalNo}
 use Rattle.refusal.proofs.Refusals.{refusal-some}
+use Rattle.rule.specs.declared.Rule.{Rule}
+use Rattle.rule.specs.Rules.{Told, given, refused as unknown, presetTold}
 use Rattle.number.specs.Reading.{read}
 use Rattle.figure.specs.declared.Axis.the-variants.{X, Y}
 use Rattle.figure.specs.Figure.{figure}
 use Rattle.outline.specs.Promise.{refusal}
-use Rattle.demands.specs.Promise.{Outcome, outcome, written}
+use Rattle.piece.specs.declared.Mode.the-variants.{Straight}
+use Rattle.demands.specs.Promise.{Outcome, asked, outcome, written}
 use Rattle.fracture.specs.declared.Fractured.the-variants.{Done, Refused}
-use Rattle.fracture.specs.Told.{told, byDefault}
+use Rattle.fracture.specs.Told.{told}
 use Rattle.gdsii.specs.declared.stream.Run.{Run}
 use Rattle.gdsii.specs.Boundary.{points, ringOf, moved, shift, figureOf, boundary}
 use Rattle.gdsii.specs.Calls.{BoundarySaid, unread, boundaryRead, PlateSaid, unplated, fractured, platedBy, pointsFractured, boundaryFractured}
-use Rattle.gdsii.specs.Steps.{Fit, measured}
+use Rattle.gdsii.specs.Steps.{Fit, measured, qualified}
 use Rattle.gdsii.proofs.Points.{shift-told}
 use Rattle.gdsii.proofs.Measured.{ring-length, measured-fit}
 use Rattle.gdsii.proofs.Storing.{length-moved, front-stored, read-shape, read-short, read-stored}
@@ -108,15 +112,15 @@ module _ (s : List ℕ) (run : Run) (next : ℕ) (found : read run next ≡ meas
             ∙ read-stored s list (points s run) next is-read (judged good) (omega (arith, corners-length))
 
     module _ (table list : List ℕ) where
-      by-ring : (o : Outcome) → o ≡ outcome (byDefault (take (2 * (run .count - 1)) numbers) ((run .count - 1) ∷ []) table list)
+      by-ring : (o : Outcome) → o ≡ outcome (qualified (take (2 * (run .count - 1)) numbers) ((run .count - 1) ∷ []) table list)
           → platedBy (points s run) o ≡ boundaryFractured s table list
       unfolding boundaryFractured fractured
       by-ring o e =
-          ap (platedBy (points s run)) (e ∙ held-figure (λ c ns. outcome (byDefault c ns table list)))
+          ap (platedBy (points s run)) (e ∙ held-figure (λ c ns. outcome (qualified c ns table list)))
           ∙ sym (ap (pointsFractured table list) is-read)
 
       pub exit-refused : (r : Refusal) (shots : ℕ) (t u : List ℕ)
-          → told (Refused r shots) t u ≡ outcome (byDefault (take (2 * (run .count - 1)) numbers) ((run .count - 1) ∷ []) table list)
+          → told (Refused r shots) t u ≡ outcome (qualified (take (2 * (run .count - 1)) numbers) ((run .count - 1) ∷ []) table list)
           → unplated (refusalNo r) shots 0 t u ≡ boundaryFractured s table list
       unfolding told
       exit-refused r shots t u e =
@@ -127,6 +131,7 @@ module _ (s : List ℕ) (run : Run) (next : ℕ) (found : read run next ≡ meas
             shots = shots;
             cost = 0;
             sliver = 0;
+            cuts = 0;
             shift-x = cond b (shift X (points s run)) (pos 0);
             shift-y = cond b (shift Y (points s run)) (pos 0);
             offset = 0;
@@ -135,8 +140,8 @@ module _ (s : List ℕ) (run : Run) (next : ℕ) (found : read run next ≡ meas
           }) (sym z)
           ∙ by-ring (told (Refused r shots) t u) e
 
-      pub exit-done : (shots cost sliver : ℕ) (x y : ℤ) (t u : List ℕ)
-          → told (Done shots cost sliver) t u ≡ outcome (byDefault (take (2 * (run .count - 1)) numbers) ((run .count - 1) ∷ []) table list)
+      pub exit-done : (shots cost sliver cuts : ℕ) (x y : ℤ) (t u : List ℕ)
+          → told (Done shots cost sliver cuts) t u ≡ outcome (qualified (take (2 * (run .count - 1)) numbers) ((run .count - 1) ∷ []) table list)
           → x ≡ shift X (points s run) → y ≡ shift Y (points s run)
           → _≡_ {A = PlateSaid}
           (record {
@@ -144,6 +149,7 @@ module _ (s : List ℕ) (run : Run) (next : ℕ) (found : read run next ≡ meas
             shots = shots;
             cost = cost;
             sliver = sliver;
+            cuts = cuts;
             shift-x = toZ w32 (ofZ w32 x);
             shift-y = toZ w32 (ofZ w32 y);
             offset = 0;
@@ -152,8 +158,18 @@ module _ (s : List ℕ) (run : Run) (next : ℕ) (found : read run next ≡ meas
           })
           (boundaryFractured s table list)
       unfolding told
-      exit-done shots cost sliver x y t u e ex ey =
+      exit-done shots cost sliver cuts x y t u e ex ey =
           ap₂ (λ (v w : ℤ).
-          record { number = 0; shots = shots; cost = cost; sliver = sliver; shift-x = v; shift-y = w; offset = 0; table = t; list = u })
+          record { number = 0; shots = shots; cost = cost; sliver = sliver; cuts = cuts; shift-x = v; shift-y = w; offset = 0; table = t; list = u })
           (shift-told X (points s run) x ex) (shift-told Y (points s run) y ey)
-          ∙ by-ring (told (Done shots cost sliver) t u) e
+          ∙ by-ring (told (Done shots cost sliver cuts) t u) e
+
+-- the rule that plates are qualified by
+
+pub qualified-by : {r : Rule} → given r ≡ presetTold 0 → (corners lengths table list : List ℕ)
+    → outcome (asked Straight corners lengths (r .threshold) (r .weight) table list) ≡ outcome (qualified corners lengths table list)
+qualified-by e corners lengths table list = ap (λ (t : Told). outcome (asked Straight corners lengths (t .threshold) (t .weight) table list)) e
+
+pub qualified-known : (why : Refusal) → unknown (refusalNo why) ≡ presetTold 0 → ⊥
+unfolding presetTold
+qualified-known why e = omega (arith, refusal-some why, ap (λ (t : Told). t .number) e)

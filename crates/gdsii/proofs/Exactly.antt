@@ -489,6 +489,7 @@ module _ (s : List ℕ) (bytes : AllBytes s) (table list : List ℕ) where
             shots = 0;
             cost = 0;
             sliver = 0;
+            cuts = 0;
             shift-x = cond b x (pos 0);
             shift-y = cond b y (pos 0);
             offset = 0;

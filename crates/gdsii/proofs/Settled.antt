@@ -40,21 +40,22 @@ boundary-settled s l u v m m′ e f =
     (boundary-one u v m m′ g, sym (boundary-list u m) ∙ ap (λ (s : BoundarySaid). s .list) g ∙ boundary-list v m′)
 
 plate-one : (u v : Plate) (t l t′ l′ : List ℕ) → plateTold u t l ≡ plateTold v t′ l′ → u ≡ v
-plate-one (plate.Done n k w x y) (plate.Done n′ k′ w′ x′ y′) t l t′ l′ e =
+plate-one (plate.Done n k w c x y) (plate.Done n′ k′ w′ c′ x′ y′) t l t′ l′ e =
     let a : n ≡ n′ = ap (λ (s : PlateSaid). s .shots) e in
     let b : k ≡ k′ = ap (λ (s : PlateSaid). s .cost) e in
     let d : w ≡ w′ = ap (λ (s : PlateSaid). s .sliver) e in
+    let h : c ≡ c′ = ap (λ (s : PlateSaid). s .cuts) e in
     let f : x ≡ x′ = ap (λ (s : PlateSaid). s .shift-x) e in
     let g : y ≡ y′ = ap (λ (s : PlateSaid). s .shift-y) e in
-    ap₂ (λ i j. plate.Done i j w x y) a b ∙ ap₂ (λ i (z : ℤ). plate.Done n′ k′ i z y) d f ∙ ap (plate.Done n′ k′ w′ x′) g
-plate-one (plate.Done n k w x y) (plate.Refused r m p) t l t′ l′ e = absurd (never r (ap (λ (s : PlateSaid). s .number) e))
-plate-one (plate.Refused r m p) (plate.Done n k w x y) t l t′ l′ e = absurd (never r (sym (ap (λ (s : PlateSaid). s .number) e)))
+    ap₂ (λ i j. plate.Done i j w c x y) a b ∙ ap₂ (λ i j. plate.Done n′ k′ i j x y) d h ∙ ap₂ (plate.Done n′ k′ w′ c′) f g
+plate-one (plate.Done n k w c x y) (plate.Refused r m p) t l t′ l′ e = absurd (never r (ap (λ (s : PlateSaid). s .number) e))
+plate-one (plate.Refused r m p) (plate.Done n k w c x y) t l t′ l′ e = absurd (never r (sym (ap (λ (s : PlateSaid). s .number) e)))
 plate-one (plate.Refused r m p) (plate.Refused r′ m′ p′) t l t′ l′ e =
     ap₂ (λ (i : Refusal) j. plate.Refused i j p) (refusal-one r r′ (ap (λ (s : PlateSaid). s .number) e)) (ap (λ (s : PlateSaid). s .shots) e)
     ∙ ap (plate.Refused r′ m′) (ap (λ (s : PlateSaid). s .offset) e)
 
 plate-lists : (u : Plate) (t l : List ℕ) → (plateTold u t l .table ≡ t) × (plateTold u t l .list ≡ l)
-plate-lists (plate.Done n k w x y) t l = (refl, refl)
+plate-lists (plate.Done n k w c x y) t l = (refl, refl)
 plate-lists (plate.Refused r m p) t l = (refl, refl)
 
 pub plate-settled : (s t l : List ℕ) (u v : Plate) (a a′ b b′ : List ℕ) → plateTold u a b ≡ boundaryFractured s t l

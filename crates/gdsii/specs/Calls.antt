@@ -78,6 +78,7 @@ pub record PlateSaid : Type 0 where
   pub shots : ℕ
   pub cost : ℕ
   pub sliver : ℕ
+  pub cuts : ℕ
   pub shift-x : ℤ
   pub shift-y : ℤ
   pub offset : ℕ
@@ -91,6 +92,7 @@ unplated n shots at table list =
       shots = shots;
       cost = 0;
       sliver = 0;
+      cuts = 0;
       shift-x = pos 0;
       shift-y = pos 0;
       offset = at;
@@ -112,6 +114,7 @@ platedBy ps o =
       shots = o .shots;
       cost = o .cost;
       sliver = o .sliver;
+      cuts = o .cuts;
       shift-x = shiftBeside (o .number) (shift X ps);
       shift-y = shiftBeside (o .number) (shift Y ps);
       offset = 0;
@@ -127,12 +130,13 @@ unfoldable pub boundaryFractured : List ℕ → List ℕ → List ℕ → PlateS
 boundaryFractured s table list = pointsFractured table list (boundary s)
 
 abbrev pub plateTold : Plate → List ℕ → List ℕ → PlateSaid
-plateTold (plate.Done shots cost sliver x y) table list =
+plateTold (plate.Done shots cost sliver cuts x y) table list =
     record {
       number = 0;
       shots = shots;
       cost = cost;
       sliver = sliver;
+      cuts = cuts;
       shift-x = x;
       shift-y = y;
       offset = 0;

@@ -206,6 +206,7 @@ shotsTold x y o =
       shots = o .shots;
       cost = o .cost;
       sliver = o .sliver;
+      cuts = o .cuts;
       shift-x = cond (eqb (o .number) 0) x (pos 0);
       shift-y = cond (eqb (o .number) 0) y (pos 0);
       offset = 0;

@@ -6,14 +6,18 @@
 --   limited s run    == 17, 18 and 2 of a run of points, or the run
 --   measured s       == the points of an element that passes 8, 16, 17, 18 and 2
 --   Fit s run        == what is known of such a run: the points stand in the bytes, 4 to 32 of them are corners, and they fit 16 bits
+--   qualified ..     == what the fracture of a ring is asked: straight cuts by preset 0
 use Prim.Native.Nat.{ℕ, _+_, _*_, _-_, _≤_}
 use mathlib.Core.Path.{_≡_}
 use mathlib.Core.Bool.{false, cond, _||_}
 use mathlib.Core.List.{List}
 use lib.ListN.{length}
 use Rattle.refusal.specs.declared.Refusal.the-variants as because
+use Rattle.rule.specs.Rules.{presetTold}
 use Rattle.figure.specs.declared.Axis.the-variants.{X, Y}
 use Rattle.figure.specs.Figure.{mostCorners, badLength}
+use Rattle.piece.specs.declared.Mode.the-variants.{Straight}
+use Rattle.demands.specs.Promise.{Asked, asked}
 use Rattle.gdsii.specs.declared.stream.Run.{Run}
 use Rattle.gdsii.specs.declared.stream.Past.{Past}
 use Rattle.gdsii.specs.declared.stream.Past.the-variants as step
@@ -50,3 +54,7 @@ pub record Fit (s : List ℕ) (run : Run) : Type 0 where
   pub most : run .count - 1 ≤ mostCorners
   pub narrow : broad X (points s run) ≡ false
   pub low : broad Y (points s run) ≡ false
+
+abbrev pub qualified : List ℕ → List ℕ → List ℕ → List ℕ → Asked
+qualified corners lengths table list =
+    asked Straight corners lengths (presetTold 0 .threshold) (presetTold 0 .weight) table list

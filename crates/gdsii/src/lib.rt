@@ -2,7 +2,6 @@
 // unit is taken as 1 nm.
 use figure::Axis;
 use fracture::Fractured;
-use fracture::fracture_default;
 use outline::Answer;
 use outline::MOST_CELLS;
 use outline::MOST_LINES;
@@ -11,18 +10,26 @@ use places::measure;
 use places::shift;
 use places::store;
 use refusal::Refusal;
+use rule::Preset;
+use rule::Rule;
 use stream::Scanned;
 ghost use mathlib.Core.Path.{_≡_};
 ghost use mathlib.Core.List.{[], _∷_};
 ghost use Rattle.figure.specs.Figure.{figure};
 ghost use Rattle.outline.specs.Promise.{answerNo, refusal};
+ghost use Rattle.demands.specs.Promise.{outcome};
+ghost use Rattle.fracture.specs.Told.{told};
 ghost use Rattle.gdsii.specs.Calls.{boundaryTold, boundaryRead, plateTold, boundaryFractured};
+ghost use Rattle.gdsii.specs.Steps.{qualified};
 
 mod places;
 mod stream;
 
 // Two numbers for each corner of the longest ring.
 const MOST_NUMBERS: usize = 64;
+
+// The row that plates are qualified by, whatever the default is.
+const QUALIFIED_PRESET: u32 = 0;
 
 // How many corners were handed back, and what was taken off their x and y; or why there are none, and beside 8 the offset of the record
 // cut short, else 0.
@@ -42,6 +49,7 @@ pub enum Plate {
         shots: u32,
         cost: u32,
         sliver: u32,
+        cuts: u32,
         shift_x: i32,
         shift_y: i32,
     },
@@ -92,6 +100,25 @@ pub fn read_boundary(element: &[u8], list: &mut [u16]) -> Boundary
     }
 }
 
+// The fracture of a ring by the rule that plates are qualified by.
+fn fracture_qualified(
+    corners: &[u16],
+    lengths: &[u16],
+    table: &mut [u32],
+    list: &mut [u16],
+) -> Fractured
+    ensures { λ a. ⌜ told a (now (table .exit)) (now (list .exit)) ≡ outcome (qualified (now (corners .entry)) (now (lengths .entry)) (now (table .entry)) (now (list .entry))) ⌝ }
+{
+    match Rule::preset(QUALIFIED_PRESET) {
+        Preset::Row(rule) => {
+            let threshold = rule.threshold;
+            let weight = rule.weight;
+            fracture::fracture(corners, lengths, threshold, weight, table, list)
+        }
+        Preset::Refused(why) => Fractured::Refused(why, 0),
+    }
+}
+
 // Reads one boundary element and fractures its ring by preset 0: the costs at the front of the table, the shots, moved as the corners
 // are, at the front of the list. What is lent is as after a fracture.
 pub fn fracture_boundary(element: &[u8], table: &mut [u32], list: &mut [u16]) -> Plate
@@ -105,12 +132,13 @@ pub fn fracture_boundary(element: &[u8], table: &mut [u32], list: &mut [u16]) ->
             let mut numbers = [0u16; MOST_NUMBERS];
             store(element, run, &mut numbers);
             let lengths = [corners as u16; 1];
-            match fracture_default(&numbers[..n], &lengths, table, list) {
+            match fracture_qualified(&numbers[..n], &lengths, table, list) {
                 Fractured::Refused(why, needed) => Plate::Refused(why, needed, 0),
                 Fractured::Done {
                     shots,
                     cost,
                     sliver,
+                    cuts,
                 } => {
                     let shift_x = shift(element, run, Axis::X);
                     let shift_y = shift(element, run, Axis::Y);
@@ -118,6 +146,7 @@ pub fn fracture_boundary(element: &[u8], table: &mut [u32], list: &mut [u16]) ->
                         shots,
                         cost,
                         sliver,
+                        cuts,
                         shift_x,
                         shift_y,
                     }

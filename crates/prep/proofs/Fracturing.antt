@@ -55,7 +55,7 @@ module _ (ask : Asked) (range : inRange (ask .threshold) (ask .weight) ≡ true)
 
   pub told-refused : (a : Fractured) (table list : List ℕ) → told a table list ≡ outcome ask → refusedBy a ≡ not (eqb (refusal (ask .figure)) 0)
   unfolding told
-  told-refused (Done shots cost sliver) table list e =
+  told-refused (Done shots cost sliver cuts) table list e =
       let z : 0 ≡ refusal (ask .figure) = ap (λ (o : Outcome). o .number) e ∙ ample-number in
       sym (ap not (eq-eqb (refusal (ask .figure)) 0 (sym z)))
   told-refused (Refused why shots) table list e =
@@ -65,7 +65,7 @@ module _ (ask : Asked) (range : inRange (ask .threshold) (ask .weight) ≡ true)
 
 pub told-listed : (ask : Asked) (a : Fractured) (table list : List ℕ) → told a table list ≡ outcome ask → Listed a (length list)
 unfolding told Condition accepted
-told-listed ask (Done shots cost sliver) table list e =
+told-listed ask (Done shots cost sliver cuts) table list e =
     let zero : 0 ≡ outcome ask .number = ap (λ (o : Outcome). o .number) e in
     let n : shots ≡ length (frameShots (ask .mode) (drawn ask) (ruleOf ask)) =
     ap (λ (o : Outcome). o .shots) (e ∙ outcome-zero ask (sym zero))

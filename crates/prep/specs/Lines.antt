@@ -8,9 +8,9 @@ use Rattle.fracture.specs.declared.Fractured.{Fractured}
 use Rattle.fracture.specs.declared.Fractured.the-variants.{Done, Refused}
 
 abbrev pub Listed : Fractured → ℕ → Type 0
-Listed (Done shots cost sliver) n = 4 * shots ≤ n
+Listed (Done shots cost sliver cuts) n = 4 * shots ≤ n
 Listed (Refused why shots) n = Unit {0}
 
 abbrev pub refusedBy : Fractured → Bool
-refusedBy (Done shots cost sliver) = false
+refusedBy (Done shots cost sliver cuts) = false
 refusedBy (Refused why shots) = true

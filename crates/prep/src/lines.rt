@@ -89,6 +89,7 @@ pub fn print_outline(out: Output, k: usize, answer: Fractured, list: &[u16]) -> 
             shots,
             cost,
             sliver,
+            cuts: _,
         } => print_done(named, shots, cost, sliver, list),
     }
 }

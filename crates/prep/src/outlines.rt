@@ -116,6 +116,7 @@ fn is_refused(answer: Fractured) -> bool
             shots: _,
             cost: _,
             sliver: _,
+            cuts: _,
         } => false,
         Fractured::Refused(_, _) => true,
     }

@@ -29,6 +29,7 @@ fn answered(by: Fractured) -> Answer {
             shots,
             cost,
             sliver,
+            cuts: _,
         } => Answer {
             number: 0,
             shots: shots as usize,

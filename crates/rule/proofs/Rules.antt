@@ -5,6 +5,7 @@
 --   range-true       == numbers in range are within the limit
 --   preset-row, preset-past == the cases of `presetTold`
 --   preset-numbers   == the four rows of document 01 as numbers
+--   default-numbers  == the default's threshold is 10 nm, its weight 100
 --   preset-product   == weight times threshold is 1,000 in every row, by one test computed over the table
 --   made-one, row-one == two answers that tell the same are the same
 use Prim.Native.Nat.{ℕ, zero, suc, _*_, _<_, _≤_}
@@ -24,7 +25,7 @@ use Rattle.rule.specs.declared.Made.{Made}
 use Rattle.rule.specs.declared.Made.the-variants as made
 use Rattle.rule.specs.declared.Preset.{Preset}
 use Rattle.rule.specs.declared.Preset.the-variants as preset
-use Rattle.rule.specs.Rules.{limit, inRange, Told, given, refused, ruleTold, presets, row, presetTold, madeTold, rowTold}
+use Rattle.rule.specs.Rules.{limit, inRange, Told, given, refused, ruleTold, presets, row, presetTold, defaultPreset, madeTold, rowTold}
 
 same-rule : {r s : Rule} → given r ≡ given s → r ≡ s
 same-rule {r} {s} e =
@@ -96,6 +97,10 @@ pub preset-numbers : (presetTold 0 ≡ given (record { threshold = 25; weight = 
     × (presetTold 3 ≡ given (record { threshold = 50; weight = 20 }))
 unfolding presetTold
 preset-numbers = (refl, refl, refl, refl)
+
+pub default-numbers : presetTold defaultPreset ≡ given (record { threshold = 10; weight = 100 })
+unfolding presetTold
+default-numbers = refl
 
 -- the table's rule
 

@@ -8,6 +8,7 @@
 --   ruleTold t w   == the rule of threshold t and weight w, or 1
 --   presets        == document 01, "Rules by preset", by the rows' numbers
 --   presetTold n   == the row n, or 15
+--   defaultPreset  == document 02, Item 7: the number of the row that a fracture without a rule goes by
 --   madeTold       == what each case of the constructor's answer tells
 --   rowTold        == what each case of the preset call's answer tells
 use Prim.Native.Nat.{ℕ, zero, suc}
@@ -58,6 +59,9 @@ row (r ∷ rs) (suc n) = row rs n
 
 unfoldable pub presetTold : ℕ → Told
 presetTold n = row presets n
+
+abbrev pub defaultPreset : ℕ
+defaultPreset = 1
 
 abbrev pub madeTold : Made → Told
 madeTold (made.Rule r) = given r

@@ -79,7 +79,7 @@ impl Rule {
     pub const MAX_WEIGHT: u32 = 1000;
 
     // The row that a fracture without a rule goes by.
-    pub const DEFAULT_PRESET: u32 = 0;
+    pub const DEFAULT_PRESET: u32 = 1;
 
     // The rule of these two numbers, or none where one of them is above its limit.
     pub fn new(threshold: u32, weight: u32) -> Made

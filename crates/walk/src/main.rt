@@ -193,6 +193,7 @@ fn answer(
             shots: count,
             cost,
             sliver,
+            cuts: _,
         } => {
             text(b": shots");
             spaced(count as u64);

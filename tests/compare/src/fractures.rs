@@ -5,7 +5,7 @@
 use crate::progress::Progress;
 use crate::room::Room;
 use crate::Plan;
-use drawings::document::{EIGHT, FRAMED, NUMBERS, RINGS, ROWS};
+use drawings::document::{B, EIGHT, FRAMED, L, NUMBERS, RINGS, ROWS};
 use drawings::seeded::Seeded;
 use drawings::{figures, outlines};
 use law::cutting::Fracture;
@@ -16,6 +16,12 @@ use law::{Calls, Drawing, Law, Told};
 use std::collections::HashMap;
 use std::sync::atomic::{AtomicUsize, Ordering};
 use std::sync::Mutex;
+
+/// A baseline's answer, with the cuts of another: it does not count them.
+fn with_cuts(mut told: Told, right: Told) -> Told {
+    told.numbers[3] = right.numbers[3];
+    told
+}
 
 /// One fracture to compare: the drawing, the rule (none: the default), what is lent.
 pub struct Case<'a> {
@@ -52,23 +58,69 @@ impl Case<'_> {
             let (mut its_table, mut its_list) = (Room::new(self.table), Room::new(self.list));
             let told = self.by(library, its_table.lent(), its_list.lent());
             check("the library", told, its_table, its_list);
+            let (ahead, told) = (Law.cuts(self.drawing), library.cuts(self.drawing));
+            assert!(told == ahead, "{}: {:?}\n  tells {told:?} ahead and not {ahead:?}", from(), self.drawing);
+            assert!(right.number != 0 || ahead.numbers[0] == right.numbers[3]);
         }
-        let (threshold, weight) = self.rule.unwrap_or(law::call::PRESETS[0]);
+        let (threshold, weight) = self.rule.unwrap_or(law::call::DEFAULT);
         let (mut its_table, mut its_list) = (Room::new(self.table), Room::new(self.list));
         let told = lent::baseline(self.drawing, threshold, weight, its_table.lent(), its_list.lent());
-        check("the baseline by heights", told, its_table, its_list);
+        check("the baseline by heights", with_cuts(told, right), its_table, its_list);
         let (mut its_table, mut its_list) = (Room::new(self.table), Room::new(self.list));
         let told = lent::baseline_rows(self.drawing, threshold, weight, its_table.lent(), its_list.lent());
-        check("the baseline by rows", told, its_table, its_list);
+        check("the baseline by rows", with_cuts(told, right), its_table, its_list);
         let (mut its_table, mut its_list) = (Room::new(self.table), Room::new(self.list));
         let told = lent::baseline_widths(self.drawing, threshold, weight, its_table.lent(), its_list.lent());
-        check("the baseline by widths", told, its_table, its_list);
+        check("the baseline by widths", with_cuts(told, right), its_table, its_list);
         (right, table, list)
     }
 }
 
+/// Document 02's stairs over 16 by 16 lines.
+fn stairs() -> Drawing {
+    let mut corners = vec![0, 0];
+    for step in 0..15u16 {
+        corners.extend([(15 - step) * 10, step * 10, (15 - step) * 10, (step + 1) * 10]);
+    }
+    corners.extend([0, 150]);
+    Drawing::outline(&corners)
+}
+
+/// The worked counts of Item 6.
+fn counted() -> Vec<(Drawing, u64)> {
+    let two = |corners: &[u16]| Drawing { corners: corners.to_vec(), rings: vec![4, 4] };
+    vec![
+        (Drawing::outline(&L), 4),
+        (Drawing::outline(&B), 13),
+        (two(&FRAMED), 32),
+        (Drawing::outline(&[0, 0, 10, 0, 10, 20, 20, 20, 20, 10, 0, 10]), 6),
+        (two(&[0, 0, 10, 0, 10, 10, 0, 10, 50, 50, 60, 50, 60, 60, 50, 60]), 32),
+        (Drawing::outline(&[0, 0, 100, 0, 100, 100, 0, 100]), 0),
+        (stairs(), 104_888),
+    ]
+}
+
+/// The worked rows of Item 7: what a fracture that names no rule gives.
+fn by_default() -> [(Drawing, [u64; 3], &'static [u16]); 4] {
+    [
+        (Drawing::outline(&L), [2, 2000, 0], &[0, 0, 60, 80, 60, 0, 100, 20]),
+        (Drawing::outline(&B), [2, 2000, 0], &[0, 0, 200, 200, 200, 50, 210, 150]),
+        (Drawing::outline(&[0, 0, 100, 0, 100, 24, 0, 24]), [1, 1000, 0], &[0, 0, 100, 24]),
+        (Drawing::outline(&[0, 0, 100, 0, 100, 9, 0, 9]), [1, 21_000, 200], &[0, 0, 100, 9]),
+    ]
+}
+
 /// The documents' drawings: the law against the documents, then the others against the law.
 pub fn rows(plan: &Plan, progress: &Progress) {
+    for (drawing, cuts) in counted() {
+        assert_eq!(Law.cuts(&drawing), Told::done(&[cuts]), "{drawing:?}");
+        let case = Case { drawing: &drawing, rule: Some((25, 40)), table: &[7; 14_400], list: &[9; 900] };
+        let told = case.compare(plan, progress, &|| format!("{cuts} cuts")).0;
+        assert_eq!((told.number, told.numbers[3]), (0, cuts), "{drawing:?}");
+        // refused 7, with no cuts
+        let short = Case { list: &[9; 3], ..case };
+        assert_eq!(short.compare(plan, progress, &|| format!("{cuts} cuts, a short list")).0.numbers[3], 0);
+    }
     for row in ROWS.iter().chain(&RINGS) {
         let drawing = row.drawing();
         let (table, list) = (vec![7; row.room.0], vec![9; row.room.1]);
@@ -77,10 +129,14 @@ pub fn rows(plan: &Plan, progress: &Progress) {
         let [shots, cost, sliver, ..] = told.numbers;
         assert_eq!((told.number, [shots, cost, sliver]), row.outcome, "the documents' row: {}", row.name);
         assert_eq!(&list.held()[..row.list.len()], row.list, "the documents' row: {}", row.name);
-        if row.rule == law::call::PRESETS[0] {
-            let case = Case { drawing: &drawing, rule: None, table: &table, list: list.held() };
-            case.compare(plan, progress, &|| format!("the documents' row: {}, no rule named", row.name));
-        }
+        let case = Case { drawing: &drawing, rule: None, table: &table, list: list.held() };
+        case.compare(plan, progress, &|| format!("the documents' row: {}, no rule named", row.name));
+    }
+    for (drawing, told, shots) in by_default() {
+        let case = Case { drawing: &drawing, rule: None, table: &[7; 14_400], list: &[9; 900] };
+        let (said, _, list) = case.compare(plan, progress, &|| format!("no rule named: {drawing:?}"));
+        assert_eq!((said.number, &said.numbers[..3]), (0, &told[..]), "no rule named: {drawing:?}");
+        assert_eq!(&list.held()[..shots.len()], shots, "no rule named: {drawing:?}");
     }
     for (bytes, number) in NUMBERS {
         let told = Law.number(bytes, 0);
@@ -348,7 +404,7 @@ pub fn outlines(plan: &Plan, progress: &Progress) {
                         tally[told.number as usize] += 1;
                         ringed.fetch_add((told.number == 0 && drawing.rings.len() > 1) as usize, Ordering::Relaxed);
                         if told.number == 0 && drawing.corners.iter().all(|&place| place < 200) {
-                            let rule = if default { law::call::PRESETS[0] } else { rule };
+                            let rule = if default { law::call::DEFAULT } else { rule };
                             covers(&drawing, rule, told, its_list.held());
                             squares.fetch_add(1, Ordering::Relaxed);
                         }

@@ -6,7 +6,7 @@
 //! largest there is stands as 0xffffffff. Then its outcome, two words for each: the number, the single
 //! numbers, a hash over each lent buffer with 16 elements before and beyond it. Calls: 1 preset,
 //! 2 fracture, 3 fracture by the default rule, 4 number, 5 job check, 6 job outline, 7 unpack, 8 write
-//! header, 9 write outline, 10 read a boundary, 11 fracture one, 12 the end, 30 join. A shift has its sign.
+//! header, 9 write outline, 10 read a boundary, 11 fracture one, 12 the end, 30 join, 31 cuts ahead. A shift has its sign.
 //! An entry of a table of pairs is hashed field by field, its partner as two words.
 
 use crate::progress::Progress;
@@ -89,7 +89,14 @@ impl Record {
         self.size(numbers);
         self.words.push(mark);
         self.drawing(drawing);
-        self.outcome(told, 3, &[hash(table.into_iter()), hash(list.into_iter().map(u32::from))]);
+        self.outcome(told, 4, &[hash(table.into_iter()), hash(list.into_iter().map(u32::from))]);
+    }
+
+    fn cuts(&mut self, drawing: &Drawing) {
+        self.words.push(31);
+        self.drawing_lengths(drawing);
+        self.drawing(drawing);
+        self.outcome(Law.cuts(drawing), 1, &[]);
     }
 
     fn job(&mut self, job: &[u8], s: &mut Seeded) {
@@ -156,7 +163,7 @@ impl Record {
         let mut table = lend(entries, mark, 32, |x| x);
         let mut list = lend(shots, mark, 16, |x| x as u16);
         let told = Law.gdsii_fracture(element, &mut table[MARGIN..MARGIN + entries], &mut list[MARGIN..MARGIN + shots]);
-        self.outcome(told, 6, &[hash(table.into_iter()), hash(list.into_iter().map(u32::from))]);
+        self.outcome(told, 7, &[hash(table.into_iter()), hash(list.into_iter().map(u32::from))]);
     }
 
     fn join(&mut self, list: &[u16], entries: usize, mark: u32) {
@@ -246,6 +253,7 @@ pub fn write(file: &str, seed: u64, progress: &Progress) {
         let rule = if s.once_in(8) { None } else { Some(outlines::rule(&mut s, &drawing)) };
         let mark = s.any() as u32;
         record.fracture(&drawing, rule, entries, numbers, mark);
+        record.cuts(&drawing);
         progress.at("recording", turn as usize, OUTLINES as usize);
     }
     for turn in 0..JOBS {

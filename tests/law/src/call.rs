@@ -8,6 +8,9 @@ use crate::Told;
 /// Threshold and weight of presets 0 to 3.
 pub const PRESETS: [(u32, u32); 4] = [(25, 40), (10, 100), (5, 200), (50, 20)];
 
+/// The rule of a fracture that names none (document 02, Item 7).
+pub const DEFAULT: (u32, u32) = PRESETS[1];
+
 pub fn preset(number: u32) -> Told {
     match PRESETS.get(number as usize) {
         Some(&(threshold, weight)) => Told::done(&[threshold as u64, weight as u64]),
@@ -15,7 +18,7 @@ pub fn preset(number: u32) -> Told {
     }
 }
 
-/// Shots, cost and sliver length, the table and the list filled from the front; or 1 to 7.
+/// Shots, cost, sliver length and cuts weighed, the table and the list filled from the front; or 1 to 7.
 pub fn fracture(drawing: &Drawing, threshold: u32, weight: u32, table: &mut [u32], list: &mut [u16]) -> Told {
     if threshold > 1000 || weight > 1000 {
         return Told::refused(1);
@@ -46,5 +49,15 @@ pub fn fracture(drawing: &Drawing, threshold: u32, weight: u32, table: &mut [u32
     let cost: u64 = shots.iter().map(|&p| fracture.charge(p) as u64).sum();
     assert_eq!(cost, fracture.judge(frame).1 as u64, "the list's cost is the frame's");
     assert!(cost <= 2_097_345_000);
-    Told::done(&[shots.len() as u64, cost, sliver])
+    Told::done(&[shots.len() as u64, cost, sliver, fracture.weighed()])
+}
+
+/// The cuts that a fracture weighs, told ahead; or 2 to 5.
+pub fn cuts(drawing: &Drawing) -> Told {
+    match figure(drawing) {
+        Err(number) => Told::refused(number),
+        Ok(figure) if figure.empty() => Told::refused(5),
+        // no rule counts here
+        Ok(figure) => Told::done(&[Fracture::new(&figure, 0, 0).weighed()]),
+    }
 }

@@ -94,6 +94,12 @@ impl<'a> Fracture<'a> {
             .sum()
     }
 
+    /// The cuts weighed: over every piece with cells of both sorts, the lines strictly between its ends.
+    pub fn weighed(&self) -> u64 {
+        let within = |p: &Piece| (p.c - p.a - 1 + p.d - p.b - 1) as u64;
+        self.pieces().into_iter().filter(|&p| self.kind(p) == Kind::Mixed).map(|p| within(&p)).sum()
+    }
+
     /// The sliver length of a piece as a shot. Where both extents are below the threshold only the two
     /// longer sides count; of a square the pair with the greater exposed length (document 02, Item 4).
     pub fn sliver(&self, p: Piece) -> u32 {

@@ -113,16 +113,16 @@ pub fn told_read(element: &[u8], list: &mut [u16]) -> Told {
     }
 }
 
-/// Shots, cost, sliver length, shift in x and y, offset, by the rule of preset 0; or the faults, or 6
+/// Shots, cost, sliver length, cuts, shift in x and y, offset, by the rule of preset 0; or the faults, or 6
 /// or 7.
 pub fn told_fracture(element: &[u8], table: &mut [u32], list: &mut [u16]) -> Told {
     match boundary(element) {
-        Err(fault) => Told::of(fault.number, &[0, 0, 0, 0, 0, fault.at]),
+        Err(fault) => Told::of(fault.number, &[0, 0, 0, 0, 0, 0, fault.at]),
         Ok(found) => {
             let told = call::fracture(&found.drawing, PRESETS[0].0, PRESETS[0].1, table, list);
-            let [shots, cost, sliver, ..] = told.numbers;
+            let [shots, cost, sliver, cuts, ..] = told.numbers;
             let shift = if told.number == 0 { found.shift } else { (0, 0) };
-            Told::of(told.number, &[shots, cost, sliver, shift.0 as u64, shift.1 as u64])
+            Told::of(told.number, &[shots, cost, sliver, cuts, shift.0 as u64, shift.1 as u64])
         }
     }
 }

@@ -37,12 +37,12 @@ pub use drawing::Drawing;
 #[derive(Clone, Copy, PartialEq, Eq, Debug)]
 pub struct Told {
     pub number: u32,
-    pub numbers: [u64; 6],
+    pub numbers: [u64; 7],
 }
 
 impl Told {
     pub fn of(number: u32, numbers: &[u64]) -> Told {
-        let mut all = [0; 6];
+        let mut all = [0; 7];
         all[..numbers.len()].copy_from_slice(numbers);
         Told { number, numbers: all }
     }
@@ -61,6 +61,7 @@ pub trait Calls {
     fn preset(&self, number: u32) -> Told;
     fn fracture(&self, drawing: &Drawing, threshold: u32, weight: u32, table: &mut [u32], list: &mut [u16]) -> Told;
     fn fracture_default(&self, drawing: &Drawing, table: &mut [u32], list: &mut [u16]) -> Told;
+    fn cuts(&self, drawing: &Drawing) -> Told;
     fn number(&self, bytes: &[u8], at: usize) -> Told;
     fn job_check(&self, job: &[u8]) -> Told;
     fn job_outline(&self, job: &[u8], k: usize) -> Told;
@@ -83,7 +84,10 @@ impl Calls for Law {
         call::fracture(drawing, threshold, weight, table, list)
     }
     fn fracture_default(&self, drawing: &Drawing, table: &mut [u32], list: &mut [u16]) -> Told {
-        call::fracture(drawing, call::PRESETS[0].0, call::PRESETS[0].1, table, list)
+        call::fracture(drawing, call::DEFAULT.0, call::DEFAULT.1, table, list)
+    }
+    fn cuts(&self, drawing: &Drawing) -> Told {
+        call::cuts(drawing)
     }
     fn number(&self, bytes: &[u8], at: usize) -> Told {
         bytes::told_number(bytes, at)

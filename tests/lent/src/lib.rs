@@ -38,12 +38,15 @@ mod pw {
         pub fn pw_fracture(
             corners: *const u16, corners_len: usize, rings: *const u16, rings_len: usize, threshold: u32, weight: u32,
             table: *mut u32, table_len: usize, list: *mut u16, list_len: usize,
-            shots: *mut u32, cost: *mut u32, sliver: *mut u32,
+            shots: *mut u32, cost: *mut u32, sliver: *mut u32, cuts: *mut u32,
         ) -> u32;
         pub fn pw_fracture_default(
             corners: *const u16, corners_len: usize, rings: *const u16, rings_len: usize,
             table: *mut u32, table_len: usize, list: *mut u16, list_len: usize,
-            shots: *mut u32, cost: *mut u32, sliver: *mut u32,
+            shots: *mut u32, cost: *mut u32, sliver: *mut u32, cuts: *mut u32,
+        ) -> u32;
+        pub fn pw_cuts(
+            corners: *const u16, corners_len: usize, rings: *const u16, rings_len: usize, cuts: *mut u32,
         ) -> u32;
         pub fn pw_number(bytes: *const u8, len: usize, at: usize, value: *mut u32, next: *mut usize, offset: *mut usize) -> u32;
         pub fn pw_job_check(
@@ -69,7 +72,7 @@ mod pw {
         ) -> u32;
         pub fn pw_gdsii_fracture(
             element: *const u8, len: usize, table: *mut u32, table_len: usize, list: *mut u16, list_len: usize,
-            shots: *mut u32, cost: *mut u32, sliver: *mut u32, shift_x: *mut i32, shift_y: *mut i32, offset: *mut usize,
+            shots: *mut u32, cost: *mut u32, sliver: *mut u32, cuts: *mut u32, shift_x: *mut i32, shift_y: *mut i32, offset: *mut usize,
         ) -> u32;
         pub fn pw_join(
             list: *const u16, list_len: usize, table: *mut law::joining::Joined, table_len: usize, flashes: *mut usize,
@@ -143,19 +146,38 @@ impl Calls for Library {
     }
 
     fn fracture(&self, drawing: &Drawing, threshold: u32, weight: u32, table: &mut [u32], list: &mut [u16]) -> Told {
-        fracture_by(pw::pw_fracture, drawing, threshold, weight, table, list)
+        let (mut shots, mut cost, mut sliver, mut cuts) = (MARK, MARK, MARK, MARK);
+        let number = unsafe {
+            pw::pw_fracture(
+                drawing.corners.as_ptr(), drawing.corners.len(), drawing.rings.as_ptr(), drawing.rings.len(),
+                threshold, weight,
+                table.as_mut_ptr(), table.len(), list.as_mut_ptr(), list.len(),
+                &mut shots, &mut cost, &mut sliver, &mut cuts,
+            )
+        };
+        Told::of(number, &[shots as u64, cost as u64, sliver as u64, cuts as u64])
     }
 
     fn fracture_default(&self, drawing: &Drawing, table: &mut [u32], list: &mut [u16]) -> Told {
-        let (mut shots, mut cost, mut sliver) = (MARK, MARK, MARK);
+        let (mut shots, mut cost, mut sliver, mut cuts) = (MARK, MARK, MARK, MARK);
         let number = unsafe {
             pw::pw_fracture_default(
                 drawing.corners.as_ptr(), drawing.corners.len(), drawing.rings.as_ptr(), drawing.rings.len(),
                 table.as_mut_ptr(), table.len(), list.as_mut_ptr(), list.len(),
-                &mut shots, &mut cost, &mut sliver,
+                &mut shots, &mut cost, &mut sliver, &mut cuts,
             )
         };
-        Told::of(number, &[shots as u64, cost as u64, sliver as u64])
+        Told::of(number, &[shots as u64, cost as u64, sliver as u64, cuts as u64])
+    }
+
+    fn cuts(&self, drawing: &Drawing) -> Told {
+        let mut cuts = MARK;
+        let number = unsafe {
+            pw::pw_cuts(
+                drawing.corners.as_ptr(), drawing.corners.len(), drawing.rings.as_ptr(), drawing.rings.len(), &mut cuts,
+            )
+        };
+        Told::of(number, &[cuts as u64])
     }
 
     fn number(&self, bytes: &[u8], at: usize) -> Told {
@@ -218,15 +240,16 @@ impl Calls for Library {
     }
 
     fn gdsii_fracture(&self, element: &[u8], table: &mut [u32], list: &mut [u16]) -> Told {
-        let (mut shots, mut cost, mut sliver) = (MARK, MARK, MARK);
+        let (mut shots, mut cost, mut sliver, mut cuts) = (MARK, MARK, MARK, MARK);
         let (mut shift_x, mut shift_y, mut offset) = (MARK as i32, MARK as i32, MARK_SIZE);
         let number = unsafe {
             pw::pw_gdsii_fracture(
                 element.as_ptr(), element.len(), table.as_mut_ptr(), table.len(), list.as_mut_ptr(), list.len(),
-                &mut shots, &mut cost, &mut sliver, &mut shift_x, &mut shift_y, &mut offset,
+                &mut shots, &mut cost, &mut sliver, &mut cuts, &mut shift_x, &mut shift_y, &mut offset,
             )
         };
-        let numbers = [shots as u64, cost as u64, sliver as u64, signed(shift_x), signed(shift_y), offset as u64];
+        let numbers =
+            [shots as u64, cost as u64, sliver as u64, cuts as u64, signed(shift_x), signed(shift_y), offset as u64];
         Told::of(number, &numbers)
     }
 

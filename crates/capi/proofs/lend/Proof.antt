@@ -21,7 +21,7 @@ returns c = λ table list. sym (ap (λ a. told a table list) (c .before .answer 
 
 returns-2 : tie.Need-returns-2
 unfolding told
-returns-2 c = λ table list. ap (λ n. fractureLent n (c .before .before .answer2 .given .0 .1 .0) 0 0 table list) (c .refusal-no .ensures) ∙ sym (ap (λ a. told a table list) (c .before .before .answer2 .given .1))
+returns-2 c = λ table list. ap (λ n. fractureLent n (c .before .before .answer2 .given .0 .1 .0) 0 0 0 table list) (c .refusal-no .ensures) ∙ sym (ap (λ a. told a table list) (c .before .before .answer2 .given .1))
 
 pub lend-spec : {M : Type 1} → statement M
 lend-spec =

@@ -17,7 +17,7 @@ same-length-2 : tie.Need-same-length-2
 same-length-2 c = search needs
 
 returns : tie.Need-returns
-returns c = c .lend .ensures _ _ ∙ c .before .before .before .before .before .before .before .before .fracture-default .ensures
+returns c = c .lend .ensures _ _ ∙ c .before .before .before .before .before .before .before .before .before .fracture-default .ensures
 
 pub pw-fracture-default-spec : {M : Type 1} → statement M
 pw-fracture-default-spec =

@@ -33,8 +33,8 @@ returns c =
     let k = c .known-told .given .1 .1 .1 in
     signed-lent
     (λ x y.
-    plateLent 0 (g .0) (g .1 .0) (g .1 .1 .0) x y 0 (u .fracture-boundary .last .1 .0) (u .fracture-boundary .last .1 .1 .0))
-    {x = g .1 .1 .1 .0} {y = g .1 .1 .1 .1 .0} (record { sfits = k .0 .1 }) (record { sfits = k .1 .0 .1 })
+    plateLent 0 (g .0) (g .1 .0) (g .1 .1 .0) (g .1 .1 .1 .0) x y 0 (u .fracture-boundary .last .1 .0) (u .fracture-boundary .last .1 .1 .0))
+    {x = g .1 .1 .1 .1 .0} {y = g .1 .1 .1 .1 .1 .0} (record { sfits = k .1 .0 .1 }) (record { sfits = k .1 .1 .0 .1 })
     (told-as (λ t. plateTold t (u .fracture-boundary .last .1 .0) (u .fracture-boundary .last .1 .1 .0)) (c .before .found .given .1)
     (u .fracture-boundary .ensures))
 
@@ -50,7 +50,7 @@ returns-2 c =
     let u = r .before .before .before .before .before .before in
     renumbered
     (λ n.
-    plateLent n (r .r .given .0 .1 .0) 0 0 (pos 0) (pos 0) (r .r .given .0 .1 .1 .0) (u .fracture-boundary .last .1 .0)
+    plateLent n (r .r .given .0 .1 .0) 0 0 0 (pos 0) (pos 0) (r .r .given .0 .1 .1 .0) (u .fracture-boundary .last .1 .0)
     (u .fracture-boundary .last .1 .1 .0))
     (c .refusal-no .ensures)
     (told-as (λ t. plateTold t (u .fracture-boundary .last .1 .0) (u .fracture-boundary .last .1 .1 .0)) (r .r .given .1)

@@ -1,8 +1,7 @@
 -- `fracture::fracture_default` meets its contract. Assumes nothing.
 use mathlib.Core.Path.{_≡_, sym, _∙_, ap}
 use borrow.Author.Needs.{needs}
-use Rattle.rule.specs.Rules.{rowTold, given, presetTold}
-use Rattle.fracture.specs.Told.{defaultPreset}
+use Rattle.rule.specs.Rules.{rowTold, given, presetTold, defaultPreset}
 use Rattle.fracture.proofs.Settled.{preset-range, preset-outcome, preset-known}
 use Rattle.fracture.proofs.fracture_default.Statement.{statement}
 use Rattle.fracture.proofs.fracture_default.Tie as tie

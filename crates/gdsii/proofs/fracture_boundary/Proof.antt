@@ -38,8 +38,8 @@ store-requires c κs =
     let r = c .before .before .before in
     ((measured-fit _ (sym (told-as scanTold (r .run .given .1) (r .before .before .measure .ensures))) .0), omega (arith, (measured-fit _ (sym (told-as scanTold (r .run .given .1) (r .before .before .measure .ensures))) .0) .most))
 
-cast-t23 : tie.Need-cast-t23
-cast-t23 c =
+cast-t24 : tie.Need-cast-t24
+cast-t24 c =
     let r = c .before .before .before .before .before in
     omega (arith, (measured-fit _ (sym (told-as scanTold (r .run .given .1) (r .before .before .measure .ensures))) .0) .most)
 
@@ -50,18 +50,18 @@ array-share-prefix-numbers c =
     stored-room _ (r .run .given .0 .0) _ _ (k .store .ensures)
     (omega (arith, (measured-fit _ (sym (told-as scanTold (r .run .given .1) (r .before .before .measure .ensures))) .0) .most))
 
-slice-aggregate-fracture-default : tie.Need-slice-aggregate-fracture-default
-slice-aggregate-fracture-default c =
+slice-aggregate-fracture-qualified : tie.Need-slice-aggregate-fracture-qualified
+slice-aggregate-fracture-qualified c =
     let k = c .before .before in
     let r = k .before .before .before .before in
     stored-front _ (r .run .given .0 .0) _ _ (k .store .ensures)
     (omega (arith, (measured-fit _ (sym (told-as scanTold (r .run .given .1) (r .before .before .measure .ensures))) .0) .most))
 
-slice-aggregate-fracture-default-2 : tie.Need-slice-aggregate-fracture-default-2
-slice-aggregate-fracture-default-2 c = search needs
+slice-aggregate-fracture-qualified-2 : tie.Need-slice-aggregate-fracture-qualified-2
+slice-aggregate-fracture-qualified-2 c = search needs
 
-fracture-default-requires : tie.Need-fracture-default-requires
-fracture-default-requires c κs = search needs
+fracture-qualified-requires : tie.Need-fracture-qualified-requires
+fracture-qualified-requires c κs = search needs
 
 enum-known-why : tie.Need-enum-known-why
 enum-known-why c = search needs
@@ -96,7 +96,7 @@ returns-2 c =
     exit-refused _ _ _ (told-as scanTold (r .run .given .1) (r .before .before .measure .ensures)) _ _ (k .store .ensures)
     (omega (arith, (measured-fit _ (sym (told-as scanTold (r .run .given .1) (r .before .before .measure .ensures))) .0) .most))
     _ _ _ _ _ _
-    (told-as (λ a. told a (d .fracture-default .last .1 .1 .0) (d .fracture-default .last .1 .1 .1 .0)) (c .before .why .given .1) (d .fracture-default .ensures))
+    (told-as (λ a. told a (d .fracture-qualified .last .1 .1 .0) (d .fracture-qualified .last .1 .1 .1 .0)) (c .before .why .given .1) (d .fracture-qualified .ensures))
 
 same-length-3 : tie.Need-same-length-3
 same-length-3 c = search needs
@@ -112,8 +112,8 @@ returns-3 c =
     let r = k .before .before .before .before in
     exit-done _ _ _ (told-as scanTold (r .run .given .1) (r .before .before .measure .ensures)) _ _ (k .store .ensures)
     (omega (arith, (measured-fit _ (sym (told-as scanTold (r .run .given .1) (r .before .before .measure .ensures))) .0) .most))
-    _ _ _ _ _ _ _ _ _
-    (told-as (λ a. told a (d .fracture-default .last .1 .1 .0) (d .fracture-default .last .1 .1 .1 .0)) (b .before .shots .given .1) (d .fracture-default .ensures))
+    _ _ _ _ _ _ _ _ _ _
+    (told-as (λ a. told a (d .fracture-qualified .last .1 .1 .0) (d .fracture-qualified .last .1 .1 .1 .0)) (b .before .shots .given .1) (d .fracture-qualified .ensures))
     (c .before .shift .ensures) (c .shift2 .ensures)
 
 pub fracture-boundary-spec : {M : Type 1} → statement M
@@ -127,11 +127,11 @@ fracture-boundary-spec =
     mul-n
     slice-aggregate-store
     store-requires
-    cast-t23
+    cast-t24
     array-share-prefix-numbers
-    slice-aggregate-fracture-default
-    slice-aggregate-fracture-default-2
-    fracture-default-requires
+    slice-aggregate-fracture-qualified
+    slice-aggregate-fracture-qualified-2
+    fracture-qualified-requires
     enum-known-why
     enum-known-shots
     shift-requires

@@ -2,7 +2,7 @@
 use mathlib.Core.Path.{sym, _∙_}
 use native.Mathlib.Omega.{arith}
 use borrow.Author.Needs.{needs}
-use Rattle.fracture.proofs.Delivered.{walk-sized, count-written, short-says, frame-few-shots, frame-aside, frame-emittable, frame-within, frame-listed, frame-charged, told-lacking, told-listed}
+use Rattle.fracture.proofs.Delivered.{walk-sized, count-written, short-says, frame-few-shots, frame-aside, frame-emittable, frame-within, frame-listed, frame-charged, walk-shaded, told-lacking, told-listed}
 use Rattle.fracture.proofs.delivery.deliver.Statement.{statement}
 use Rattle.fracture.proofs.delivery.deliver.Tie as tie
 
@@ -19,8 +19,8 @@ room-for-requires c κs = frame-aside _ _ _ _ _ _ _ (start c .pre .walk) _ (c .f
 enum-known-room : tie.Need-enum-known-room
 enum-known-room c = search needs
 
-cast-t19 : tie.Need-cast-t19
-cast-t19 c =
+cast-t22 : tie.Need-cast-t22
+cast-t22 c =
     let f = c .before .before .before .before in
     let w = start f .pre in
     let s = short-says _ _ _ (sym (c .before .room .given .1) ∙ c .before .before .before .room-for .ensures (w .grid) (w .rule) (w .walk)) in
@@ -59,9 +59,16 @@ slivers-requires c κs =
       cost = frame-charged _ _ _ _ _ _ _ (w .walk) _ (f .frame-of .ensures);
     }
 
-cast-t24 : tie.Need-cast-t24
-cast-t24 c =
+cuts-requires : tie.Need-cuts-requires
+cuts-requires c κs =
     let e = c .before .before .before .before .before .before .before .before in
+    let f = e .before .before .before .before .before in
+    let w = start f .pre in
+    record { grid = w .grid; shaded = walk-shaded _ _ _ _ _ (w .walk .costed) }
+
+cast-t27 : tie.Need-cast-t27
+cast-t27 c =
+    let e = c .before .before .before .before .before .before .before .before .before in
     let f = e .before .before .before .before .before in
     let w = start f .pre in
     omega (
@@ -80,12 +87,13 @@ same-length c = search needs
 
 returns-2 : tie.Need-returns-2
 returns-2 c g r w =
-    let e = c .before .before .before .before .before .before .before .before in
+    let e = c .before .before .before .before .before .before .before .before .before in
     let f = e .before .before .before .before .before in
     let h = sym (e .before .before .enum-told .given .1) ∙ e .before .before .before .before .room-for .ensures g r w in
     let v = e .emit .ensures g r w in
     told-listed _ _ _ _ _ _ _ w _ (f .frame-of .ensures) _ _ h v
-    (c .slivers .ensures g _ (frame-listed _ _ _ _ _ _ _ w _ (f .frame-of .ensures) _ _ h v) (frame-charged _ _ _ _ _ _ _ w _ (f .frame-of .ensures)))
+    (c .before .slivers .ensures g _ (frame-listed _ _ _ _ _ _ _ w _ (f .frame-of .ensures) _ _ h v) (frame-charged _ _ _ _ _ _ _ w _ (f .frame-of .ensures)))
+    (c .cuts .ensures g (walk-shaded _ _ _ _ _ (w .costed)))
 
 pub deliver-spec : {M : Type 1} → statement M
 deliver-spec =
@@ -94,13 +102,14 @@ deliver-spec =
     frame-of-requires
     room-for-requires
     enum-known-room
-    cast-t19
+    cast-t22
     enum-told
     emit-requires
     mul-cost
     shared-slice-read-cost
     slivers-requires
-    cast-t24
+    cuts-requires
+    cast-t27
     returns
     same-length
     returns-2)
