@@ -254,7 +254,7 @@ module _ (ask : Asked) where
       in
       ap (λ k. getD (o .table) k 0) (e .0) ∙ entry-cost f (box a c b d) v
 
-  cost-frame : o .number ≡ 0 → o .cost ≡ cost (ask .mode) (drawn ask) (ruleOf ask) (frame (drawn ask))
+  pub cost-frame : o .number ≡ 0 → o .cost ≡ cost (ask .mode) (drawn ask) (ruleOf ask) (frame (drawn ask))
   unfolding accepted frameCost frameShots cost
   cost-frame e = ap (λ o. o .cost) (outcome-zero ask e)
 

@@ -12,3 +12,4 @@ pub mod CutRows
 pub mod Demands
 pub mod Room
 pub mod Rows
+pub mod Same

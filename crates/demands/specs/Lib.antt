@@ -6,3 +6,4 @@ pub mod Ways
 pub mod Demands
 pub mod Rows
 pub mod CutRows
+pub mod Same

@@ -7,3 +7,6 @@ pub mod Walking
 pub mod Sharing
 pub mod Together
 pub mod Crooked
+pub mod Around
+pub mod Redrawn
+pub mod Shifted

@@ -11,3 +11,5 @@ pub mod Sweeping
 pub mod Shading
 pub mod Promise
 pub mod Memory
+pub mod Redrawn
+pub mod Shifted

@@ -6,3 +6,5 @@ pub mod Order
 pub mod Cuts
 pub mod Choice
 pub mod Bound
+pub mod Moved
+pub mod Dearer

@@ -8,12 +8,14 @@
 --   charge-least     == a shot costs something
 --   charge-cut       == a shorter sliver than two others together costs no more than they
 --   charge-most      == a longer sliver costs no less
+--   sliver-dearer    == a greater threshold gives no shorter sliver
+--   charge-dearer    == nor does a greater weight, with no shorter a sliver, cost less
 use Prim.Native.Nat.{ℕ, _+_, _<_, _≤_, min, max}
 use mathlib.Core.Path.{_≡_, refl, sym, _∙_, ap, ap₂}
 use mathlib.Core.Bool.{Bool, true, false, cond}
 use mathlib.Core.Logic.{_⊎_, inl, inr}
 use native.Mathlib.Omega.{arith}
-use native.Mathlib.Nat.{mul-le-mul-left}
+use native.Mathlib.Nat.{mul-le-mul, mul-le-mul-left}
 use lib.Dec.{ltb}
 use borrow.Author.Tests.{ltb-true, ltb-false, lt-ltb, le-ltb, leb-true}
 use Rattle.sum.specs.Sum.{only}
@@ -119,3 +121,18 @@ module _ (r : Rule) where
   pub charge-cut : (n a b : ℕ) → n ≤ a + b → chargeOf r n ≤ chargeOf r a + chargeOf r b
   unfolding chargeOf
   charge-cut n a b h = omega (arith, mul-le-mul-left (r .weight) h)
+
+-- a greater threshold, and a greater weight
+pub sliver-dearer : (r s : Rule) → r .threshold ≤ s .threshold → (w h u l : ℕ) → sliverOf r w h u l ≤ sliverOf s w h u l
+unfolding sliverOf
+sliver-dearer r s e w h u l = go (ltb (min w h) (r .threshold)) refl
+  where
+    go : (t : Bool) → ltb (min w h) (r .threshold) ≡ t → only t (longer w h u l) ≤ only (ltb (min w h) (s .threshold)) (longer w h u l)
+    go false q = omega arith
+    go true q =
+        let z = ltb-true (min w h) (r .threshold) q in
+        omega (arith, ap (λ b. only b (longer w h u l)) (lt-ltb (min w h) (s .threshold) (omega (arith, e, z))))
+
+pub charge-dearer : (r s : Rule) → r .weight ≤ s .weight → (m n : ℕ) → m ≤ n → chargeOf r m ≤ chargeOf s n
+unfolding chargeOf
+charge-dearer r s e m n h = omega (arith, mul-le-mul e h)

@@ -13,6 +13,7 @@ mod joins;
 mod progress;
 mod record;
 mod room;
+mod same;
 
 use law::Calls;
 use progress::Progress;
@@ -83,6 +84,7 @@ fn main() {
     gdsii::longest(&plan, &progress);
     gdsii::others(&plan, &progress);
     gdsii::elements(&plan, &progress);
+    same::figures(&plan, &progress);
     joins::rows(&plan, &progress);
     joins::lists(&plan, &progress);
     if let Some(file) = &plan.record {

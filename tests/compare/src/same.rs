@@ -1,0 +1,140 @@
+//! Same drawing, same shots, on the library itself: figures from seeds, each redrawn (every ring from each of its corners,
+//! every ring the other way round, the rings in another order), moved to all four edges of the range, and under dearer
+//! rules. Answers and both buffers are compared whole, what lies beyond what is written among them.
+
+use crate::progress::Progress;
+use crate::Plan;
+use drawings::seeded::Seeded;
+use drawings::{figures, outlines};
+use law::{Calls, Drawing, Told};
+use std::sync::atomic::{AtomicUsize, Ordering};
+
+type Library = &'static (dyn Calls + Sync);
+
+/// What a fracture leaves: its answer, and both buffers, lent with the same contents each time.
+#[derive(PartialEq, Debug, Clone)]
+struct Left {
+    told: Told,
+    table: Vec<u32>,
+    list: Vec<u16>,
+}
+
+fn fracture(library: Library, drawing: &Drawing, rule: (u32, u32), room: (usize, usize)) -> Left {
+    let mut table: Vec<u32> = (0..room.0 as u32).map(|n| n.wrapping_mul(0x9e37_79b9)).collect();
+    let mut list: Vec<u16> = (0..room.1 as u32).map(|n| (n.wrapping_mul(0x85eb_ca6b) >> 7) as u16).collect();
+    let told = library.fracture(drawing, rule.0, rule.1, &mut table, &mut list);
+    Left { told, table, list }
+}
+
+/// The rings of a drawing whose lengths announce just its corners, each as pairs; none of another.
+fn rings(drawing: &Drawing) -> Option<Vec<Vec<[u16; 2]>>> {
+    let total: usize = drawing.rings.iter().map(|&n| n as usize).sum();
+    if drawing.corners.len() != 2 * total {
+        return None;
+    }
+    let mut rest = drawing.corners.chunks(2).map(|c| [c[0], c[1]]);
+    Some(drawing.rings.iter().map(|&n| rest.by_ref().take(n as usize).collect()).collect())
+}
+
+fn drawn(rings: &[Vec<[u16; 2]>]) -> Drawing {
+    Drawing {
+        corners: rings.iter().flatten().flatten().copied().collect(),
+        rings: rings.iter().map(|r| r.len() as u16).collect(),
+    }
+}
+
+/// Every ring from each of its corners and the other way round, and the rings in the other order and shuffled.
+fn redrawn(rings: &[Vec<[u16; 2]>], s: &mut Seeded) -> Vec<Drawing> {
+    let mut all = Vec::new();
+    for k in 0..rings.len() {
+        for first in 0..rings[k].len() {
+            let mut other = rings.to_vec();
+            other[k].rotate_left(first);
+            all.push(drawn(&other));
+            other[k].reverse();
+            all.push(drawn(&other));
+        }
+    }
+    let mut order = rings.to_vec();
+    order.reverse();
+    all.push(drawn(&order));
+    s.shuffle(&mut order);
+    order.iter_mut().for_each(|r| r.reverse());
+    all.push(drawn(&order));
+    all
+}
+
+/// The drawing moved so that its lowest or its highest place in x, and in y, lies at the edge of the range, with the move.
+fn moved(rings: &[Vec<[u16; 2]>]) -> Vec<(Drawing, [i32; 2])> {
+    let places = |a: usize| rings.iter().flatten().map(move |c| c[a] as i32);
+    let (Some(left), Some(right)) = (places(0).min(), places(0).max()) else { return Vec::new() };
+    let (bottom, top) = (places(1).min().unwrap_or(0), places(1).max().unwrap_or(0));
+    let mut all = Vec::new();
+    for dx in [-left, 65_535 - right] {
+        for dy in [-bottom, 65_535 - top] {
+            let to = |c: &[u16; 2]| [(c[0] as i32 + dx) as u16, (c[1] as i32 + dy) as u16];
+            all.push((drawn(&rings.iter().map(|r| r.iter().map(to).collect()).collect::<Vec<_>>()), [dx, dy]));
+        }
+    }
+    all
+}
+
+pub fn figures(plan: &Plan, progress: &Progress) {
+    let Some(library) = plan.library else { return };
+    let (next, total) = (AtomicUsize::new(0), plan.outlines / 20);
+    let (accepted, redrawings, moves, pairs) = (AtomicUsize::new(0), AtomicUsize::new(0), AtomicUsize::new(0), AtomicUsize::new(0));
+    std::thread::scope(|scope| {
+        for _ in 0..plan.threads {
+            scope.spawn(|| loop {
+                let turn = next.fetch_add(1, Ordering::Relaxed);
+                if turn >= total {
+                    break;
+                }
+                let mut s = Seeded::new(plan.seed << 32 | 0x5a3e << 16 | turn as u64);
+                let (outline, figure) = (s.below(outlines::SORTS.len()), s.below(figures::SORTS.len()));
+                let drawing = match turn % 8 {
+                    0 => figures::bad(&mut s),
+                    1 | 2 | 3 => outlines::of_sort(&mut s, outline),
+                    _ => figures::of_sort(&mut s, figure),
+                };
+                let Some(rings) = rings(&drawing) else { continue };
+                let rule = outlines::rule(&mut s, &drawing);
+                let room = (s.pick(&[14_400, 14_400, 14_400, 100]), s.pick(&[900, 900, 900, 15]));
+                let left = fracture(library, &drawing, rule, room);
+                for other in redrawn(&rings, &mut s) {
+                    let again = fracture(library, &other, rule, room);
+                    assert!(again == left, "{drawing:?} by {rule:?}, redrawn as {other:?}: {:?} and not {:?}", again.told, left.told);
+                    redrawings.fetch_add(1, Ordering::Relaxed);
+                }
+                for (other, by) in moved(&rings) {
+                    let mut again = fracture(library, &other, rule, room);
+                    if left.told.number == 0 {
+                        for (n, place) in again.list[..4 * left.told.numbers[0] as usize].iter_mut().enumerate() {
+                            *place = (*place as i32 - by[n % 2]) as u16;
+                        }
+                    }
+                    assert!(again == left, "{drawing:?} by {rule:?}, moved by {by:?}: {:?} and not {:?}", again.told, left.told);
+                    moves.fetch_add(1, Ordering::Relaxed);
+                }
+                if left.told.number == 0 {
+                    accepted.fetch_add(1, Ordering::Relaxed);
+                    let dearer = (s.within(rule.0 as usize, 1_000) as u32, s.within(rule.1 as usize, 1_000) as u32);
+                    let other = fracture(library, &drawing, dearer, room);
+                    if other.told.number == 0 {
+                        assert!(left.told.numbers[1] <= other.told.numbers[1], "{drawing:?}: {rule:?} costs more than {dearer:?}");
+                        assert!(left.table.iter().zip(&other.table).all(|(a, b)| a <= b), "{drawing:?}: an entry by {dearer:?} is lower");
+                        pairs.fetch_add(1, Ordering::Relaxed);
+                    }
+                }
+                progress.same_many(1);
+                progress.at("figures drawn otherwise", turn, total);
+            });
+        }
+    });
+    let of = |n: AtomicUsize| n.into_inner();
+    let (accepted, redrawings, moves, pairs) = (of(accepted), of(redrawings), of(moves), of(pairs));
+    assert!(total < 1_000 || (accepted > total / 4 && accepted < total && pairs > total / 8), "figures of one sort alone");
+    progress.done(format!(
+        "same drawing, same shots: {total} figures from seeds, {accepted} accepted; {redrawings} times redrawn, {moves} times moved, {pairs} times by a dearer rule"
+    ));
+}
