@@ -67,8 +67,9 @@ enum pw_refusal {
                            bytes after ENDEL */
   PW_NOT_CLOSED = 17,   /* last point unlike the first */
   PW_EXTENT = 18,       /* extent above 65535 */
-  PW_SHOT_LIST = 21     /* a shot list whose length is no multiple of four, or a shot whose high x or y is not
+  PW_SHOT_LIST = 21,    /* a shot list whose length is no multiple of four, or a shot whose high x or y is not
                            above its low one */
+  PW_NO_EDGE = 23       /* edge asked for, not below the number of corners */
 };
 
 /* Room that is enough for every figure and every job. */
@@ -80,7 +81,8 @@ enum pw_room {
   PW_HEADER_BYTES = 6,       /* threshold, weight and count of outlines */
   PW_OUTLINE_BYTES = 202,    /* 0, R, 8 times V, and 64 coordinates of 3 bytes */
   PW_JOB_BYTES = 4096,
-  PW_CUTS_MOST = 134400      /* 16 lines each way */
+  PW_CUTS_MOST = 134400,     /* 16 lines each way */
+  PW_EDGE_NUMBERS = 60       /* 15 runs of 4 numbers: enough for the list of any fracture without a largest side */
 };
 
 /* The rule of a preset, 0 to 3. Refuses: PW_NO_PRESET. */
@@ -168,6 +170,17 @@ struct pw_joined {
  * beyond the shots is not touched.
  * Refuses: PW_SHOT_LIST, then PW_BUFFER_SHORT where the table has fewer entries than there are shots. */
 uint32_t pw_join(const uint16_t *list, size_t list_len, struct pw_joined *table, size_t table_len, size_t *flashes);
+
+/* Which shots one edge ends up on. Edge number edge runs from corner number edge, counted over all rings,
+ * to the next corner of its ring. shots[0..shots_len) is a shot list, as a fracture left it, or any other.
+ * The front of runs holds 4 numbers for each run, from the edge's low end to its high end: from, to
+ * (places along the edge), the number of the shot, from 1, or 0, and the side of the figure: 1 left,
+ * 2 right, 3 bottom, 4 top, 0 no wall. A stretch of 1 nm is on the side that separates a unit square
+ * inside from one that is not; it ends up on the first shot of the list that it lies on the same side of
+ * as of the figure. count is the number of runs. For any list 60 + 2 x shots_len numbers are enough.
+ * Refuses: PW_LENGTH to PW_EMPTY, PW_SHOT_LIST (an empty list passes), PW_NO_EDGE, PW_BUFFER_SHORT. */
+uint32_t pw_edge(const uint16_t *corners, size_t corners_len, const uint16_t *rings, size_t rings_len, size_t edge,
+                 const uint16_t *shots, size_t shots_len, size_t *runs, size_t runs_len, size_t *count);
 
 #ifdef __cplusplus
 }

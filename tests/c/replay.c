@@ -214,6 +214,22 @@ static void expect_shift(const char *what, int32_t told) {
   expect(what, (uint64_t)(int64_t)told);
 }
 
+/* The runs of an edge; they are numbers of the machine's size. */
+static size_t runs_room[MOST];
+
+static void edge_runs(void) {
+  size_t corners_len = size(), rings_len = size(), edge = size(), shots_len = size(), runs_len = size(), count = 77;
+  uint32_t mark = word(), h = 2166136261u;
+  read_drawing(corners_len, rings_len);
+  uint16_t *shots = room_of_list;
+  for (size_t i = 0; i < shots_len; i++) shots[i] = (uint16_t)word();
+  for (size_t i = 0; i < runs_len + 2 * MARGIN; i++) runs_room[i] = mark + (uint32_t)i * 2654435761u;
+  expect("edge", pw_edge(corners, corners_len, rings, rings_len, edge, shots, shots_len, runs_room + MARGIN, runs_len, &count));
+  expect("runs", count);
+  for (size_t i = 0; i < runs_len + 2 * MARGIN; i++) h = (h ^ (uint32_t)runs_room[i]) * 16777619u;
+  expect("runs written", h);
+}
+
 static void read_boundary(void) {
   size_t len = size(), list_len = size(), offset = 77;
   uint32_t count = 77, mark = word();
@@ -272,6 +288,7 @@ int main(void) {
     case 12: over = 1; break;
     case 30: join(); break;
     case 31: cuts_ahead(); break;
+    case 23: edge_runs(); break;
     default:
       say("replay: the record is not whole\n");
       return 2;

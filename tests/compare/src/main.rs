@@ -6,6 +6,7 @@
 //! It stops at the first difference and says from which seed it came. `--record` also writes cases
 //! with their outcomes for the C program `replay`. Without the library only the baselines are compared.
 
+mod edges;
 mod fractures;
 mod gdsii;
 mod jobs;
@@ -87,6 +88,8 @@ fn main() {
     same::figures(&plan, &progress);
     joins::rows(&plan, &progress);
     joins::lists(&plan, &progress);
+    edges::rows(&plan, &progress);
+    edges::figures(&plan, &progress);
     if let Some(file) = &plan.record {
         record::write(file, plan.seed, &progress);
     }

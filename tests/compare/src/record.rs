@@ -6,9 +6,11 @@
 //! largest there is stands as 0xffffffff. Then its outcome, two words for each: the number, the single
 //! numbers, a hash over each lent buffer with 16 elements before and beyond it. Calls: 1 preset,
 //! 2 fracture, 3 fracture by the default rule, 4 number, 5 job check, 6 job outline, 7 unpack, 8 write
-//! header, 9 write outline, 10 read a boundary, 11 fracture one, 12 the end, 30 join, 31 cuts ahead. A shift has its sign.
+//! header, 9 write outline, 10 read a boundary, 11 fracture one, 12 the end, 23 the runs of an edge, 30 join,
+//! 31 cuts ahead. A shift has its sign.
 //! An entry of a table of pairs is hashed field by field, its partner as two words.
 
+use crate::edges::shot_list;
 use crate::progress::Progress;
 use drawings::jobs::{damaged, outline, sound, DAMAGES};
 use drawings::seeded::Seeded;
@@ -23,6 +25,7 @@ const OUTLINES: u64 = 6_000;
 const JOBS: u64 = 6_000;
 const ELEMENTS: u64 = 6_000;
 const LISTS: u64 = 6_000;
+const EDGES: u64 = 6_000;
 
 struct Record {
     words: Vec<u32>,
@@ -187,6 +190,20 @@ impl Record {
         self.outcome(told, 1, &[hash(fields)]);
     }
 
+    fn edge(&mut self, drawing: &Drawing, edge: usize, shots: &[u16], room: usize, mark: u32) {
+        self.words.push(23);
+        self.drawing_lengths(drawing);
+        self.size(edge);
+        self.size(shots.len());
+        self.size(room);
+        self.words.push(mark);
+        self.drawing(drawing);
+        self.words.extend(shots.iter().map(|&number| number as u32));
+        let mut runs = lend(room, mark, 32, |x| x as usize);
+        let told = Law.edge(drawing, edge, shots, &mut runs[MARGIN..MARGIN + room]);
+        self.outcome(told, 1, &[hash(runs.into_iter().map(|run| run as u32))]);
+    }
+
     fn writers(&mut self, s: &mut Seeded) {
         let pick = |s: &mut Seeded| s.pick(&[0, 127, 128, 255, 256, 1000, 1001, u32::MAX]);
         let (threshold, weight, outlines) = (pick(s), pick(s), pick(s));
@@ -288,6 +305,16 @@ pub fn write(file: &str, seed: u64, progress: &Progress) {
         let few = s.within(0, room);
         let entries = s.pick(&[room, room, room + 1, room + 9, few]);
         record.join(&list, entries, turn as u32);
+    }
+    for turn in 0..EDGES {
+        let mut s = Seeded::new(seed << 32 | 0xed6f << 16 | turn);
+        let drawing = any_figure(&mut s);
+        let shots = shot_list(&mut s, &drawing);
+        let any = s.within(0, drawing.corners.len() / 2 + 1);
+        let edge = s.pick(&[any, any, any, any, usize::MAX]);
+        let few = s.within(0, 20);
+        let room = s.pick(&[60 + 2 * shots.len(), few]);
+        record.edge(&drawing, edge, &shots, room, turn as u32);
     }
     record.words.push(12);
     let bytes: Vec<u8> = record.words.iter().flat_map(|word| word.to_le_bytes()).collect();

@@ -30,6 +30,12 @@ impl Element for law::joining::Joined {
     }
 }
 
+impl Element for usize {
+    fn canary(at: usize) -> usize {
+        0xa5c3_5a3c_c3a5_3c5a ^ at
+    }
+}
+
 /// Elements on either side.
 const MARGIN: usize = 16;
 

@@ -15,6 +15,7 @@
 //! | `bytes` | numbers, jobs, unpacking, the writers |
 //! | `gdsii` | one boundary element of a GDSII stream |
 //! | `joining` | shots joined in pairs |
+//! | `edge` | one edge and the shots that it ends up on |
 //! | `program` | what the job program prints |
 //! | `nano` | the same costs once more, nanometre by nanometre, for small figures |
 //! | `every` | every cutting of a small figure, with its price |
@@ -23,6 +24,7 @@ pub mod bytes;
 pub mod call;
 pub mod cutting;
 pub mod drawing;
+pub mod edge;
 pub mod every;
 pub mod figure;
 pub mod gdsii;
@@ -71,6 +73,7 @@ pub trait Calls {
     fn gdsii_read(&self, element: &[u8], list: &mut [u16]) -> Told;
     fn gdsii_fracture(&self, element: &[u8], table: &mut [u32], list: &mut [u16]) -> Told;
     fn join(&self, list: &[u16], table: &mut [joining::Joined]) -> Told;
+    fn edge(&self, drawing: &Drawing, edge: usize, shots: &[u16], runs: &mut [usize]) -> Told;
 }
 
 /// The documents themselves.
@@ -115,5 +118,9 @@ impl Calls for Law {
     }
     fn join(&self, list: &[u16], table: &mut [joining::Joined]) -> Told {
         joining::told_join(list, table)
+    }
+
+    fn edge(&self, drawing: &Drawing, edge: usize, shots: &[u16], runs: &mut [usize]) -> Told {
+        edge::told_edge(drawing, edge, shots, runs)
     }
 }

@@ -77,6 +77,10 @@ mod pw {
         pub fn pw_join(
             list: *const u16, list_len: usize, table: *mut law::joining::Joined, table_len: usize, flashes: *mut usize,
         ) -> u32;
+        pub fn pw_edge(
+            corners: *const u16, corners_len: usize, rings: *const u16, rings_len: usize, edge: usize,
+            shots: *const u16, shots_len: usize, runs: *mut usize, runs_len: usize, count: *mut usize,
+        ) -> u32;
     }
 }
 
@@ -258,5 +262,16 @@ impl Calls for Library {
         let number =
             unsafe { pw::pw_join(list.as_ptr(), list.len(), table.as_mut_ptr(), table.len(), &mut flashes) };
         Told::of(number, &[flashes as u64])
+    }
+
+    fn edge(&self, drawing: &Drawing, edge: usize, shots: &[u16], runs: &mut [usize]) -> Told {
+        let mut count = MARK_SIZE;
+        let number = unsafe {
+            pw::pw_edge(
+                drawing.corners.as_ptr(), drawing.corners.len(), drawing.rings.as_ptr(), drawing.rings.len(), edge,
+                shots.as_ptr(), shots.len(), runs.as_mut_ptr(), runs.len(), &mut count,
+            )
+        };
+        Told::of(number, &[count as u64])
     }
 }

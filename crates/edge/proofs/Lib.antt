@@ -1,0 +1,14 @@
+pub mod Agreed
+pub mod Strokes
+pub mod Runs
+pub mod Landing
+pub mod Sides
+pub mod Owned
+pub mod Few
+pub mod Fractured
+pub mod Settled
+pub mod Laws
+pub mod Between
+pub mod Writing
+pub mod Numbering
+pub mod Answers
