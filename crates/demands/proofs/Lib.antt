@@ -13,3 +13,4 @@ pub mod Demands
 pub mod Room
 pub mod Rows
 pub mod Same
+pub mod Writable

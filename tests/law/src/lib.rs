@@ -16,12 +16,14 @@
 //! | `gdsii` | one boundary element of a GDSII stream |
 //! | `joining` | shots joined in pairs |
 //! | `edge` | one edge and the shots that it ends up on |
+//! | `cif` | a shot list as a CIF text, and back |
 //! | `program` | what the job program prints |
 //! | `nano` | the same costs once more, nanometre by nanometre, for small figures |
 //! | `every` | every cutting of a small figure, with its price |
 
 pub mod bytes;
 pub mod call;
+pub mod cif;
 pub mod cutting;
 pub mod drawing;
 pub mod edge;

@@ -14,10 +14,10 @@ abbrev μ-loop : tie.MeasureT-loop
 μ-loop list at₀ at = length list - at
 
 returns : tie.Need-returns Inv-loop μ-loop
-returns c = uneven-bad _ (c .if1 .taken)
+returns c = uneven-bad _ (λ e. omega arith)
 
 loop-holds : tie.Need-loop-holds Inv-loop μ-loop
-loop-holds c = passed-start _ (c .if1 .left)
+loop-holds c = passed-start _ (omega arith)
 
 mul-empty : tie.Need-mul-empty Inv-loop μ-loop
 mul-empty c = search needs

@@ -1,0 +1,4 @@
+pub mod Text
+pub mod Faults
+pub mod Calls
+pub mod Steps
