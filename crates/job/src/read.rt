@@ -185,7 +185,7 @@ fn outlines(job: &[u8], from: Cursor, k: usize) -> Past
 }
 
 // Threshold, weight and K, from the front of the job.
-fn header(job: &[u8]) -> Head
+pub fn header(job: &[u8]) -> Head
     ensures { λ r. ⌜ headTold r ≡ header (now (job .entry)) ⌝ }
 {
     match value(job, Cursor { at: 0 }, 0, Rule::MAX_THRESHOLD) {

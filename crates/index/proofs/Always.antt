@@ -1,0 +1,172 @@
+-- An index stays true through any run of calls, and picking by a true index is taking. Assumes nothing.
+--
+--   opened-true, changed-true == a job that is opened, or written anew, has a true index beside it
+--   Left, append-left, remove-left == an accepted change leaves a true index of the new job, a refused one leaves the index as it came in
+--   reached-true     == after any run of these calls from an opened job the index is what a full reading would give
+--   pick-true        == by a true index a pick is what taking the outline gives
+use Prim.Native.Nat.{ℕ, _<_, _≤_}
+use mathlib.Core.Path.{_≡_, _∙_, refl, sym, ap, ap₂, subst}
+use mathlib.Core.Logic.{inl, inr}
+use mathlib.Core.List.{List, [], _++_}
+use mathlib.Core.Bool.{Bool, true, false, cond, _&&_}
+use native.Mathlib.Omega.{arith}
+use lib.Dec.{leb, ltb}
+use lib.ListN.{length, getD, take, drop, length-map, length-take, List·getD-map}
+use lib.Seq.{take-at, getD-take}
+use borrow.Author.Tests.{le-ltb, lt-ltb}
+use Rattle.sum.proofs.Sum.{le-or}
+use Rattle.refusal.specs.declared.Refusal.{Refusal}
+use Rattle.refusal.specs.declared.Refusal.the-variants.{Length, Full, Long, Missing, Room}
+use Rattle.refusal.specs.Refusals.{refusalNo}
+use Rattle.refusal.proofs.Refusals.{refusal-some}
+use Rattle.number.specs.Reading.{Reading, read, fault}
+use Rattle.number.proofs.Reading.{many-nth, many-length}
+use Rattle.figure.specs.Figure.{Figure, badFigure}
+use Rattle.job.specs.Job.{mostBytes, mostOutlines, Part, part, outlines, Job, job}
+use Rattle.job.specs.Calls.{told, noPart, partBytes, partTaken, taken}
+use Rattle.job.proofs.Job.{job-whole, part-read}
+use Rattle.index.specs.Index.{startsOf, TrueIndex, OpenSaid, unopened, openedBy, opened, ChangeSaid, unchanged, changedBy, changedTo, withOutline, withoutOutline, appendedTo, appended, removedFrom, removed, found, pickedBy, picked}
+use Rattle.index.specs.Reached.{Reached, by-open, by-append, by-remove, not-appended, not-removed}
+
+-- a refusal's number is no 0
+never : (r : Refusal) → refusalNo r ≡ 0 → ⊥
+never r e = omega (arith, refusal-some r, e)
+
+-- the starts of a job at the front of a list
+front-true : (s index : List ℕ) {j : Job} {last : ℕ} → job s ≡ read j last → TrueIndex s (startsOf j ++ drop (length (j .parts)) index) (length (j .parts))
+front-true s index {j} {last} e =
+    record {
+      says = j;
+      last = last;
+      accepted = e;
+      count = refl;
+      starts = take-at (startsOf j) (drop (length (j .parts)) index) (length (j .parts)) (length-map (j .parts) (λ (p : Part). p .start));
+    }
+
+pub opened-true : (s index : List ℕ) → opened s index .number ≡ 0 → TrueIndex s (opened s index .index) (opened s index .outlines)
+unfolding opened
+opened-true s index e = go (job s) refl e
+  where
+    fits : (j : Job) (last : ℕ) → job s ≡ read j last → (b : Bool) (u : OpenSaid)
+        → TrueIndex s (u .index) (u .outlines) → cond b u (unopened (refusalNo Room) 0 index) .number ≡ 0
+        → TrueIndex s (cond b u (unopened (refusalNo Room) 0 index) .index) (cond b u (unopened (refusalNo Room) 0 index) .outlines)
+    fits j last q true u h f = h
+    fits j last q false u h f = absurd (never Room f)
+
+    go : (u : Reading Job) → job s ≡ u → openedBy index u .number ≡ 0 → TrueIndex s (openedBy index u .index) (openedBy index u .outlines)
+    go (fault r p) q f = absurd (never r f)
+    go (read j last) q f = fits j last q (leb (length (j .parts)) (length index)) _ (front-true s index q) f
+
+-- what an accepted change leaves, and a refused one
+abbrev pub Left : List ℕ → ChangeSaid → Type 0
+Left index u =
+    (u .number ≡ 0 → TrueIndex (take (u .bytes) (u .out)) (u .index) (u .outlines)) × ((u .number ≡ 0 → ⊥) → u .index ≡ index)
+
+left-refused : (index out : List ℕ) (r : Refusal) (at : ℕ) → Left index (unchanged (refusalNo r) at index out)
+left-refused index out r at = ((λ e. absurd (never r e)), λ n. refl)
+
+left-cond : (index : List ℕ) (b : Bool) (u v : ChangeSaid) → Left index u → Left index v → Left index (cond b u v)
+left-cond index true u v x y = x
+left-cond index false u v x y = y
+
+pub changed-true : (b index out : List ℕ) → Left index (changedTo b index out)
+unfolding changedTo
+changed-true b index out = go (job b) refl
+  where
+    go : (u : Reading Job) → job b ≡ u → Left index (changedBy b index out u)
+    go (fault r p) q = left-refused index out r p
+    go (read j last) q =
+        left-cond index (leb (length b) (length out) && leb (length (j .parts)) (length index)) _ _ (
+          (λ e.
+              subst (λ (l : List ℕ). TrueIndex l (startsOf j ++ drop (length (j .parts)) index) (length (j .parts)))
+              (sym (take-at b (drop (length b) out) (length b) refl))
+              (front-true b index q)),
+          λ n. absurd (n refl),
+        )
+        (left-refused index out Room 0)
+
+pub append-left : (s : List ℕ) (f : Figure) (index out : List ℕ) → Left index (appended s f index out)
+unfolding appended
+append-left s f index out = go (job s)
+  where
+    go : (u : Reading Job) → Left index (appendedTo f index out u)
+    go (fault r p) = left-refused index out r p
+    go (read j last) =
+        left-cond index (badFigure f) _ _ (left-refused index out Length 0)
+        (left-cond index (leb mostOutlines (length (j .parts))) _ _ (left-refused index out Full 0)
+        (left-cond index (ltb mostBytes (length (withOutline j f))) _ _ (left-refused index out Long 0) (changed-true (withOutline j f) index out)))
+
+pub remove-left : (s : List ℕ) (k : ℕ) (index out : List ℕ) → Left index (removed s k index out)
+unfolding removed
+remove-left s k index out = go (job s)
+  where
+    go : (u : Reading Job) → Left index (removedFrom k index out u)
+    go (fault r p) = left-refused index out r p
+    go (read j last) =
+        left-cond index (ltb k (length (j .parts))) _ _ (changed-true (withoutOutline j k) index out) (left-refused index out Missing 0)
+
+pub reached-true : {s index : List ℕ} {n : ℕ} → Reached s index n → TrueIndex s index n
+reached-true (by-open s index e) = opened-true s index e
+reached-true (by-append s index out m f r e) = append-left s f index out .0 e
+reached-true (by-remove s index out m k r e) = remove-left s k index out .0 e
+reached-true (not-appended s index out n f r e) =
+    subst (λ (l : List ℕ). TrueIndex s l n) (sym (append-left s f index out .1 e)) (reached-true r)
+reached-true (not-removed s index out n k r e) =
+    subst (λ (l : List ℕ). TrueIndex s l n) (sym (remove-left s k index out .1 e)) (reached-true r)
+
+-- a pick by a true index
+
+module _ (s index : List ℕ) (n k : ℕ) (t : TrueIndex s index n) where
+  abbrev says : Job
+  says = t .says
+
+  -- the index has room for its count
+  room : n ≤ length index
+  room = omega (arith, ap length (t .starts), length-take n index, length-map (says .parts) (λ (p : Part). p .start), t .count)
+
+  short : ltb mostBytes (length s) ≡ false
+  short = le-ltb mostBytes (length s) (job-whole s (t .accepted) .short)
+
+  -- entry k is where outline k begins
+  pub entry-true : k < n → getD index k 0 ≡ getD (says .parts) k noPart .start
+  entry-true h =
+      sym (getD-take n index k 0 h)
+      ∙ ap (λ (l : List ℕ). getD l k 0) (t .starts)
+      ∙ List·getD-map (λ (p : Part). p .start) (says .parts) k noPart
+
+  there : k < n → (end : ℕ) × (part s (getD index k 0) ≡ read (getD (says .parts) k noPart) end)
+  unfolding outlines
+  there h =
+      let w = job-whole s (t .accepted) in
+      let long = many-length (part s) (w .head .count) (w .first) (w .parts-are) in
+      let m = many-nth (part s) (w .head .count) (w .first) k noPart (w .parts-are) (omega (arith, h, t .count, long)) in
+      let r = part-read s (m .1) (m .4) in
+      (m .2, ap (part s) (entry-true h ∙ r .1) ∙ m .4)
+
+  pick-in : k < n → picked s index n k ≡ taken s k
+  unfolding picked found taken
+  pick-in h =
+      let p : pickedBy s (cond (ltb mostBytes (length s)) (fault Long 0) (cond (ltb k n && ltb k (length index)) (part s (getD index k 0)) (fault Missing 0)))
+      ≡ pickedBy s (part s (getD index k 0)) =
+      simp (short, lt-ltb k n h, lt-ltb k (length index) (omega (arith, h, room)))
+      in
+      let q : told 0 0 (partBytes s (getD (says .parts) k noPart)) ≡ partTaken s k (read says (t .last)) =
+      simp (lt-ltb k (length (says .parts)) (omega (arith, h, t .count)))
+      in p ∙ ap (pickedBy s) (there h .1) ∙ q ∙ sym (ap (partTaken s k) (t .accepted))
+
+  pick-out : n ≤ k → picked s index n k ≡ taken s k
+  unfolding picked found taken
+  pick-out h =
+      let p : pickedBy s (cond (ltb mostBytes (length s)) (fault Long 0) (cond (ltb k n && ltb k (length index)) (part s (getD index k 0)) (fault Missing 0)))
+      ≡ told (refusalNo Missing) 0 [] =
+      simp (short, le-ltb k n h)
+      in
+      let q : told (refusalNo Missing) 0 [] ≡ partTaken s k (read says (t .last)) =
+      simp (le-ltb k (length (says .parts)) (omega (arith, h, t .count)))
+      in p ∙ q ∙ sym (ap (partTaken s k) (t .accepted))
+
+  pub pick-true : picked s index n k ≡ taken s k
+  pick-true = elim (le-or n k) [
+    | inl h ↦ pick-out h
+    | inr h ↦ pick-in h
+  ]
