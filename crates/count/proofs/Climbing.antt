@@ -7,6 +7,8 @@
 --   spared-grid                      == twice the lines within the pieces of one sort
 --   lines-thirds                     == the lines within all pieces, as the code has them
 --   cuts-rest                        == all but those of one sort are those weighed
+--   Passing, passing-*               == the columns passed, from the last one back
+--   Widening, widening-*             == the same with the reaches of the rows in a list
 use Prim.Native.Nat.{ℕ, zero, suc, _+_, _*_, _-_, _/_, _≤_, _<_, min}
 use mathlib.Core.Path.{_≡_, refl, sym, _∙_, ap, ap₂, subst}
 use mathlib.Core.Bool.{Bool, true, false, cond}
@@ -56,7 +58,7 @@ widen-more cells column j t u v long h e w =
     (e ∙ ap₂ (λ k l. farther (getD cells (16 * column + j) 0) (getD cells k 0) l) n (w .kept j (inr (omega arith)))) w)
 
 module _ (f : ℕ → ℕ) where
-  stretch-most : (a n : ℕ) → stretch f a n ≤ n
+  pub stretch-most : (a n : ℕ) → stretch f a n ≤ n
   unfolding stretch farther
   stretch-most a zero = omega arith
   stretch-most a (suc n) = go (eqb (f a) (f (suc a))) (stretch-most (suc a) n)
@@ -136,7 +138,7 @@ unfolding reachAt
 reached-few cells columns rows column reaches h w j k =
     omega (arith, w .each j k, stretch-most (λ i. cellAt cells i j) column (columns - column))
 
-reach-some : (cells : List ℕ) (columns a j : ℕ) → a < columns → 1 ≤ reachAt cells columns a j
+pub reach-some : (cells : List ℕ) (columns a j : ℕ) → a < columns → 1 ≤ reachAt cells columns a j
 unfolding reachAt
 reach-some cells columns a j h =
     let z : columns - a ≡ suc (columns - suc a) = omega arith in
@@ -161,7 +163,7 @@ pub share-fits : (m e : ℕ) → m ≤ 15 → e ≤ 14 → m * (m + 2 * e - 1) �
 share-fits m e h k = omega (arith, mul-le-mul {n₁ = m} {m₁ = m + 2 * e - 1} {n₂ = 15} {m₂ = 44} h (omega arith))
 
 module _ (f r : ℕ → ℕ) where
-  climb-go : (s j e m k : ℕ) → f j ≡ s → climb f r s j e m (suc k) ≡ share (min m (r j)) e + climb f r s (suc j) (suc e) (min m (r j)) k
+  pub climb-go : (s j e m k : ℕ) → f j ≡ s → climb f r s j e m (suc k) ≡ share (min m (r j)) e + climb f r s (suc j) (suc e) (min m (r j)) k
   unfolding climb
   climb-go s j e m k h = rw (eq-eqb (f j) s h)
 
@@ -503,11 +505,45 @@ module _ (g : Grid) (cells : List ℕ) (columns rows : ℕ) (w : Shaded g cells 
 
 -- The columns from the last one back
 
-pub record Widening (cells : List ℕ) (columns rows column : ℕ) (reaches : List ℕ) (sum : ℕ) : Type 0 where
+-- what is passed of the columns from this one on
+pub record Passing (cells : List ℕ) (columns rows column sum : ℕ) : Type 0 where
   pub to : column ≤ columns
-  pub reached : Reached cells columns rows column reaches
   pub passed : sum ≡ over column columns (spared cells columns rows)
   pub small : sum ≤ 148500 * (columns - column)
+
+pub passing-none : (cells : List ℕ) (columns rows : ℕ) → Passing cells columns rows columns 0
+passing-none cells columns rows =
+    record {
+      to = omega arith;
+      passed = sym (over-none columns columns (spared cells columns rows) (omega arith));
+      small = omega arith;
+    }
+
+pub passing-more : {cells : List ℕ} {columns rows column sum : ℕ} (n : ℕ) → Passing cells columns rows column sum → 0 < column
+    → n ≡ spared cells columns rows (column - 1) → n ≤ 148500 → Passing cells columns rows (column - 1) (sum + n)
+passing-more {cells} {columns} {rows} {column} n s some e few =
+    let one-back : suc (column - 1) ≡ column = omega arith in
+    record {
+      to = omega (arith, s .to);
+      passed =
+          omega (
+            arith,
+            e,
+            s .passed,
+            over-first (column - 1) columns (spared cells columns rows) (omega (arith, s .to)),
+            ap (λ k. over k columns (spared cells columns rows)) one-back,
+          );
+      small = omega (arith, few, s .small, s .to);
+    }
+
+pub passing-end : {cells : List ℕ} {columns rows column sum : ℕ} → Passing cells columns rows column sum → column ≤ 0 → sum ≡ sparedAll cells columns rows
+unfolding sparedAll
+passing-end {cells} {columns} {rows} {column} s h =
+    let z : column ≡ 0 = omega arith in s .passed ∙ ap (λ k. over k columns (spared cells columns rows)) z
+
+pub record Widening (cells : List ℕ) (columns rows column : ℕ) (reaches : List ℕ) (sum : ℕ) : Type 0 where
+  pub passing : Passing cells columns rows column sum
+  pub reached : Reached cells columns rows column reaches
 
 zeros-at : (n i : ℕ) → _≡_ {A = ℕ} (getD (replicate n 0) i 0) 0
 zeros-at zero i = refl
@@ -517,10 +553,8 @@ zeros-at (suc n) (suc i) = zeros-at n i
 pub widening-none : (cells : List ℕ) (columns rows : ℕ) → Widening cells columns rows columns (replicate 16 0) 0
 widening-none cells columns rows =
     record {
-      to = omega arith;
+      passing = passing-none cells columns rows;
       reached = reached-none cells columns rows (replicate 16 0) refl (zeros-at 16);
-      passed = sym (over-none columns columns (spared cells columns rows) (omega arith));
-      small = omega arith;
     }
 
 module _ (cells : List ℕ) (columns rows column : ℕ) (t u : List ℕ) (sum : ℕ) (s : Widening cells columns rows column t sum) (some : 0 < column)
@@ -532,7 +566,7 @@ module _ (cells : List ℕ) (columns rows column : ℕ) (t u : List ℕ) (sum : 
   widening-ready =
       record {
         cells-length = long;
-        column-most = omega (arith, s .to);
+        column-most = omega (arith, s .passing .to);
         rows-most = flat;
         reaches-length = s .reached .long;
         few = reached-few cells columns rows column t few (s .reached);
@@ -541,32 +575,13 @@ module _ (cells : List ℕ) (columns rows column : ℕ) (t u : List ℕ) (sum : 
   module _ (v : Wrote (widened cells (column - 1) t) 0 rows t u) where
     back : Reached cells columns rows (column - 1) u
     back =
-        reached-more cells columns rows (column - 1) t u (omega (arith, s .to))
+        reached-more cells columns rows (column - 1) t u (omega (arith, s .passing .to))
         (subst (λ k. Reached cells columns rows k t) (sym one-back) (s .reached)) v
 
     pub widening-climbable : Climbable cells (column - 1) rows u
-    widening-climbable = reached-climbable cells columns rows (column - 1) u long few flat (omega (arith, s .to)) back
+    widening-climbable = reached-climbable cells columns rows (column - 1) u long few flat (omega (arith, s .passing .to)) back
 
     pub widening-more : (n : ℕ) → (n ≡ over 0 rows (corner (cellAt cells (column - 1)) (numberAt u) rows)) × (n ≤ 148500)
         → Widening cells columns rows (column - 1) u (sum + n)
     widening-more n e =
-        record {
-          to = omega (arith, s .to);
-          reached = back;
-          passed =
-              omega (
-                arith,
-                e .0,
-                s .passed,
-                spared-at cells columns rows (column - 1) u back,
-                over-first (column - 1) columns (spared cells columns rows) (omega (arith, s .to)),
-                ap (λ k. over k columns (spared cells columns rows)) one-back,
-              );
-          small = omega (arith, e .1, s .small, s .to);
-        }
-
-pub widening-end : (cells : List ℕ) (columns rows column : ℕ) (t : List ℕ) (sum : ℕ) → column ≤ 0 → Widening cells columns rows column t sum
-    → sum ≡ sparedAll cells columns rows
-unfolding sparedAll
-widening-end cells columns rows column t sum h s =
-    let z : column ≡ 0 = omega arith in s .passed ∙ ap (λ k. over k columns (spared cells columns rows)) z
+        record { passing = passing-more n (s .passing) some (e .0 ∙ spared-at cells columns rows (column - 1) u back) (e .1); reached = back }

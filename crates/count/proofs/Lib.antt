@@ -1,2 +1,3 @@
+pub mod Summing
 pub mod Climbing
-pub mod Strips
+pub mod Singles

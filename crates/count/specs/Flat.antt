@@ -1,33 +1,19 @@
--- Inner: the pieces of two rows, by the counts of their inside cells (nobody has to believe these).
+-- Inner: the pieces of one sort of one to three rows, from their cells and reaches at a column (nobody has to believe these).
 --
---   Bytes cells columns  == the cells in memory are 0 or 1, of at most 15 columns
---   weigh n m lines      == the lines within a piece of which n cells of m are inside, where its cells are of both sorts; else 0
---   inRow cells j a c    == how many cells of the row j are inside from the column a to below c
---   strip cells a i      == the cuts weighed between the x lines a and i + 1: of the lower row, of the upper one and of both
---   strips cells columns a   == those of all strips that begin at the line a
-use Prim.Native.Nat.{ℕ, suc, _+_, _*_, _-_, _≤_, _<_}
-use mathlib.Core.Path.{_≡_}
-use mathlib.Core.List.{List}
-use lib.ListN.{length, getD}
-use Rattle.sum.specs.Sum.{over}
-use Rattle.recurrence.specs.Scheme.{outside, full, mixed}
-use Rattle.piece.specs.Piece.{kindOf}
+--   ofOne r              == twice the lines within the pieces of one row that begin there: 1, 2, .. r columns wide
+--   ofTwo                == those of each of two rows, and of both where they have one sort
+--   ofThree              == those of the two upper rows, and of the ones that begin at the lowest
+use Prim.Native.Nat.{ℕ, _+_, min}
+use mathlib.Core.Bool.{cond}
+use lib.Dec.{eqb}
+use Rattle.count.specs.Corners.{share}
 
-pub record Bytes (cells : List ℕ) (columns : ℕ) : Type 0 where
-  pub long : length cells ≡ 256
-  pub few : columns ≤ 15
-  pub bit : (i j : ℕ) → i < 16 → j < 16 → getD cells (16 * i + j) 0 ≤ 1
+unfoldable pub ofOne : ℕ → ℕ
+ofOne r = share r 0
 
-unfoldable pub weigh : ℕ → ℕ → ℕ → ℕ
-weigh n m lines = elim (kindOf n m) [ outside ↦ 0 | full ↦ 0 | mixed ↦ lines ]
+unfoldable pub ofTwo : ℕ → ℕ → ℕ → ℕ → ℕ
+ofTwo low high r s = ofOne r + ofOne s + cond (eqb high low) (share (min r s) 1) 0
 
-unfoldable pub inRow : List ℕ → ℕ → ℕ → ℕ → ℕ
-inRow cells j a c = over a c (λ i. getD cells (16 * i + j) 0)
-
-unfoldable pub strip : List ℕ → ℕ → ℕ → ℕ
-strip cells a i =
-    weigh (inRow cells 0 a (suc i)) (suc i - a) (i - a) + weigh (inRow cells 1 a (suc i)) (suc i - a) (i - a)
-    + weigh (inRow cells 0 a (suc i) + inRow cells 1 a (suc i)) (2 * (suc i - a)) (suc i - a)
-
-unfoldable pub strips : List ℕ → ℕ → ℕ → ℕ
-strips cells columns a = over a columns (strip cells a)
+unfoldable pub ofThree : ℕ → ℕ → ℕ → ℕ → ℕ → ℕ → ℕ
+ofThree low middle high r s t =
+    ofOne r + ofTwo middle high s t + cond (eqb middle low) (share (min r s) 1 + cond (eqb high low) (share (min (min r s) t) 2) 0) 0

@@ -1,3 +1,3 @@
 pub mod Count
-pub mod Flat
 pub mod Corners
+pub mod Flat

@@ -1,19 +1,14 @@
 // The pieces of one sort, by the cell at their low corner: how far the rows above it go on with the same sort.
 use outline::MOST_LINES;
-use table::numbering::pair_count;
 ghost use mathlib.Core.Path.{_≡_};
 ghost use Prim.Native.Nat.{ℕ, _+_, _*_, _<_, _≤_};
 ghost use lib.ListN.{length, getD};
 ghost use Rattle.sum.specs.Sum.{over};
-ghost use Rattle.outline.specs.Grid.{Grid};
 ghost use Rattle.table.specs.Run.{Wrote};
-ghost use Rattle.demands.specs.Cuts.{weighedCuts};
-ghost use Rattle.demands.proofs.Bounded.{everyLine};
-ghost use Rattle.count.specs.Count.{Shaded, Countable};
 ghost use Rattle.count.specs.Corners.{cellAt, numberAt, farther, widened, Widenable, Climbable, corner, sparedAll};
 
 // How many cells of a row, from this one on, are of its sort, given how many are from the next one on.
-fn farther(cell: u8, next: u8, further: u32) -> u32
+pub fn farther(cell: u8, next: u8, further: u32) -> u32
     requires { ⌜ further ≤ 15 ⌝ }
     ensures { λ r. ⌜ r ≡ farther cell next further ⌝ }
 {
@@ -38,7 +33,7 @@ fn widen(cells: &[u8], column: usize, rows: usize, reaches: &mut [u32; 16])
 }
 
 // The least of two reaches.
-fn least(m: u32, n: u32) -> u32
+pub fn least(m: u32, n: u32) -> u32
     ensures { λ r. ⌜ r ≡ Prim.Native.Nat.min m n ⌝ }
 {
     if n < m { n } else { m }
@@ -82,7 +77,7 @@ fn corners_at(cells: &[u8], reaches: &[u32; 16], column: usize, rows: usize) -> 
 }
 
 // The same of all columns, from the last one back.
-fn spared(cells: &[u8], columns: usize, rows: usize) -> u32
+pub fn spared(cells: &[u8], columns: usize, rows: usize) -> u32
     requires { ⌜ (length (now cells) ≡ 256) × ((columns ≤ 15) × (rows ≤ 15)) ⌝ }
     ensures { λ r. ⌜ r ≡ sparedAll (now (cells .entry)) columns rows ⌝ }
 {
@@ -95,25 +90,4 @@ fn spared(cells: &[u8], columns: usize, rows: usize) -> u32
         sum += corners_at(cells, &reaches, column, rows);
     }
     sum
-}
-
-// The lines within all pieces.
-fn all_lines(columns: usize, rows: usize) -> u32
-    requires { ⌜ ((1 ≤ columns) × (columns ≤ 15)) × ((1 ≤ rows) × (rows ≤ 15)) ⌝ }
-    ensures { λ r. ⌜ r ≡ everyLine columns rows ⌝ }
-{
-    let across = pair_count(columns);
-    let upright = pair_count(rows);
-    let lines = across * upright * (columns + rows - 2) / 3;
-    lines as u32
-}
-
-// The lines within the pieces that have cells of both sorts: those within all, but for those within the pieces of one sort.
-pub fn cuts(cells: &[u8], columns: usize, rows: usize) -> u32
-    requires { ⌜ Countable (now cells) columns rows ⌝ }
-    ensures { λ r. ⌜ ((g : Grid) → Shaded g (now (cells .entry)) columns rows → r ≡ weighedCuts g) ⌝ }
-{
-    let all = all_lines(columns, rows);
-    let twice = spared(cells, columns, rows);
-    all - twice / 2
 }

@@ -1,13 +1,13 @@
 -- Same drawing, same shots (document 02, Item 14), in either mode. Assumes nothing.
 --
 --   redrawn-same      == the same drawing, drawn otherwise, has the same outcome: answer, table and list, refusals among them
---   moved-same        == a drawing that is moved has the same answer and table, refusals among them
+--   moved-same        == a drawing that is moved has the same answer, cuts and table, refusals among them
 --   moved-shots       == and each of its shots moves along
 --   moved-either      == so a drawing that is moved in any direction, too
 --   dearer            == of two accepted fractures with all else equal, that by a greater weight and a greater threshold costs no less
 --   dearer-entry      == nor does any entry of the table
 use Prim.Native.Nat.{ℕ, _+_, _*_, _<_, _≤_}
-use mathlib.Core.Path.{_≡_, refl, sym, _∙_, ap, ap₂}
+use mathlib.Core.Path.{_≡_, refl, sym, _∙_, ap, ap₂, subst}
 use mathlib.Core.Bool.{Bool, true, false, cond}
 use mathlib.Core.Logic.{inl, inr}
 use mathlib.Core.List.{List, [], _∷_, map}
@@ -28,15 +28,16 @@ use Rattle.outline.specs.Promise.{refusal}
 use Rattle.outline.proofs.Redrawn.{grid-redrawn, refusal-redrawn}
 use Rattle.outline.proofs.Shifted.{carried, some-corner, grid-shifted, refusal-shifted}
 use Rattle.piece.specs.declared.Mode.{Mode}
-use Rattle.piece.specs.Piece.{Piece, frame, rectangle}
+use Rattle.piece.specs.Piece.{Piece, frame, kind, insideCells, rectangle}
 use Rattle.piece.specs.Cuts.{cost}
 use Rattle.piece.proofs.Moved.{sliver-moved, charge-moved, shots-moved, cost-moved}
 use Rattle.piece.proofs.Dearer.{cost-dearer}
 use Rattle.shot.specs.Shot.{Shot}
 use Rattle.table.specs.Entry.{entryCount, tabled, costs}
+use Rattle.demands.specs.Cuts.{weighed, weighedCuts}
 use Rattle.demands.specs.Promise.{Asked, drawn, ruleOf, Outcome, frameShots, frameCost, frameSliver, written, refused, delivered, gridded, ruled, outcome}
 use Rattle.demands.specs.Demands.{PieceOf, reported, entry, Filled}
-use Rattle.demands.specs.Same.{shiftShot}
+use Rattle.demands.specs.Same.{shiftShot, bare, Dearer}
 use Rattle.demands.proofs.Outcome.{with-figure, outcome-seen, outcome-rule, outcome-figure}
 use Rattle.demands.proofs.Demands.{reported-is, entry-cost, cost-frame}
 
@@ -44,35 +45,32 @@ pub redrawn-same : (ask : Asked) {rs qs : List (List Corner)} → Redrawn rs qs
     → outcome (with-figure ask (ofRings rs)) ≡ outcome (with-figure ask (ofRings qs))
 redrawn-same ask {rs} {qs} r = outcome-seen (with-figure ask (ofRings rs)) (ofRings qs) (refusal-redrawn r) (grid-redrawn r)
 
--- an outcome without its list
-unfoldable pub bare : Outcome → Outcome
-bare o = record { number = o .number; shots = o .shots; cost = o .cost; sliver = o .sliver; table = o .table; list = [] }
-
 bare-cond : (b : Bool) (x y : Outcome) → bare (cond b x y) ≡ cond b (bare x) (bare y)
 bare-cond true x y = refl
 bare-cond false x y = refl
 
 -- what is delivered, without the list
-tallied : ℕ → ℕ → ℕ → List ℕ → ℕ → Outcome
-tallied n c s table room =
+tallied : ℕ → ℕ → ℕ → ℕ → List ℕ → ℕ → Outcome
+tallied n c s k table room =
     cond (ltb room (4 * n))
-    (record { number = 7; shots = n; cost = 0; sliver = 0; table = table; list = [] })
-    (record { number = 0; shots = n; cost = c; sliver = s; table = table; list = [] })
+    (record { number = 7; shots = n; cost = 0; sliver = 0; cuts = 0; table = table; list = [] })
+    (record { number = 0; shots = n; cost = c; sliver = s; cuts = k; table = table; list = [] })
 
 bare-delivered : (mode : Mode) (g : Grid) (r : Rule) (table list : List ℕ)
-    → bare (delivered mode g r table list) ≡ tallied (length (frameShots mode g r)) (frameCost mode g r) (frameSliver mode g r) table (length list)
+    → bare (delivered mode g r table list) ≡ tallied (length (frameShots mode g r)) (frameCost mode g r) (frameSliver mode g r) (weighedCuts g) table (length list)
 unfolding delivered bare tallied
 bare-delivered mode g r table list = bare-cond (ltb (length list) (4 * length (frameShots mode g r))) _ _
 
 module _ (dx dy : ℕ) (mode : Mode) (g : Grid) (r : Rule) where
   tallied-moved : (table : List ℕ) (room : ℕ)
-      → tallied (length (frameShots mode (carried dx dy g) r)) (frameCost mode (carried dx dy g) r) (frameSliver mode (carried dx dy g) r) table room
-      ≡ tallied (length (frameShots mode g r)) (frameCost mode g r) (frameSliver mode g r) table room
-  unfolding frameShots frameCost frameSliver frame
+      → tallied (length (frameShots mode (carried dx dy g) r)) (frameCost mode (carried dx dy g) r) (frameSliver mode (carried dx dy g) r) (weighedCuts (carried dx dy g)) table room
+      ≡ tallied (length (frameShots mode g r)) (frameCost mode g r) (frameSliver mode g r) (weighedCuts g) table room
+  unfolding frameShots frameCost frameSliver frame weighedCuts weighed kind insideCells
   tallied-moved table room = λ z.
       tallied (length (shots-moved dx dy g r mode (frame g) z))
       (sumOf (λ p. charge-moved dx dy g r p z) (shots-moved dx dy g r mode (frame g) z))
       (sumOf (λ p. sliver-moved dx dy g r p z) (shots-moved dx dy g r mode (frame g) z))
+      (weighedCuts g)
       table
       room
 
@@ -87,7 +85,7 @@ module _ (dx dy : ℕ) (mode : Mode) (g : Grid) (r : Rule) where
       ∙ ap (cond (ltb (length table) (entryCount (g .columns) (g .rows))) (bare (refused 6 table list)))
       (bare-delivered mode (carried dx dy g) r (written (costs mode (carried dx dy g) r) table) list
       ∙ tallied-moved (written (costs mode (carried dx dy g) r) table) (length list)
-      ∙ ap (λ t. tallied (length (frameShots mode g r)) (frameCost mode g r) (frameSliver mode g r) (written t table) (length list)) costs-moved
+      ∙ ap (λ t. tallied (length (frameShots mode g r)) (frameCost mode g r) (frameSliver mode g r) (weighedCuts g) (written t table) (length list)) costs-moved
       ∙ sym (bare-delivered mode g r (written (costs mode g r) table) list))
       ∙ sym (bare-cond (ltb (length table) (entryCount (g .columns) (g .rows))) _ _)
 
@@ -186,13 +184,6 @@ moved-either-shots ask dx dy ex ey rs qs e n =
     ∙ ap (λ l. reported (outcome (with-figure ask (ofRings l)))) e
     ∙ moved-shots ask ex ey qs m
 
--- a greater threshold and a greater weight
-pub record Dearer (ask other : Asked) : Type 0 where
-  pub mode : other .mode ≡ ask .mode
-  pub figure : other .figure ≡ ask .figure
-  pub threshold : ask .threshold ≤ other .threshold
-  pub weight : ask .weight ≤ other .weight
-
 module _ (ask other : Asked) (d : Dearer ask other) where
   cost-up : (p : Piece) → cost (ask .mode) (drawn ask) (ruleOf ask) p ≤ cost (other .mode) (drawn other) (ruleOf other) p
   unfolding drawn
@@ -211,6 +202,9 @@ module _ (ask other : Asked) (d : Dearer ask other) where
           let z : frame (drawn other) ≡ frame (drawn ask) = ap (λ f. frame (grid f)) (d .figure) in
           omega (arith, cost-up (frame (drawn ask)), ap (cost (other .mode) (drawn other) (ruleOf other)) z)
 
-  pub dearer-entry : Filled (outcome ask) → Filled (outcome other) → (p : Piece) → PieceOf (drawn ask) p → PieceOf (drawn other) p
+  pub dearer-entry : Filled (outcome ask) → Filled (outcome other) → (p : Piece) → PieceOf (drawn ask) p
       → entry (outcome ask) (drawn ask) p ≤ entry (outcome other) (drawn other) p
-  dearer-entry e f p v w = omega (arith, entry-cost ask e p v, entry-cost other f p w, cost-up p)
+  unfolding drawn
+  dearer-entry e f p v =
+      let w : PieceOf (drawn other) p = subst (λ f. PieceOf (grid f) p) (sym (d .figure)) v in
+      omega (arith, entry-cost ask e p v, entry-cost other f p w, cost-up p)

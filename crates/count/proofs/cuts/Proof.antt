@@ -1,21 +1,27 @@
 -- `count::cuts` meets its contract. Assumes nothing.
-use mathlib.Core.Path.{_≡_, subst}
+use native.Mathlib.Omega.{arith}
 use borrow.Author.Needs.{needs}
-use Rattle.count.specs.Count.{Shaded, Countable}
+use Rattle.count.proofs.Climbing.{cuts-rest}
 use Rattle.count.proofs.cuts.Statement.{statement}
 use Rattle.count.proofs.cuts.Tie as tie
 
-cuts-requires : tie.Need-cuts-requires
-cuts-requires c κs = (let a = c .before .before .args in subst (λ n. Countable (a .cells .now) (a .columns) n) (c .if1 .taken) (c .before .before .pre))
+all-lines-requires : tie.Need-all-lines-requires
+all-lines-requires c κs =
+    let w = c .before .pre .shaded in
+    ((w .columns-some, w .columns-most), (w .rows-some, w .rows-most))
 
-cuts-requires-2 : tie.Need-cuts-requires-2
-cuts-requires-2 c κs = search needs
+spared-requires : tie.Need-spared-requires
+spared-requires c κs =
+    let w = c .before .before .pre .shaded in
+    (w .cells-length, (w .columns-most, w .rows-most))
+
+sub-result : tie.Need-sub-result
+sub-result c =
+    let p = c .before .before .before .pre in
+    omega (arith, c .before .all-lines .ensures, c .spared .ensures, cuts-rest (p .grid) _ _ _ (p .shaded))
 
 returns : tie.Need-returns
-returns c g w = (let a = c .before .before .before .args in c .cuts .ensures g (subst (λ n. Shaded g (a .cells .now) (a .columns) n) (c .before .if1 .taken) w))
-
-returns-2 : tie.Need-returns-2
-returns-2 c g w = c .cuts2 .ensures g w
+returns c g w = omega (arith, c .before .all-lines .ensures, c .spared .ensures, cuts-rest g _ _ _ w)
 
 pub cuts-spec : {M : Type 1} → statement M
-cuts-spec = tie.close (tie.spec cuts-requires cuts-requires-2 returns returns-2)
+cuts-spec = tie.close (tie.spec all-lines-requires spared-requires sub-result returns)

@@ -3,7 +3,7 @@ use Prim.Native.Nat.{_-_}
 use native.Mathlib.Omega.{arith}
 use borrow.Author.Needs.{needs}
 use Rattle.count.specs.Corners.{cellAt, numberAt, corner}
-use Rattle.count.proofs.Strips.{Summed, summed-none, summed-more, summed-end}
+use Rattle.count.proofs.Summing.{Summed, summed-none, summed-more, summed-end}
 use Rattle.count.proofs.corners.corners_at.Statement.{statement}
 use Rattle.count.proofs.corners.corners_at.Tie as tie
 

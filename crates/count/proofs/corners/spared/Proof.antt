@@ -1,7 +1,7 @@
 -- `count::corners::spared` meets its contract: the columns from the last one back. Assumes nothing.
 use native.Mathlib.Omega.{arith}
 use borrow.Author.Needs.{needs}
-use Rattle.count.proofs.Climbing.{Widening, widening-none, widening-ready, widening-climbable, widening-more, widening-end}
+use Rattle.count.proofs.Climbing.{Widening, widening-none, widening-ready, widening-climbable, widening-more, passing-end}
 use Rattle.count.proofs.corners.spared.Statement.{statement}
 use Rattle.count.proofs.corners.spared.Tie as tie
 
@@ -24,7 +24,7 @@ corners-at-requires : tie.Need-corners-at-requires Inv-loop μ-loop
 corners-at-requires c κs = (let i = c .before .before .before in let l = i .before in let p = l .before .before .pre in widening-climbable _ _ _ _ _ _ _ (l .loop .inv) (i .loop-test .taken) (p .1 .0) (p .1 .1) (p .0) (c .before .widen .ensures))
 
 add-sum : tie.Need-add-sum Inv-loop μ-loop
-add-sum c = (let l = c .before .before .before .before .before in omega (arith, l .loop .inv .small, c .corners-at .ensures .1, l .before .before .pre .1 .0))
+add-sum c = (let l = c .before .before .before .before .before in omega (arith, l .loop .inv .passing .small, c .corners-at .ensures .1, l .before .before .pre .1 .0))
 
 loop-less : tie.Need-loop-less Inv-loop μ-loop
 loop-less c = search needs
@@ -33,7 +33,7 @@ loop-again : tie.Need-loop-again Inv-loop μ-loop
 loop-again c = (let i = c .before .before .before .before in let l = i .before in let p = l .before .before .pre in widening-more _ _ _ _ _ _ _ (l .loop .inv) (i .loop-test .taken) (p .1 .0) (p .1 .1) (p .0) (c .before .before .widen .ensures) _ (c .corners-at .ensures))
 
 returns : tie.Need-returns Inv-loop μ-loop
-returns c = widening-end _ _ _ _ _ _ (c .loop-test .left) (c .before .loop .inv)
+returns c = passing-end (c .before .loop .inv .passing) (c .loop-test .left)
 
 pub spared-spec : {M : Type 1} → statement M
 spared-spec =

@@ -1,11 +1,11 @@
--- `count::corners::all_lines` meets its contract. Assumes nothing.
+-- `count::all_lines` meets its contract. Assumes nothing.
 use Prim.Native.Nat.{_*_, _+_, _-_, _≤_}
 use native.Mathlib.Omega.{arith}
 use native.Mathlib.Nat.{mul-le-mul}
 use Rattle.count.proofs.Climbing.{lines-thirds}
 use borrow.Author.Needs.{needs}
-use Rattle.count.proofs.corners.all_lines.Statement.{statement}
-use Rattle.count.proofs.corners.all_lines.Tie as tie
+use Rattle.count.proofs.all_lines.Statement.{statement}
+use Rattle.count.proofs.all_lines.Tie as tie
 use Rattle.table.proofs.numbering.pair_count.Reads as pair-count-reads
 
 pair-count-requires : tie.Need-pair-count-requires
