@@ -112,14 +112,13 @@ def places():
     """Where the library is looked for, in this order."""
     named = os.environ.get("PINAREWHEMI_LIBRARY")
     if named:
-        return [named]
+        yield named
+        return
+    # beside this file; in the package that ./build made in this repository; where the system keeps libraries
     here = pathlib.Path(__file__).resolve().parent
-    return [
-        # beside this file; in the package that ./build made in this repository; where the system keeps libraries
-        str(here / "libpinarewhemi.so"),
-        str(here.parents[2] / "target" / "package" / platform.machine() / "lib" / "libpinarewhemi.so"),
-        ctypes.util.find_library("pinarewhemi") or "libpinarewhemi.so",
-    ]
+    yield str(here / "libpinarewhemi.so")
+    yield str(here.parents[2] / "target" / "package" / platform.machine() / "lib" / "libpinarewhemi.so")
+    yield ctypes.util.find_library("pinarewhemi") or "libpinarewhemi.so"
 
 
 def load():

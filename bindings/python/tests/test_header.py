@@ -1,7 +1,10 @@
 """The table of calls, the refusals and the rooms of this module are those of include/pinarewhemi.h."""
 
+import os
 import pathlib
 import re
+import subprocess
+import sys
 import unittest
 
 import pinarewhemi as pw
@@ -49,6 +52,17 @@ class Header(unittest.TestCase):
         declared = constants("pw_room")
         self.assertGreaterEqual(len(declared), 9)
         self.assertEqual({name: ROOMS.get(name) for name in declared}, declared)
+
+    def test_no_library(self):
+        told = subprocess.run(
+            [sys.executable, "-c", "import pinarewhemi"],
+            env={**os.environ, "PINAREWHEMI_LIBRARY": "/nowhere/libpinarewhemi.so"},
+            cwd=ROOT / "bindings" / "python",
+            capture_output=True,
+            text=True,
+        )
+        self.assertEqual(told.returncode, 1)
+        self.assertIn("/nowhere/libpinarewhemi.so: there is none", told.stderr)
 
     def test_version(self):
         self.assertEqual(pw.__version__, (ROOT / "VERSION").read_text().strip())
