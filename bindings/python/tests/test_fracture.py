@@ -64,6 +64,9 @@ class Fractures(unittest.TestCase):
         self.assertEqual(
             pw.fracture_default(L, costs=True).costs, [1000, 1000, 1000, 1000, 2000, 1000, 1000, 1000, 0]
         )
+        # 3 x lines and 4 y lines; the frame and the nose
+        costs = pw.fracture(B, 25, 40, costs=True).costs
+        self.assertEqual((len(costs), costs[8], costs[15]), (18, 3000, 5000))
         self.assertEqual(len(pw.fracture(stairs(), 25, 40, costs=True).costs), 14400)
 
     def test_default_is_preset_1(self):

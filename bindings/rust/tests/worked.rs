@@ -74,6 +74,8 @@ fn fractures() {
     holds(&frame(), LAWFUL, &around, 4000, 0);
     holds(&frame(), rule(40, 40), &around, 21600, 440);
     assert_eq!(fracture(&l(), LAWFUL).unwrap().costs, [3400, 1000, 1000, 6600, 5200, 1000, 4200, 4200, 0]);
+    let costs = fracture(&b(), LAWFUL).unwrap().costs;
+    assert_eq!((costs.len(), costs[8], costs[15]), (18, 3000, 5000));
     // rings of other types that hold corners
     assert_eq!(fracture(&[[(0, 0), (1, 0), (1, 1), (0, 1)]], LAWFUL), fracture(&[boxed(0, 0, 1, 1)], LAWFUL));
 }
@@ -225,14 +227,14 @@ fn edge_of(number: usize, list: &[Shot]) -> Vec<Run> {
 #[cfg(has_pinwheel)]
 #[test]
 fn pinwheels() {
-    let w2: Ring = vec![
+    let w2 = [[
         (100, 60), (40, 60), (40, 0), (110, 0), (110, 80), (100, 80), (100, 20), (70, 20), (70, 60), (10, 60), (10, 100), (100, 100),
-    ];
-    let done = fracture_pinwheel(&[w2.clone()], LAWFUL).unwrap();
+    ]];
+    let done = fracture_pinwheel(&w2, LAWFUL).unwrap();
     let list = shots(&[[40, 0, 70, 60], [70, 0, 110, 20], [10, 60, 100, 100], [100, 20, 110, 80]]);
     assert_eq!((done.shots, done.cost, done.sliver, done.cuts), (list, 10800, 170, 158));
-    assert_eq!(fracture(&[w2.clone()], LAWFUL).unwrap().cost, 11200);
-    assert_eq!(fracture_pinwheel(&[w2.clone()], rule(25, 0)), fracture(&[w2], rule(25, 0)));
+    assert_eq!(fracture(&w2, LAWFUL).unwrap().cost, 11200);
+    assert_eq!(fracture_pinwheel(&w2, rule(25, 0)), fracture(&w2, rule(25, 0)));
 }
 
 #[cfg(has_division)]
