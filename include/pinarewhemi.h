@@ -107,6 +107,15 @@ uint32_t pw_fracture_default(const uint16_t *corners, size_t corners_len, const 
  * needed. Refuses: PW_LENGTH to PW_EMPTY. */
 uint32_t pw_cuts(const uint16_t *corners, size_t corners_len, const uint16_t *rings, size_t rings_len, uint32_t *cuts);
 
+/* The same as pw_fracture, but a piece may also be cut in the manner of a pinwheel: four arms around an
+ * inner piece, in either turn. Of cuts that cost the same a straight one is made. The cost, and every
+ * entry of the table, is never above that of pw_fracture; cuts is the number that pw_fracture reports.
+ * Refuses as pw_fracture; PW_LIST_SHORT by the shots of this mode. */
+uint32_t pw_fracture_pinwheel(const uint16_t *corners, size_t corners_len, const uint16_t *rings, size_t rings_len,
+                     uint32_t threshold, uint32_t weight,
+                     uint32_t *table, size_t table_len, uint16_t *list, size_t list_len,
+                     uint32_t *shots, uint32_t *cost, uint32_t *sliver, uint32_t *cuts);
+
 /* Reads the number that starts at bytes[at]: its value, of any range, and the place behind it.
  * Any at is allowed; past the end is bytes that end, and the offset is the length all the same.
  * Refuses: PW_BYTES_END, PW_NOT_SHORTEST, PW_OUT_OF_RANGE (third byte), each with its offset. */

@@ -12,7 +12,7 @@ ghost use mathlib.Core.Path.{_≡_};
 ghost use lib.ListN.{length};
 ghost use Rattle.outline.specs.Grid.{Grid};
 ghost use Rattle.rule.specs.declared.Rule.{Rule};
-ghost use Rattle.piece.specs.declared.Mode.the-variants.{Straight};
+ghost use Rattle.piece.specs.declared.Mode.{Mode};
 ghost use Rattle.piece.specs.Meant.{meant};
 ghost use Rattle.piece.specs.Piece.{box};
 ghost use Rattle.piece.specs.Cuts.{shots};
@@ -60,7 +60,7 @@ fn room_for(
     numbers: usize,
 ) -> Room
     requires { ⌜ Emittable (now costs) (now cells) (now xs) (now ys) 900 plan 0 frame ⌝ }
-    ensures { λ a. ⌜ ((g : Grid) (r : Rule) → Walk g r (now (costs .entry)) (now (cells .entry)) (now (xs .entry)) (now (ys .entry)) plan → a ≡ roomOf numbers (length (shots Straight g r (meant (frame .piece))))) ⌝ }
+    ensures { λ a. ⌜ ((mode : Mode) (g : Grid) (r : Rule) → Walk mode g r (now (costs .entry)) (now (cells .entry)) (now (xs .entry)) (now (ys .entry)) plan → a ≡ roomOf numbers (length (shots mode g r (meant (frame .piece))))) ⌝ }
 {
     let columns = plan.columns;
     let rows = plan.rows;
@@ -87,7 +87,7 @@ pub fn deliver(
     plan: Plan,
 ) -> Fractured
     requires { ⌜ Walkable (now costs) (now cells) (now xs) (now ys) plan ⌝ }
-    ensures { λ a. ⌜ ((g : Grid) (r : Rule) → Walk g r (now (costs .entry)) (now (cells .entry)) (now (xs .entry)) (now (ys .entry)) plan → told a (now (costs .entry)) (now (list .exit)) ≡ delivered Straight g r (now (costs .entry)) (now (list .entry))) ⌝ }
+    ensures { λ a. ⌜ ((mode : Mode) (g : Grid) (r : Rule) → Walk mode g r (now (costs .entry)) (now (cells .entry)) (now (xs .entry)) (now (ys .entry)) plan → told a (now (costs .entry)) (now (list .exit)) ≡ delivered mode g r (now (costs .entry)) (now (list .entry))) ⌝ }
 {
     let frame = frame_of(plan);
     let room = room_for(costs, cells, xs, ys, plan, frame, list.len());

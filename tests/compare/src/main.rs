@@ -67,6 +67,7 @@ fn main() {
         plan.threads
     );
     fractures::rows(&plan, &progress);
+    fractures::wheel_rows(&plan, &progress);
     fractures::presets(&plan, &progress);
     fractures::every_ring_length(&plan, &progress);
     fractures::every_order(&plan, &progress);

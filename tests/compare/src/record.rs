@@ -6,7 +6,8 @@
 //! largest there is stands as 0xffffffff. Then its outcome, two words for each: the number, the single
 //! numbers, a hash over each lent buffer with 16 elements before and beyond it. Calls: 1 preset,
 //! 2 fracture, 3 fracture by the default rule, 4 number, 5 job check, 6 job outline, 7 unpack, 8 write
-//! header, 9 write outline, 10 read a boundary, 11 fracture one, 12 the end, 30 join, 31 cuts ahead. A shift has its sign.
+//! header, 9 write outline, 10 read a boundary, 11 fracture one, 12 the end, 30 join, 31 cuts ahead, 32 fracture by
+//! pinwheels. A shift has its sign.
 //! An entry of a table of pairs is hashed field by field, its partner as two words.
 
 use crate::progress::Progress;
@@ -70,11 +71,16 @@ impl Record {
         self.calls += 1;
     }
 
-    fn fracture(&mut self, drawing: &Drawing, rule: Option<(u32, u32)>, entries: usize, numbers: usize, mark: u32) {
+    /// By pinwheels (with a rule), by a rule, or by the default rule.
+    fn fracture(&mut self, wheels: bool, drawing: &Drawing, rule: Option<(u32, u32)>, entries: usize, numbers: usize, mark: u32) {
         let mut table = lend(entries, mark, 32, |x| x);
         let mut list = lend(numbers, mark, 16, |x| x as u16);
         let (inner_table, inner_list) = (&mut table[MARGIN..MARGIN + entries], &mut list[MARGIN..MARGIN + numbers]);
         let told = match rule {
+            Some((threshold, weight)) if wheels => {
+                self.words.extend([32, threshold, weight]);
+                Law.fracture_pinwheel(drawing, threshold, weight, inner_table, inner_list)
+            }
             Some((threshold, weight)) => {
                 self.words.extend([2, threshold, weight]);
                 Law.fracture(drawing, threshold, weight, inner_table, inner_list)
@@ -252,7 +258,10 @@ pub fn write(file: &str, seed: u64, progress: &Progress) {
         let numbers = s.pick(&[900, 900, 901, few]);
         let rule = if s.once_in(8) { None } else { Some(outlines::rule(&mut s, &drawing)) };
         let mark = s.any() as u32;
-        record.fracture(&drawing, rule, entries, numbers, mark);
+        record.fracture(false, &drawing, rule, entries, numbers, mark);
+        if rule.is_some() && (pieces <= 1300 || turn % 67 == 0) {
+            record.fracture(true, &drawing, rule, entries, numbers, mark);
+        }
         record.cuts(&drawing);
         progress.at("recording", turn as usize, OUTLINES as usize);
     }

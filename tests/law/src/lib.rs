@@ -1,4 +1,4 @@
-//! Document 01, with windows and GDSII boundaries (document 02, Items 1 and 2), in plain Rust: what
+//! Document 01, with windows and GDSII boundaries (document 02, Items 1 and 2) and pinwheels (Item 8), in plain Rust: what
 //! every call answers and what it leaves in lent memory.
 //!
 //! Written from the documents alone, and built otherwise than the proved library, so that the two
@@ -62,6 +62,7 @@ pub trait Calls {
     fn fracture(&self, drawing: &Drawing, threshold: u32, weight: u32, table: &mut [u32], list: &mut [u16]) -> Told;
     fn fracture_default(&self, drawing: &Drawing, table: &mut [u32], list: &mut [u16]) -> Told;
     fn cuts(&self, drawing: &Drawing) -> Told;
+    fn fracture_pinwheel(&self, drawing: &Drawing, threshold: u32, weight: u32, table: &mut [u32], list: &mut [u16]) -> Told;
     fn number(&self, bytes: &[u8], at: usize) -> Told;
     fn job_check(&self, job: &[u8]) -> Told;
     fn job_outline(&self, job: &[u8], k: usize) -> Told;
@@ -88,6 +89,9 @@ impl Calls for Law {
     }
     fn cuts(&self, drawing: &Drawing) -> Told {
         call::cuts(drawing)
+    }
+    fn fracture_pinwheel(&self, drawing: &Drawing, threshold: u32, weight: u32, table: &mut [u32], list: &mut [u16]) -> Told {
+        call::fracture_pinwheel(drawing, threshold, weight, table, list)
     }
     fn number(&self, bytes: &[u8], at: usize) -> Told {
         bytes::told_number(bytes, at)

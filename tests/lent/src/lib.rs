@@ -48,6 +48,11 @@ mod pw {
         pub fn pw_cuts(
             corners: *const u16, corners_len: usize, rings: *const u16, rings_len: usize, cuts: *mut u32,
         ) -> u32;
+        pub fn pw_fracture_pinwheel(
+            corners: *const u16, corners_len: usize, rings: *const u16, rings_len: usize, threshold: u32, weight: u32,
+            table: *mut u32, table_len: usize, list: *mut u16, list_len: usize,
+            shots: *mut u32, cost: *mut u32, sliver: *mut u32, cuts: *mut u32,
+        ) -> u32;
         pub fn pw_number(bytes: *const u8, len: usize, at: usize, value: *mut u32, next: *mut usize, offset: *mut usize) -> u32;
         pub fn pw_job_check(
             job: *const u8, len: usize, threshold: *mut u32, weight: *mut u32, outlines: *mut u32, offset: *mut usize,
@@ -178,6 +183,19 @@ impl Calls for Library {
             )
         };
         Told::of(number, &[cuts as u64])
+    }
+
+    fn fracture_pinwheel(&self, drawing: &Drawing, threshold: u32, weight: u32, table: &mut [u32], list: &mut [u16]) -> Told {
+        let (mut shots, mut cost, mut sliver, mut cuts) = (MARK, MARK, MARK, MARK);
+        let number = unsafe {
+            pw::pw_fracture_pinwheel(
+                drawing.corners.as_ptr(), drawing.corners.len(), drawing.rings.as_ptr(), drawing.rings.len(),
+                threshold, weight,
+                table.as_mut_ptr(), table.len(), list.as_mut_ptr(), list.len(),
+                &mut shots, &mut cost, &mut sliver, &mut cuts,
+            )
+        };
+        Told::of(number, &[shots as u64, cost as u64, sliver as u64, cuts as u64])
     }
 
     fn number(&self, bytes: &[u8], at: usize) -> Told {
