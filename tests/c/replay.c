@@ -137,6 +137,27 @@ static void fracture(enum manner manner) {
   expect("list", hash_list(list_len));
 }
 
+/* The same by a rule that is named or by pinwheels, with a largest side. */
+static void divided(enum manner manner) {
+  uint32_t threshold = word(), weight = word(), largest = word();
+  size_t corners_len = size(), rings_len = size(), table_len = size(), list_len = size();
+  uint32_t mark = word();
+  read_drawing(corners_len, rings_len);
+  uint32_t shots = 77, cost = 77, sliver = 77, cuts = 77;
+  uint32_t *table = lend_table(table_len, mark);
+  uint16_t *list = lend_list(list_len, mark);
+  expect("divided", manner == NAMED ? pw_fracture_divided(corners, corners_len, rings, rings_len, threshold, weight, largest,
+                                                          table, table_len, list, list_len, &shots, &cost, &sliver, &cuts)
+                                    : pw_fracture_pinwheel_divided(corners, corners_len, rings, rings_len, threshold, weight, largest,
+                                                                   table, table_len, list, list_len, &shots, &cost, &sliver, &cuts));
+  expect("shots", shots);
+  expect("cost", cost);
+  expect("sliver", sliver);
+  expect("cuts", cuts);
+  expect("table", hash_table(table_len));
+  expect("list", hash_list(list_len));
+}
+
 static void cuts_ahead(void) {
   size_t corners_len = size(), rings_len = size();
   uint32_t cuts = 77;
@@ -278,6 +299,8 @@ int main(void) {
     case 30: join(); break;
     case 31: cuts_ahead(); break;
     case 32: fracture(PINWHEEL); break;
+    case 50: divided(NAMED); break;
+    case 51: divided(PINWHEEL); break;
     default:
       say("replay: the record is not whole\n");
       return 2;

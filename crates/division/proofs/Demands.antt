@@ -43,7 +43,7 @@ use Rattle.rule.specs.Charge.{chargeOf}
 use Rattle.shot.specs.Shot.{Shot, holds, numbers, shotsIn}
 use Rattle.shot.proofs.Shot.{numbers-length, shots-numbers}
 use Rattle.figure.specs.Inside.{insideAt}
-use Rattle.outline.specs.Grid.{Sound}
+use Rattle.outline.specs.Grid.{Grid, Sound}
 use Rattle.piece.specs.Piece.{rectangle, frame}
 use Rattle.piece.proofs.Cuts.{Part, shots-part}
 use Rattle.piece.proofs.Bound.{slivers-most}
@@ -61,7 +61,7 @@ use Rattle.division.specs.Division.{across, upward, divided, product}
 use Rattle.division.specs.Promise.{badLargest, aside, parts, dividedOutcome, Condition, First}
 use Rattle.division.proofs.Division.{divided-cover, divided-fit, divided-sliver}
 use Rattle.division.proofs.Room.{divided-most}
-use Rattle.division.proofs.Writing.{joined-length}
+use Rattle.division.proofs.Written.{joined-length}
 use Rattle.division.proofs.Outcome.{largest-good, shortOf, doneOf, Passed, Short, Accepted, Stage, at-rule, at-largest, at-figure, at-list, at-end, stage, accepted, short}
 use Rattle.division.proofs.Refusals.{first-one, Answered, none, some, answered}
 
@@ -80,6 +80,16 @@ module _ (ask : Asked) (m : ℕ) where
 
   abbrev F : ℕ → ℕ → Bool
   F = insideAt (ask .figure)
+
+  abbrev g : Grid
+  g = drawn ask
+
+  -- a shot that has area, and one that fits
+  abbrev Area : Shot → Type 0
+  Area s = (s .xlow < s .xhigh) × (s .ylow < s .yhigh)
+
+  abbrev Fit : Shot → Type 0
+  Fit s = ((s .xlow < s .xhigh) × (across s ≤ m)) × ((s .ylow < s .yhigh) × (upward s ≤ m))
 
   pub divided-unique : (a b : Outcome) → a ≡ o → b ≡ o → a ≡ b
   divided-unique a b e f = e ∙ sym f
@@ -152,11 +162,11 @@ module _ (ask : Asked) (m : ℕ) where
     -- Before division
 
     -- each shot has area
-    areas : u .number ≡ 0 → All (λ s. (s .xlow < s .xhigh) × (s .ylow < s .yhigh)) (reported u)
+    pub areas : u .number ≡ 0 → All (λ s. (s .xlow < s .xhigh) × (s .ylow < s .yhigh)) (reported u)
     unfolding frameShots frame drawn
     areas e =
-        subst (All Q) (sym (demands.reported-is (aside ask) e))
-        (All-map Q (rectangle g) (frameShots (ask .mode) g (ruleOf ask))
+        subst (All Area) (sym (demands.reported-is (aside ask) e))
+        (All-map Area (rectangle g) (frameShots (ask .mode) g (ruleOf ask))
         (All-imp {P = λ p. Part p (frame g)}
         (λ p w. (
           omega (arith, s .x-rises (p .a) (omega (arith, w .ac, w .c)), rise (g .x) (s .x-up) (suc (p .a)) (p .c) (w .ac)),
@@ -165,11 +175,6 @@ module _ (ask : Asked) (m : ℕ) where
         (frameShots (ask .mode) g (ruleOf ask))
         (shots-part (ask .mode) g (ruleOf ask) (frame g))))
       where
-        abbrev Q : Shot → Type 0
-        Q s = (s .xlow < s .xhigh) × (s .ylow < s .yhigh)
-
-        abbrev g = drawn ask
-
         s : Sound (drawn ask)
         s = sound (aside ask) words (inl e)
 
@@ -184,7 +189,7 @@ module _ (ask : Asked) (m : ℕ) where
         ∙ sumOf-same (λ s. sumOf f (divided m s)) f (reported u)
         (All-imp {P = λ s. (s .xlow < s .xhigh) × (s .ylow < s .yhigh)} (λ s q. h s (omega (arith, k .0)) (q .0) (q .1)) (reported u) (areas e))
 
-    few-parts : Passed ask m → u .number ≡ 0 → sumOf (product m) (reported u) ≤ 116964
+    pub few-parts : Passed ask m → u .number ≡ 0 → sumOf (product m) (reported u) ≤ 116964
     unfolding frameShots drawn
     few-parts p e =
         let s = sound (aside ask) words (inl e) in
@@ -224,17 +229,16 @@ module _ (ask : Asked) (m : ℕ) where
     pub shots-fit : o .number ≡ 0 → (s : Shot) → Member s (reported o)
         → ((s .xlow < s .xhigh) × (across s ≤ m)) × ((s .ylow < s .yhigh) × (upward s ≤ m))
     shots-fit e s v =
-        All-at Q v
-        (subst (All Q) (sym (reported-is e))
-        (All-join Q (divided m) (reported u)
+        All-at Fit v
+        (subst (All Fit) (sym (reported-is e))
+        (All-join Fit (divided m) (reported u)
         (All-imp {P = λ s. (s .xlow < s .xhigh) × (s .ylow < s .yhigh)} (λ s q. divided-fit m s (omega (arith, k .0)) (q .0) (q .1)) (reported u) (areas (a .fractured)))))
       where
+        a : Accepted ask m
         a = accepted ask m words e
 
+        k : (200 ≤ m) × (2 * ask .threshold ≤ m) × (m ≤ 65535)
         k = largest-good (ask .threshold) m (a .passed .fits)
-
-        abbrev Q : Shot → Type 0
-        Q s = ((s .xlow < s .xhigh) × (across s ≤ m)) × ((s .ylow < s .yhigh) × (upward s ≤ m))
 
     pub cover : o .number ≡ 0 → (x y : ℕ) → sumOf (λ s. only (holds x y s) 1) (reported o) ≡ only (F x y) 1
     cover e x y =
@@ -273,8 +277,10 @@ module _ (ask : Asked) (m : ℕ) where
       ap (λ (o : Outcome). o .cost) (a .is) ∙ charged,
     )
       where
+        a : Accepted ask m
         a = accepted ask m words e
 
+        k : (200 ≤ m) × (2 * ask .threshold ≤ m) × (m ≤ 65535)
         k = largest-good (ask .threshold) m (a .passed .fits)
 
         -- the sliver length of the parts

@@ -203,6 +203,9 @@ module _ (m : ℕ) (s : Shot) where
           ap (λ k. s .ylow + start h (partCount m h) k) b ∙ y-last,
         )
 
+    abbrev fits : Shot → Type 0
+    fits q = ((q .xlow < q .xhigh) × (across q ≤ m)) × ((q .ylow < q .yhigh) × (upward q ≤ m))
+
     pub divided-fit : All (λ q. ((q .xlow < q .xhigh) × (across q ≤ m)) × ((q .ylow < q .yhigh) × (upward q ≤ m))) (divided m s)
     unfolding divided
     divided-fit =
@@ -210,9 +213,6 @@ module _ (m : ℕ) (s : Shot) where
         (run-all (λ i. All fits (map (λ j. at i j) (run 0 (partCount m w)))) 0 (partCount m h)
         (λ i. All-map fits (λ j. at i j) (run 0 (partCount m w)) (run-all (λ j. fits (at i j)) 0 (partCount m w) (λ j. each i j))))
       where
-        abbrev fits : Shot → Type 0
-        fits q = ((q .xlow < q .xhigh) × (across q ≤ m)) × ((q .ylow < q .yhigh) × (upward q ≤ m))
-
         each : (i j : ℕ) → fits (at i j)
         each i j =
             unfold part in (

@@ -1,7 +1,9 @@
 pub mod Evenly
 pub mod Division
 pub mod Room
-pub mod Writing
+pub mod Written
+pub mod Loops
 pub mod Outcome
 pub mod Refusals
 pub mod Demands
+pub mod Settled

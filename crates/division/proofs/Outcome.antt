@@ -1,6 +1,6 @@
 -- The divided outcome, stage by stage, and what the fracture before division gives. Assumes nothing.
 --
---   largest-bad, largest-good    == 19 in numbers
+--   largest-bad, bad-largest, bad-above, largest-good    == 19 in numbers
 --   aside-room                   == before division 7 is never given: there is room aside for the shots of every figure
 --   outcome-rule, outcome-largest, outcome-after   == the outcome by the first stage that ends it
 --   after-refused, after-short, after-done         == what comes after the fracture
@@ -8,7 +8,7 @@
 --   Stage, stage                 == every outcome is one of five
 --   Accepted, accepted           == a success, with all that it says; Short, short: 7 likewise
 use Prim.Native.Nat.{ℕ, _+_, _*_, _≤_, _<_}
-use mathlib.Core.Path.{_≡_, refl, sym, _∙_, ap, subst}
+use mathlib.Core.Path.{_≡_, refl, sym, _∙_, ap, ap₂}
 use mathlib.Core.Bool.{Bool, true, false, cond, _||_, true≢false}
 use mathlib.Core.Logic.{_⊎_, inl, inr}
 use mathlib.Core.List.{List}
@@ -64,6 +64,10 @@ module _ (t m : ℕ) where
       some true = refl
       some false = refl
 
+  pub bad-above : 200 ≤ m → 2 * t ≤ m → ltb 65535 m ≡ badLargest t m
+  unfolding badLargest
+  bad-above h k = sym (ap₂ (λ a b. (a || b) || ltb 65535 m) (le-ltb m 200 h) (le-ltb m (2 * t) k))
+
   pub largest-good : badLargest t m ≡ false → (200 ≤ m) × (2 * t ≤ m) × (m ≤ 65535)
   unfolding badLargest
   largest-good e = go (ltb m 200) refl (ltb m (2 * t)) refl e
@@ -77,7 +81,7 @@ module _ (t m : ℕ) where
 
 pub room-aside : length roomAside ≡ 900
 unfolding roomAside
-room-aside = length-replicate 900 0
+room-aside = length-replicate {A = ℕ} 900 0
 
 module _ (ask : Asked) (words : Words (ask .figure)) where
   pub aside-room : outcome (aside ask) .number ≡ 7 → ⊥
@@ -149,7 +153,7 @@ module _ (ask : Asked) (m : ℕ) where
   after-refused h = ap by-number (ne-eqb (u .number) 0 (λ z. omega arith))
 
   module _ (fractured : u .number ≡ 0) where
-    after-listed : after m (ask .weight) u (ask .list) ≡ listed (ask .weight) (parts m u) (u .sliver) (u .cuts) (u .table) (ask .list)
+    pub after-listed : after m (ask .weight) u (ask .list) ≡ listed (ask .weight) (parts m u) (u .sliver) (u .cuts) (u .table) (ask .list)
     unfolding after
     after-listed = ap by-number (eq-eqb (u .number) 0 fractured)
 

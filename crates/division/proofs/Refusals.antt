@@ -26,7 +26,7 @@ use Rattle.demands.proofs.Refusals.{test, test-true, true-test}
 use Rattle.demands.proofs.Demands as demands
 use Rattle.division.specs.Division.{product}
 use Rattle.division.specs.Promise.{badLargest, aside, parts, dividedOutcome, turn, Condition, largest, short, before, First}
-use Rattle.division.proofs.Writing.{joined-length}
+use Rattle.division.proofs.Written.{joined-length}
 use Rattle.division.proofs.Outcome.{Outside, largest-bad, bad-largest, shortOf, doneOf, Passed, Short, Accepted, Stage, at-rule, at-largest, at-figure, at-list, at-end, stage}
 
 -- Turns

@@ -5,7 +5,7 @@ use piece::Mode;
 use refusal::Refusal;
 use rule::Made;
 use rule::Rule;
-use side::part_count;
+use side::sides_of;
 use writing::write_all;
 ghost use mathlib.Core.Path.{_≡_};
 ghost use mathlib.Core.Bool.{true, false};
@@ -38,7 +38,13 @@ fn bad_largest(threshold: u32, largest: u32) -> bool
     requires { ⌜ threshold ≤ limit ⌝ }
     ensures { λ r. ⌜ r ≡ badLargest threshold largest ⌝ }
 {
-    largest < LEAST_LARGEST || largest < 2 * threshold || MOST_LARGEST < largest
+    if largest < LEAST_LARGEST {
+        return true;
+    }
+    if largest < 2 * threshold {
+        return true;
+    }
+    MOST_LARGEST < largest
 }
 
 // How many parts the first n of some shots have together. There are more than 65,535 of some figures.
@@ -49,9 +55,8 @@ fn count_parts(shots: &[u16], n: usize, largest: u32) -> u32
     let mut parts: u32 = 0;
     let mut k: usize = 0;
     while k < n {
-        let across = part_count(shots[4 * k], shots[4 * k + 2], largest);
-        let upward = part_count(shots[4 * k + 1], shots[4 * k + 3], largest);
-        parts += across * upward;
+        let sides = sides_of(shots, k, largest);
+        parts += sides.x.count * sides.y.count;
         k += 1;
     }
     parts

@@ -1,8 +1,7 @@
 // One side of a shot, divided: the fewest parts that fit, as even as whole nm allow, longer ones first.
 ghost use mathlib.Core.Path.{_≡_};
-ghost use Prim.Native.Nat.{_<_, _≤_, _-_, min};
-ghost use Rattle.division.specs.Division.{partCount};
-ghost use Rattle.division.specs.Steps.{sideOf, edge};
+ghost use Prim.Native.Nat.{_<_, _≤_, min};
+ghost use Rattle.division.specs.Steps.{sideOf, edge, Solid, Parted};
 
 // Where a side begins, into how many parts it is divided, and how long they are; the first `longer` of them are 1 nm longer.
 pub struct Side {
@@ -12,6 +11,12 @@ pub struct Side {
     pub longer: u32,
 }
 
+// The two sides of a shot.
+pub struct Sides {
+    pub x: Side,
+    pub y: Side,
+}
+
 // The lesser of two numbers.
 fn lesser(a: u32, b: u32) -> u32
     ensures { λ r. ⌜ r ≡ min a b ⌝ }
@@ -19,28 +24,31 @@ fn lesser(a: u32, b: u32) -> u32
     if b < a { b } else { a }
 }
 
-// The fewest parts of at most `largest` nm that a side can be divided into.
-pub fn part_count(low: u16, high: u16, largest: u32) -> u32
-    requires { ⌜ (low < high) × ((0 < largest) × (largest ≤ 65535)) ⌝ }
-    ensures { λ r. ⌜ (r ≡ partCount largest (high - low)) × (r ≤ 65535) ⌝ }
-{
-    let length = high as u32 - low as u32;
-    (length + (largest - 1)) / largest
-}
-
-// A side from low to high, as it is divided.
-pub fn side_of(low: u16, high: u16, largest: u32) -> Side
+// A side from low to high, divided into the fewest parts of at most `largest` nm.
+fn side_of(low: u16, high: u16, largest: u32) -> Side
     requires { ⌜ (low < high) × ((0 < largest) × (largest ≤ 65535)) ⌝ }
     ensures { λ r. ⌜ (r ≡ sideOf largest low high) × (edge r (r .count) ≤ 65535) ⌝ }
 {
-    let count = part_count(low, high, largest);
-    let length = high as u32 - low as u32;
+    let from = low as u32;
+    let side = high as u32 - from;
+    let count = (side + (largest - 1)) / largest;
     Side {
-        low: low as u32,
+        low: from,
         count,
-        length: length / count,
-        longer: length % count,
+        length: side / count,
+        longer: side % count,
     }
+}
+
+// The two sides of the shot number k of a list, divided.
+pub fn sides_of(shots: &[u16], k: usize, largest: u32) -> Sides
+    requires { ⌜ Solid (now shots) k largest ⌝ }
+    ensures { λ r. ⌜ Parted (now (shots .entry)) k largest (r .x) (r .y) ⌝ }
+{
+    let at = 4 * k;
+    let x = side_of(shots[at], shots[at + 2], largest);
+    let y = side_of(shots[at + 1], shots[at + 3], largest);
+    Sides { x, y }
 }
 
 // Where the i-th part begins, and the one before it ends.

@@ -1,7 +1,7 @@
 // The parts of shots, written in list order: rows from the bottom, left to right in a row.
-use side::Side;
-use side::edge_at;
-use side::side_of;
+use super::side::Side;
+use super::side::edge_at;
+use super::side::sides_of;
 ghost use mathlib.Core.Path.{_≡_};
 ghost use mathlib.Core.List.{_∷_, []};
 ghost use Prim.Native.Nat.{_+_, _*_, _≤_};
@@ -65,8 +65,9 @@ pub fn write_all(shots: &[u16], n: usize, largest: u32, list: &mut [u16]) -> usi
     let mut next: usize = 0;
     let mut k: usize = 0;
     while k < n {
-        let x = side_of(shots[4 * k], shots[4 * k + 2], largest);
-        let y = side_of(shots[4 * k + 1], shots[4 * k + 3], largest);
+        let sides = sides_of(shots, k, largest);
+        let x = sides.x;
+        let y = sides.y;
         next = write_parts(list, next, x, y);
         k += 1;
     }

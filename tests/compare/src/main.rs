@@ -6,6 +6,7 @@
 //! It stops at the first difference and says from which seed it came. `--record` also writes cases
 //! with their outcomes for the C program `replay`. Without the library only the baselines are compared.
 
+mod divisions;
 mod fractures;
 mod gdsii;
 mod jobs;
@@ -86,6 +87,11 @@ fn main() {
     gdsii::elements(&plan, &progress);
     joins::rows(&plan, &progress);
     joins::lists(&plan, &progress);
+    divisions::rows(&plan, &progress);
+    divisions::ranges(&plan, &progress);
+    divisions::sides(&plan, &progress);
+    divisions::full_square(&plan, &progress);
+    divisions::drawings(&plan, &progress);
     if let Some(file) = &plan.record {
         record::write(file, plan.seed, &progress);
     }

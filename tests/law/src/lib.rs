@@ -15,6 +15,7 @@
 //! | `bytes` | numbers, jobs, unpacking, the writers |
 //! | `gdsii` | one boundary element of a GDSII stream |
 //! | `joining` | shots joined in pairs |
+//! | `division` | shots divided by a largest side |
 //! | `program` | what the job program prints |
 //! | `nano` | the same costs once more, nanometre by nanometre, for small figures |
 //! | `every` | every cutting of a small figure, with its price |
@@ -22,6 +23,7 @@
 pub mod bytes;
 pub mod call;
 pub mod cutting;
+pub mod division;
 pub mod drawing;
 pub mod every;
 pub mod figure;
@@ -72,6 +74,10 @@ pub trait Calls {
     fn gdsii_read(&self, element: &[u8], list: &mut [u16]) -> Told;
     fn gdsii_fracture(&self, element: &[u8], table: &mut [u32], list: &mut [u16]) -> Told;
     fn join(&self, list: &[u16], table: &mut [joining::Joined]) -> Told;
+    /// By straight cuts, or by pinwheels too, with a largest side.
+    fn fracture_divided(
+        &self, pinwheels: bool, drawing: &Drawing, threshold: u32, weight: u32, largest: u32, table: &mut [u32], list: &mut [u16],
+    ) -> Told;
 }
 
 /// The documents themselves.
@@ -119,5 +125,10 @@ impl Calls for Law {
     }
     fn join(&self, list: &[u16], table: &mut [joining::Joined]) -> Told {
         joining::told_join(list, table)
+    }
+    fn fracture_divided(
+        &self, pinwheels: bool, drawing: &Drawing, threshold: u32, weight: u32, largest: u32, table: &mut [u32], list: &mut [u16],
+    ) -> Told {
+        division::fracture_divided(pinwheels, drawing, threshold, weight, largest, table, list)
     }
 }

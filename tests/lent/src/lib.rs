@@ -79,6 +79,16 @@ mod pw {
             element: *const u8, len: usize, table: *mut u32, table_len: usize, list: *mut u16, list_len: usize,
             shots: *mut u32, cost: *mut u32, sliver: *mut u32, cuts: *mut u32, shift_x: *mut i32, shift_y: *mut i32, offset: *mut usize,
         ) -> u32;
+        pub fn pw_fracture_divided(
+            corners: *const u16, corners_len: usize, rings: *const u16, rings_len: usize, threshold: u32, weight: u32,
+            largest: u32, table: *mut u32, table_len: usize, list: *mut u16, list_len: usize,
+            shots: *mut u32, cost: *mut u32, sliver: *mut u32, cuts: *mut u32,
+        ) -> u32;
+        pub fn pw_fracture_pinwheel_divided(
+            corners: *const u16, corners_len: usize, rings: *const u16, rings_len: usize, threshold: u32, weight: u32,
+            largest: u32, table: *mut u32, table_len: usize, list: *mut u16, list_len: usize,
+            shots: *mut u32, cost: *mut u32, sliver: *mut u32, cuts: *mut u32,
+        ) -> u32;
         pub fn pw_join(
             list: *const u16, list_len: usize, table: *mut law::joining::Joined, table_len: usize, flashes: *mut usize,
         ) -> u32;
@@ -276,5 +286,21 @@ impl Calls for Library {
         let number =
             unsafe { pw::pw_join(list.as_ptr(), list.len(), table.as_mut_ptr(), table.len(), &mut flashes) };
         Told::of(number, &[flashes as u64])
+    }
+
+    fn fracture_divided(
+        &self, pinwheels: bool, drawing: &Drawing, threshold: u32, weight: u32, largest: u32, table: &mut [u32], list: &mut [u16],
+    ) -> Told {
+        let (mut shots, mut cost, mut sliver, mut cuts) = (MARK, MARK, MARK, MARK);
+        let call = if pinwheels { pw::pw_fracture_pinwheel_divided } else { pw::pw_fracture_divided };
+        let number = unsafe {
+            call(
+                drawing.corners.as_ptr(), drawing.corners.len(), drawing.rings.as_ptr(), drawing.rings.len(),
+                threshold, weight, largest,
+                table.as_mut_ptr(), table.len(), list.as_mut_ptr(), list.len(),
+                &mut shots, &mut cost, &mut sliver, &mut cuts,
+            )
+        };
+        Told::of(number, &[shots as u64, cost as u64, sliver as u64, cuts as u64])
     }
 }

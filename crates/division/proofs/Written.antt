@@ -5,6 +5,7 @@
 --   edge-last            : the last is the side's high end
 --   row-more, row-length, rows-more, rows-length   : one part more in a row, one row more
 --   side-rows            : the rows of the two divided sides of a shot are the shot divided
+--   sets-four            : a run of four stores
 --   wrote-none, wrote-more, wrote-part   : nothing written, more behind it, one part
 --   wrote-front          : from the front on, the list is written
 --   front-none, front-next, front-at   : no shot, the next shot, all shots, of a list of numbers
@@ -66,7 +67,7 @@ edge-last m low high pos h =
 
 -- Rows
 
-run-last : (k n : ℕ) → run k (suc n) ≡ run k n ++ (k + n ∷ [])
+run-last : (k n : ℕ) → run k (suc n) ≡ run k n ++ ((k + n) ∷ [])
 unfolding run
 run-last k zero = let e : k ≡ k + 0 = omega arith in ap (λ v. v ∷ []) e
 run-last k (suc n) = let e : suc k + n ≡ k + suc n = omega arith in ap (λ l. k ∷ l) (run-last (suc k) n ∙ ap (λ v. run (suc k) n ++ (v ∷ [])) e)
@@ -103,7 +104,7 @@ module _ (x : Side) where
       ap (join f) (run-next k) ∙ join-append f (run 0 k) (k ∷ []) ∙ ap (λ l. join f (run 0 k) ++ l) (join-one f k)
 
   pub rows-length : (y : Side) (k : ℕ) → length (rowsOf x y k) ≡ k * x .count
-  rows-length y zero = unfold rowsOf join run in refl
+  rows-length y zero = unfold rowsOf join run in (let e : 0 ≡ 0 * x .count = omega arith in e)
   rows-length y (suc k) =
       ap length (rows-more y k)
       ∙ omega (
@@ -119,6 +120,13 @@ unfolding rowsOf rowOf edge sideOf divided part start
 side-rows m s = refl
 
 -- What is written
+
+pub sets-four : (l : List ℕ) (at a b c d : ℕ) → set (set (set (set l at a) (at + 1) b) (at + 2) c) (at + 3) d ≡ sets l at (a ∷ b ∷ c ∷ d ∷ [])
+sets-four l at a b c d =
+    let e : at + 1 ≡ suc at = omega arith in
+    let f : at + 2 ≡ suc (suc at) = omega arith in
+    let g : at + 3 ≡ suc (suc (suc at)) = omega arith in
+    rw (e, f, g)
 
 pub wrote-none : (u : List ℕ) (at : ℕ) → Wrote u u at [] at
 unfolding numbers join
@@ -154,6 +162,10 @@ wrote-front {u} l a h = a .list ∙ sets-front u (numbers l) (omega (arith, numb
 abbrev pub shotNo : List ℕ → ℕ → Shot
 shotNo l k = shotOf (getD l (4 * k) 0) (getD l (4 * k + 1) 0) (getD l (4 * k + 2) 0) (getD l (4 * k + 3) 0)
 
+-- a shot that has area
+abbrev Area : Shot → Type 0
+Area s = (s .xlow < s .xhigh) × (s .ylow < s .yhigh)
+
 shots-append : (n : ℕ) (a b : List ℕ) → length a ≡ 4 * n → shotsIn (a ++ b) ≡ shotsIn a ++ shotsIn b
 unfolding shotsIn
 shots-append n [] b e = refl
@@ -181,10 +193,7 @@ module _ (list : List ℕ) (n k : ℕ) (h : k < n) (room : 4 * n ≤ length list
 
   pub area-at : All (λ s. (s .xlow < s .xhigh) × (s .ylow < s .yhigh)) (inFront list n)
       → (getD list (4 * k) 0 < getD list (4 * k + 2) 0) × (getD list (4 * k + 1) 0 < getD list (4 * k + 3) 0)
-  area-at a = All-parts Q (inFront list k) (shotNo list k ∷ behind) (subst (All Q) front-split a) .1 .0
-    where
-      abbrev Q : Shot → Type 0
-      Q s = (s .xlow < s .xhigh) × (s .ylow < s .yhigh)
+  area-at a = All-parts Area (inFront list k) (shotNo list k ∷ behind) (subst (All Area) front-split a) .1 .0
 
   pub product-at : (m : ℕ) → sumOf (product m) (inFront list k) + product m (shotNo list k) ≤ sumOf (product m) (inFront list n)
   unfolding sumOf
