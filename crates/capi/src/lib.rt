@@ -35,6 +35,8 @@ ghost use Rattle.gdsii.specs.Calls.{boundaryRead, boundaryFractured};
 ghost use Rattle.join.specs.Join.{joinLent, Promise};
 ghost use Rattle.capi.specs.Lent.{presetLent, cutsLent, numberLent, numberSaid, checkLent, outlineLent, outlineSaid, unpackLent, writeLent, fractureLent, boundaryLent, plateLent, flashesOf, pairingNo};
 
+mod divided;
+
 // The rule of a preset, or 15.
 #[no_mangle]
 pub extern "C" fn pw_preset(number: u32, threshold: &mut u32, weight: &mut u32) -> u32

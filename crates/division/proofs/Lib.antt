@@ -6,4 +6,5 @@ pub mod Loops
 pub mod Outcome
 pub mod Refusals
 pub mod Demands
+pub mod Rows
 pub mod Settled

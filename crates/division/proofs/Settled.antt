@@ -3,6 +3,7 @@
 --   told-short, told-listed    : 7 by the parts, and the parts listed
 --   divisible                  : the shots of a fracture can be divided: they have area, and few parts
 --   told-before, told-after    : what the fracture is refused by; its shots divided
+--   by-mode                    : in the mode that was asked
 --   told-rule, told-largest    : 1 and 19
 --   divided-settled            : two ways to satisfy the promise are one: the same answer, and the same in both buffers
 use Prim.Native.Nat.{ℕ, _+_, _*_, _≤_, _<_}
@@ -23,7 +24,8 @@ use Rattle.refusal.proofs.Refusals.{refusal-some}
 use Rattle.rule.specs.declared.Rule.{Rule}
 use Rattle.rule.specs.Rules.{inRange, Told, given, refused as unknown, ruleTold}
 use Rattle.shot.specs.Shot.{Shot, numbers, shotsIn}
-use Rattle.demands.specs.Promise.{Asked, drawn, ruleOf, frameShots, Outcome, written, refused, outcome}
+use Rattle.piece.specs.declared.Mode.{Mode}
+use Rattle.demands.specs.Promise.{Asked, asked, drawn, ruleOf, frameShots, Outcome, written, refused, outcome}
 use Rattle.demands.specs.Refusals as undivided
 use Rattle.demands.specs.Demands.{Words, reported}
 use Rattle.demands.proofs.Outcome as undivided-outcome
@@ -79,16 +81,20 @@ module _ (ask : Asked) (m : ℕ) (passed : Passed ask m) where
   abbrev u : Outcome
   u = outcome (aside ask)
 
-  pub told-before : (why : Refusal) (n : ℕ) (table list : List ℕ) → told (Refused why n) table list ≡ u
+  pub told-before : (a : Fractured) (table list : List ℕ) → told a table list ≡ u → (why : Refusal) (n : ℕ) → a ≡ Refused why n
       → told (Refused why 0) table (ask .list) ≡ dividedOutcome ask m
   unfolding told refused
-  told-before why n table list e =
+  told-before a table list f why n q =
+      let e : told (Refused why n) table list ≡ u = ap (λ a. told a table list) (sym q) ∙ f in
       sym
       (outcome-after ask m (passed .range) (passed .fits)
       ∙ after-refused ask m (omega (arith, refusal-some why, ap (λ (o : Outcome). o .number) e))
       ∙ ap₂ (λ i t. refused i t (ask .list)) (sym (ap (λ (o : Outcome). o .number) e)) (sym (ap (λ (o : Outcome). o .table) e)))
 
-  module _ (words : Words (ask .figure)) (s c v k : ℕ) (table list : List ℕ) (e : told (Done s c v k) table list ≡ u) where
+  module _ (words : Words (ask .figure)) (a : Fractured) (table list : List ℕ) (f : told a table list ≡ u) (s c v k : ℕ) (q : a ≡ Done s c v k) where
+    e : told (Done s c v k) table list ≡ u
+    e = ap (λ a. told a table list) (sym q) ∙ f
+
     fractured : u .number ≡ 0
     unfolding told
     fractured = sym (ap (λ (o : Outcome). o .number) e)
@@ -123,15 +129,27 @@ module _ (ask : Asked) (m : ℕ) (passed : Passed ask m) where
           (light (aside ask) (inl fractured), omega (arith, few-slivers ask m words fractured, ap (λ (o : Outcome). o .sliver) e)),
         )
 
-    pub told-after : (a : Fractured) (then : List ℕ)
-        → told a table then ≡ listed (ask .weight) (join (divided m) (inFront list s)) v k table (ask .list)
-        → told a table then ≡ dividedOutcome ask m
+    -- sliver length, cuts and table are those that it reports
+    as-reported : listed (ask .weight) (join (divided m) (reported u)) v k table (ask .list)
+        ≡ listed (ask .weight) (join (divided m) (reported u)) (u .sliver) (u .cuts) (u .table) (ask .list)
+    unfolding told
+    as-reported =
+        ap (λ (o : Outcome). listed (ask .weight) (join (divided m) (reported u)) (o .sliver) (o .cuts) (o .table) (ask .list)) e
+
+    pub told-after : (b : Fractured) (then : List ℕ)
+        → told b table then ≡ listed (ask .weight) (join (divided m) (inFront list s)) v k table (ask .list)
+        → told b table then ≡ dividedOutcome ask m
     unfolding parts
-    told-after a then q =
-        q
+    told-after b then h =
+        h
         ∙ ap (λ l. listed (ask .weight) (join (divided m) l) v k table (ask .list)) (sym these)
-        ∙ (unfold told in ap (λ (o : Outcome). listed (ask .weight) (join (divided m) (reported u)) (o .sliver) (o .cuts) (o .table) (ask .list)) e)
+        ∙ as-reported
         ∙ sym (outcome-after ask m (passed .range) (passed .fits) ∙ after-listed ask m fractured)
+
+-- the mode that was asked
+pub by-mode : (a : Outcome) (mode asks : Mode) (corners lengths : List ℕ) (t w : ℕ) (table list : List ℕ)
+    → a ≡ outcome (asked mode corners lengths t w table list) → asks ≡ mode → a ≡ outcome (asked asks corners lengths t w table list)
+by-mode a mode asks corners lengths t w table list e q = e ∙ ap (λ m. outcome (asked m corners lengths t w table list)) (sym q)
 
 -- 1 and 19
 

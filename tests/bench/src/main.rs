@@ -151,5 +151,16 @@ fn main() {
         });
         println!("| {name} | {} | {read:.0} | {fractured:.0} |", element.len());
     }
+    println!("\n| Largest shot, by the {who} | shots before | shots | ns |\n|---|---:|---:|---:|");
+    let square = Drawing::outline(&[0, 0, 65_535, 0, 65_535, 65_535, 0, 65_535]);
+    let mut long = vec![0u16; 467_856];
+    for (name, drawing, largest) in [("full square at 200 nm", &square, 200), ("full square at 65,535 nm", &square, 65_535)] {
+        let before = calls.fracture(drawing, 25, 40, &mut table, &mut list).numbers[0];
+        let shots = calls.fracture_divided(false, drawing, 25, 40, largest, &mut table, &mut long).numbers[0];
+        let took = best(rounds.min(5), || {
+            black_box(calls.fracture_divided(false, black_box(drawing), 25, 40, largest, &mut table, &mut long));
+        });
+        println!("| {name} | {before} | {shots} | {took:.0} |");
+    }
     println!("load after {}", load());
 }
