@@ -39,9 +39,9 @@ use Rattle.piece.proofs.Bound.{count-most, slivers-most}
 use Rattle.table.specs.Entry.{Valid, entryOf}
 use Rattle.verdict.specs.declared.Plan.{Plan}
 use Rattle.verdict.specs.declared.Numbered.{Numbered}
-use Rattle.verdict.specs.declared.Wheel.{Wheel}
-use Rattle.verdict.specs.declared.Verdict.{Verdict}
-use Rattle.verdict.specs.declared.Verdict.the-variants as verdict
+use Rattle.verdict.specs.declared.pinwheel.Wheel.{Wheel}
+use Rattle.verdict.specs.declared.pinwheel.Turned.{Turned}
+use Rattle.verdict.specs.declared.pinwheel.Turned.the-variants as verdict
 use Rattle.verdict.specs.Verdict.{verdictOf, numbered, partNo, wheelIn, made}
 use Rattle.verdict.specs.Memory.{Costed, Known}
 use Rattle.verdict.proofs.Hunting.{each-part}
@@ -123,7 +123,7 @@ pub record Fifths (mode : Mode) (g : Grid) (r : Rule) (plan : Plan) (p : Piece) 
   pub inner : Smaller plan p (w .inner)
 
 module _ (mode : Mode) (g : Grid) (r : Rule) (p : Piece) where
-  by-kind : Kind → Verdict
+  by-kind : Kind → Turned
   by-kind k = elim k [ outside ↦ verdict.Outside | full ↦ verdict.Shot | mixed ↦ made g p (choice mode g r p) ]
 
   opened : verdictOf mode g r p ≡ by-kind (kind g p)
@@ -349,12 +349,12 @@ module _ (mode : Mode) (g : Grid) (r : Rule) (plan : Plan) (p : Piece) where
         length-append d e,
       )
 
-pub emit-part : (t cs xs ys : List ℕ) (room : ℕ) (plan : Plan) (at : ℕ) (p : Numbered) (e : Emittable t cs xs ys room plan at p)
+pub emit-part : (mode : Mode) (t cs xs ys : List ℕ) (room : ℕ) (plan : Plan) (at : ℕ) (p : Numbered) (e : Emittable mode t cs xs ys room plan at p)
     → (q : Numbered) → Smaller plan (meant (p .piece)) q → {n room′ : ℕ} → room′ ≡ room
-    → n + 4 * length (shots (e .mode) (e .grid) (e .rule) (meant (q .piece))) ≤ room
-    → Emittable t cs xs ys room′ plan n q
-emit-part t cs xs ys room plan at p e q z d h =
-    record { mode = e .mode; grid = e .grid; rule = e .rule; walk = e .walk; known = z .known; fits = omega arith }
+    → n + 4 * length (shots mode (e .grid) (e .rule) (meant (q .piece))) ≤ room
+    → Emittable mode t cs xs ys room′ plan n q
+emit-part mode t cs xs ys room plan at p e q z d h =
+    record { grid = e .grid; rule = e .rule; walk = e .walk; known = z .known; fits = omega arith }
 
 pub less-cells : (plan : Plan) (p : Piece) (q : Numbered) → Smaller plan p q → {n : ℕ} → cells p ≡ n → cells (meant (q .piece)) < n
 less-cells plan p q z e = omega (arith, z .less)

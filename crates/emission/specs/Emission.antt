@@ -3,8 +3,8 @@
 --   InLists xs ys p          == the lines of the piece p are lines of the lists xs and ys
 --   Written g u v at l n     == by writing the shots l from the index at on the list u becomes v, and n is the index behind them
 --   Walk mode g r ..         == the table, the cells, the places and the plan are those of the grid g and the rule r in that mode
---   Emittable .. at p        == they are those of some mode, grid and rule, p is one of its pieces with its entry, and from the index at on
---                               there is room for the shots of p
+--   Emittable mode .. at p   == they are those of some grid and rule in that mode, p is one of its pieces with its entry, and from the index
+--                               at on there is room for the shots of p
 use Prim.Native.Nat.{ℕ, _+_, _*_, _≤_, _<_}
 use mathlib.Core.Path.{_≡_}
 use mathlib.Core.List.{List}
@@ -36,8 +36,7 @@ pub record Walk (mode : Mode) (g : Grid) (r : Rule) (table cells xs ys : List �
   pub drawn : Drawn g xs ys cells
   pub rule : plan .rule ≡ r
 
-pub record Emittable (table cells xs ys : List ℕ) (room : ℕ) (plan : Plan) (at : ℕ) (p : Numbered) : Type 0 where
-  pub mode : Mode
+pub record Emittable (mode : Mode) (table cells xs ys : List ℕ) (room : ℕ) (plan : Plan) (at : ℕ) (p : Numbered) : Type 0 where
   pub grid : Grid
   pub rule : Rule
   pub walk : Walk mode grid rule table cells xs ys plan

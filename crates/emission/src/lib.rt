@@ -13,12 +13,13 @@ ghost use lib.ListN.{length, getD};
 ghost use lib.Seq.{sets};
 ghost use Rattle.outline.specs.Grid.{Grid};
 ghost use Rattle.rule.specs.declared.Rule.{Rule};
-ghost use Rattle.piece.specs.declared.Mode.{Mode};
+ghost use Rattle.piece.specs.declared.Mode.the-variants.{Straight};
 ghost use Rattle.piece.specs.Meant.{meant};
 ghost use Rattle.piece.specs.Cuts.{shots};
 ghost use Rattle.emission.specs.Emission.{InLists, Written, Walk, Emittable};
 
 pub mod measuring;
+pub mod pinwheel;
 
 // Writes the four numbers of a shot, x low, y low, x high, y high, from the index at on; hands back the index behind them.
 fn write_shot(
@@ -43,8 +44,8 @@ fn write_shot(
     at + 4
 }
 
-// Writes the shots of a piece from the index at on, part after part: those of the low part of a cut before those of the high part, those of
-// a pinwheel in the order of its parts; hands back the index behind them. Their slivers are not measured here: `measuring` tells their length from the cost.
+// Writes the shots of a piece from the index at on, those of the low part of a cut before those of the high part; hands back the index
+// behind them. Their slivers are not measured here: `measuring` tells their length from the cost.
 pub fn emit(
     costs: &[u32],
     cells: &[u8],
@@ -55,8 +56,8 @@ pub fn emit(
     at: usize,
     p: Numbered,
 ) -> usize
-    requires { ⌜ Emittable (now costs) (now cells) (now xs) (now ys) (length (now list)) plan at p ⌝ }
-    ensures { λ n. ⌜ ((mode : Mode) (g : Grid) (r : Rule) → Walk mode g r (now (costs .entry)) (now (cells .entry)) (now (xs .entry)) (now (ys .entry)) plan → Written g (now (list .entry)) (now (list .exit)) at (shots mode g r (meant (p .piece))) n) ⌝ }
+    requires { ⌜ Emittable Straight (now costs) (now cells) (now xs) (now ys) (length (now list)) plan at p ⌝ }
+    ensures { λ n. ⌜ ((g : Grid) (r : Rule) → Walk Straight g r (now (costs .entry)) (now (cells .entry)) (now (xs .entry)) (now (ys .entry)) plan → Written g (now (list .entry)) (now (list .exit)) at (shots Straight g r (meant (p .piece))) n) ⌝ }
 {
     let verdict = judge(costs, cells, plan, p);
     match verdict {
@@ -68,18 +69,6 @@ pub fn emit(
         Verdict::Cut(low, high) => {
             let next = emit(costs, cells, xs, ys, list, plan, at, low);
             emit(costs, cells, xs, ys, list, plan, next, high)
-        }
-        Verdict::Wheel(wheel) => {
-            let first = wheel.first;
-            let second = wheel.second;
-            let third = wheel.third;
-            let fourth = wheel.fourth;
-            let inner = wheel.inner;
-            let one = emit(costs, cells, xs, ys, list, plan, at, first);
-            let two = emit(costs, cells, xs, ys, list, plan, one, second);
-            let three = emit(costs, cells, xs, ys, list, plan, two, third);
-            let four = emit(costs, cells, xs, ys, list, plan, three, fourth);
-            emit(costs, cells, xs, ys, list, plan, four, inner)
         }
     }
 }

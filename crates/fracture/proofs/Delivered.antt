@@ -157,16 +157,16 @@ module _ (mode : Mode) (g : Grid) (r : Rule) (t cs xs ys : List ℕ) (plan : Pla
   same : shots mode g r (meant (p .piece)) ≡ shots mode g r (frame g)
   same = ap (shots mode g r) (b .0 ∙ frame-is mode g r t cs plan (w .costed))
 
-  frame-fits : (n : ℕ) → 4 * length (shots mode g r (meant (p .piece))) ≤ n → Emittable t cs xs ys n plan 0 p
-  frame-fits n h = record { mode = mode; grid = g; rule = r; walk = w; known = b .1; fits = omega arith }
+  frame-fits : (n : ℕ) → 4 * length (shots mode g r (meant (p .piece))) ≤ n → Emittable mode t cs xs ys n plan 0 p
+  frame-fits n h = record { grid = g; rule = r; walk = w; known = b .1; fits = omega arith }
 
   pub frame-few-shots : length (shots mode g r (meant (p .piece))) ≤ 225
   frame-few-shots = count-few mode g r t cs plan (w .costed) (meant (p .piece)) (b .1 .valid)
 
-  pub frame-aside : Emittable t cs xs ys 900 plan 0 p
+  pub frame-aside : Emittable mode t cs xs ys 900 plan 0 p
   frame-aside = frame-fits 900 (omega (arith, frame-few-shots))
 
-  pub frame-emittable : {n : ℕ} → Enough ≡ roomOf n (length (shots mode g r (meant (p .piece)))) → Emittable t cs xs ys n plan 0 p
+  pub frame-emittable : {n : ℕ} → Enough ≡ roomOf n (length (shots mode g r (meant (p .piece)))) → Emittable mode t cs xs ys n plan 0 p
   frame-emittable {n} h = frame-fits n (enough-says n (length (shots mode g r (meant (p .piece)))) h)
 
   -- the shots in the list

@@ -15,6 +15,7 @@
 --   call-ahead           == they are what `cuts` has told ahead
 --   call-bound           == neither the cost nor a table entry exceeds 2,097,345,000
 --   call-not-above       == of two calls that answer Done, all else equal but what is lent, `fracture_pinwheel` costs no more than `fracture`
+--   call-cuts-same       == and both report the same cuts
 --   default-row          == `fracture_default` of L answers 2 shots, cost 2000, sliver length 0 and 4 cuts, lists them, and leaves L's nine entries
 use Prim.Native.Nat.{ℕ, _*_, _≤_, _<_}
 use mathlib.Core.Path.{_≡_, refl, sym, _∙_, ap, subst}
@@ -170,6 +171,16 @@ call-not-above corners lengths t w table list table₂ list₂ s c n k s′ c′
       ap (λ o. o .cost) p,
       ap (λ o. o .cost) q,
     )
+
+pub call-cuts-same : (corners lengths : List ℕ) (t w : ℕ) (table list table₂ list₂ : List ℕ) (s c n k s′ c′ n′ k′ : ℕ) (u l u′ l′ : List ℕ)
+    → told (Done s c n k) u l ≡ outcome (asked Pinwheel corners lengths t w table list)
+    → told (Done s′ c′ n′ k′) u′ l′ ≡ outcome (asked Straight corners lengths t w table₂ list₂)
+    → k ≡ k′
+unfolding told
+call-cuts-same corners lengths t w table list table₂ list₂ s c n k s′ c′ n′ k′ u l u′ l′ p q =
+    ap (λ o. o .cuts) p
+    ∙ demands.pinwheel-cuts (asked Straight corners lengths t w table₂ list₂) table list (sym (ap (λ o. o .number) p)) (sym (ap (λ o. o .number) q))
+    ∙ sym (ap (λ o. o .cuts) q)
 
 -- The call without a rule
 

@@ -2,7 +2,7 @@
 --
 --   roomOf n m               == whether n numbers have room for m shots, four for each
 --   Sized plan               == the plan's size is that of a grid, and it has the count of its pairs of y lines
---   Walkable ..              == what is lent speaks of some mode, grid and rule
+--   Walkable mode ..         == what is lent speaks of some grid and rule in that mode
 --   Laid g m                 == the sound grid g lies in memory as m, and is read back as itself
 --   Fillable m r             == there is such a grid, and the weight of the rule r is within its limit
 use Prim.Native.Nat.{ℕ, _*_, _≤_}
@@ -30,8 +30,7 @@ pub record Sized (plan : Plan) : Type 0 where
   pub rows-most : plan .rows ≤ 15
   pub pairs : plan .pairs ≡ pairCount (plan .rows)
 
-pub record Walkable (table cells xs ys : List ℕ) (plan : Plan) : Type 0 where
-  pub mode : Mode
+pub record Walkable (mode : Mode) (table cells xs ys : List ℕ) (plan : Plan) : Type 0 where
   pub grid : Grid
   pub rule : Rule
   pub walk : Walk mode grid rule table cells xs ys plan

@@ -31,7 +31,7 @@ use Rattle.table.specs.Entry.{Valid, entryOf}
 use Rattle.table.proofs.Entry.{entry-below}
 use Rattle.verdict.specs.declared.Plan.{Plan}
 use Rattle.verdict.specs.declared.Numbered.{Numbered}
-use Rattle.verdict.specs.declared.Wheel.{Wheel}
+use Rattle.verdict.specs.declared.pinwheel.Wheel.{Wheel}
 use Rattle.verdict.specs.declared.pinwheel.Sought.{Sought}
 use Rattle.verdict.specs.Verdict.{placed, partNo, wheelIn}
 use Rattle.verdict.specs.Search.{FirstWith}

@@ -8,6 +8,7 @@
 --   verdict-vertical, verdict-horizontal : the first line whose parts cost what the piece costs
 --   turnable                            : where there is none, a pinwheel can be sought and found
 --   verdict-wheel                       : the first pinwheel whose parts do
+--   level-found                         : by straight cuts alone a line is found
 use Prim.Native.Nat.{ℕ, _+_, _*_, _-_, _≤_, _<_}
 use mathlib.Core.Path.{_≡_, refl, ap, ap₂, sym, _∙_}
 use mathlib.Core.Bool.{Bool, true, false}
@@ -17,6 +18,7 @@ use native.Mathlib.Omega.{arith}
 use native.Mathlib.Nat.{mul-comm}
 use lib.ListN.{length, getD}
 use Rattle.sum.specs.Sum.{sumOf, only}
+use Rattle.sum.proofs.Sum.{le-or}
 use Rattle.recurrence.specs.Scheme.{Kind, outside, full, mixed}
 use Rattle.outline.specs.Grid.{Grid}
 use Rattle.rule.specs.declared.Rule.{Rule}
@@ -37,8 +39,8 @@ use Rattle.table.proofs.Entry.{entry-below, count-most}
 use Rattle.piece.specs.declared.Piece as stored
 use Rattle.verdict.specs.declared.Plan.{Plan}
 use Rattle.verdict.specs.declared.Numbered.{Numbered}
-use Rattle.verdict.specs.declared.Wheel.{Wheel}
-use Rattle.verdict.specs.declared.Verdict.the-variants as verdict
+use Rattle.verdict.specs.declared.pinwheel.Wheel.{Wheel}
+use Rattle.verdict.specs.declared.pinwheel.Turned.the-variants as verdict
 use Rattle.verdict.specs.declared.Cuts.{Cuts}
 use Rattle.verdict.specs.declared.Found.{Found}
 use Rattle.verdict.specs.Verdict.{partNo, wheelIn, made, verdictOf}
@@ -348,3 +350,7 @@ module _ (mode : Mode) (g : Grid) (r : Rule) (t cells : List ℕ) (plan : Plan) 
             (a .j) (a .l) (a .k) (a .m) (a .inner)
             (λ i j m o q d z. a .passed i j m o q d (wheel-met Second i j m o q z))
             (met-wheel Second (a .j) (a .l) (a .k) (a .m) (a .inner) (a .meets)))))
+
+      -- by straight cuts alone there always is a line
+      pub level-found : mode ≡ Straight → p .c .0 ≤ u .line .0 → v .line .0 < p .d .0
+      level-found s l = elim (le-or (p .d .0) (v .line .0)) [ inl k ↦ absurd (straight-only (sym s ∙ pinwheel l k)) | inr k ↦ k ]

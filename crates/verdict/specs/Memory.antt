@@ -4,7 +4,8 @@
 --                                 == the table begins with the cost of every piece of the grid g under the rule r in that mode, cells are
 --                                    g's cells, and plan has its size
 --   Known plan p                  == p is one of the pieces of a grid of that size, and has its own entry
---   Judgeable table cells plan p  == there are such a mode, grid and rule, and p is one of the grid's pieces with its entry
+--   Judgeable mode table cells plan p
+--                                 == there are such a grid and such a rule, and p is one of the grid's pieces with its entry
 use Prim.Native.Nat.{ℕ, _+_, _*_, _≤_, _<_}
 use mathlib.Core.Path.{_≡_}
 use mathlib.Core.List.{List}
@@ -36,8 +37,7 @@ pub record Known (plan : Plan) (p : Numbered) : Type 0 where
   pub valid : Valid (plan .columns) (plan .rows) (meant (p .piece))
   pub entry : p .entry ≡ entryOf (plan .columns) (plan .rows) (meant (p .piece))
 
-pub record Judgeable (table cells : List ℕ) (plan : Plan) (p : Numbered) : Type 0 where
-  pub mode : Mode
+pub record Judgeable (mode : Mode) (table cells : List ℕ) (plan : Plan) (p : Numbered) : Type 0 where
   pub grid : Grid
   pub rule : Rule
   pub costed : Costed mode grid rule table cells plan

@@ -24,7 +24,7 @@ use Rattle.piece.specs.Meant.{meant}
 use Rattle.piece.specs.Cuts.{wheel, Inner, Lower}
 use Rattle.table.specs.Entry.{Valid, entryCount}
 use Rattle.verdict.specs.declared.Plan.{Plan}
-use Rattle.verdict.specs.declared.Wheel.{Wheel}
+use Rattle.verdict.specs.declared.pinwheel.Wheel.{Wheel}
 use Rattle.verdict.specs.declared.pinwheel.Sought.{Sought}
 use Rattle.verdict.specs.Verdict.{wheelIn}
 

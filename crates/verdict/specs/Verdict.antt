@@ -7,6 +7,7 @@
 --   made g p k            == what becomes of p by the cut k: its low and its high part, left or bottom being low; or the parts of a pinwheel
 --   verdictOf mode g r p  == outside where no cell of p is inside; a shot where all of them are; else what becomes of it by the first cut in the
 --                            tie order whose parts cost what p costs, which is the least
+--   plain v               == a verdict by straight cuts, as one of either mode
 use Prim.Native.Nat.{ℕ}
 use lib.ListN.{getD}
 use Rattle.recurrence.specs.Scheme.{outside, full, mixed}
@@ -17,9 +18,11 @@ use Rattle.piece.specs.Piece.{Piece, kind, leftPart, rightPart, lowerPart, uppe
 use Rattle.piece.specs.Cuts.{Cut, vertical, horizontal, wheel, parts, choice}
 use Rattle.table.specs.Entry.{entryOf}
 use Rattle.verdict.specs.declared.Numbered.{Numbered}
-use Rattle.verdict.specs.declared.Wheel.{Wheel}
 use Rattle.verdict.specs.declared.Verdict.{Verdict}
-use Rattle.verdict.specs.declared.Verdict.the-variants as verdict
+use Rattle.verdict.specs.declared.Verdict.the-variants as straight
+use Rattle.verdict.specs.declared.pinwheel.Wheel.{Wheel}
+use Rattle.verdict.specs.declared.pinwheel.Turned.{Turned}
+use Rattle.verdict.specs.declared.pinwheel.Turned.the-variants as verdict
 
 abbrev pub placed : ℕ → ℕ → Piece → Numbered
 placed columns rows p = record {
@@ -42,10 +45,15 @@ wheelIn columns rows p k = record {
   inner = placed columns rows (partNo p k 4);
 }
 
-abbrev pub made : Grid → Piece → Cut → Verdict
+abbrev pub made : Grid → Piece → Cut → Turned
 made g p (vertical j) = verdict.Cut (numbered g (leftPart p j)) (numbered g (rightPart p j))
 made g p (horizontal j) = verdict.Cut (numbered g (lowerPart p j)) (numbered g (upperPart p j))
 made g p (wheel t j l k m) = verdict.Wheel (wheelIn (g .columns) (g .rows) p (wheel t j l k m))
 
-unfoldable pub verdictOf : Mode → Grid → Rule → Piece → Verdict
+unfoldable pub verdictOf : Mode → Grid → Rule → Piece → Turned
 verdictOf mode g r p = elim (kind g p) [ outside ↦ verdict.Outside | full ↦ verdict.Shot | mixed ↦ made g p (choice mode g r p) ]
+
+abbrev pub plain : Verdict → Turned
+plain straight.Outside = verdict.Outside
+plain straight.Shot = verdict.Shot
+plain (straight.Cut l h) = verdict.Cut l h

@@ -2,19 +2,18 @@
 use outline::Line;
 use outline::MOST_LINES;
 use piece::Piece;
-use pinwheel::first_wheel;
 use rule::Rule;
 ghost use mathlib.Core.Path.{_≡_};
 ghost use Prim.Native.Nat.{_+_, _*_, _≤_};
 ghost use lib.ListN.{length, getD};
 ghost use Rattle.outline.specs.Grid.{Grid};
-ghost use Rattle.piece.specs.declared.Mode.{Mode};
+ghost use Rattle.piece.specs.declared.Mode.the-variants.{Straight};
 ghost use Rattle.piece.specs.Meant.{meant};
 ghost use Rattle.verdict.specs.Memory.{Costed, Judgeable};
 ghost use Rattle.verdict.specs.Search.{FirstWith, AllInside, Weighable, Finds};
-ghost use Rattle.verdict.specs.Verdict.{verdictOf};
+ghost use Rattle.verdict.specs.Verdict.{plain, verdictOf};
 
-mod pinwheel;
+pub mod pinwheel;
 
 // A piece with its entry in the table: the parts of a cut get theirs from the search, so that no entry is reckoned anew.
 pub struct Numbered {
@@ -22,22 +21,11 @@ pub struct Numbered {
     pub entry: usize,
 }
 
-// The five parts of a pinwheel, in the order of equation (3): four arms and the inner piece.
-pub struct Wheel {
-    pub first: Numbered,
-    pub second: Numbered,
-    pub third: Numbered,
-    pub fourth: Numbered,
-    pub inner: Numbered,
-}
-
-// What becomes of a piece: nothing of it is inside, or all of it is one shot, or it is cut, into its low and its high part, or it falls into
-// the parts of a pinwheel.
+// What becomes of a piece by straight cuts: nothing of it is inside, or all of it is one shot, or it is cut, into its low and its high part.
 pub enum Verdict {
     Outside,
     Shot,
     Cut(Numbered, Numbered),
-    Wheel(Wheel),
 }
 
 // What a walk over the pieces goes by besides the lent slices: the size of the grid, the count of its pairs of y lines, and the rule.
@@ -133,11 +121,10 @@ fn first_line(table: &[u32], cuts: Cuts, cost: u32) -> Found
 }
 
 // The verdict of a piece. What costs nothing is outside; what is inside in all cells is a shot; else the cut is the first, vertical ones first and
-// the lower line first, whose parts cost together what the piece costs; and where there is none the first such pinwheel. Which mode the
-// table was filled in it need not know: by straight cuts alone there always is such a cut.
+// the lower line first, whose parts cost together what the piece costs. There always is one.
 pub fn judge(costs: &[u32], cells: &[u8], plan: Plan, p: Numbered) -> Verdict
-    requires { ⌜ Judgeable (now costs) (now cells) plan p ⌝ }
-    ensures { λ v. ⌜ ((mode : Mode) (g : Grid) (r : Rule) → Costed mode g r (now (costs .entry)) (now (cells .entry)) plan → v ≡ verdictOf mode g r (meant (p .piece))) ⌝ }
+    requires { ⌜ Judgeable Straight (now costs) (now cells) plan p ⌝ }
+    ensures { λ v. ⌜ ((g : Grid) (r : Rule) → Costed Straight g r (now (costs .entry)) (now (cells .entry)) plan → plain v ≡ verdictOf Straight g r (meant (p .piece))) ⌝ }
 {
     let piece = p.piece;
     let entry = p.entry;
@@ -188,18 +175,14 @@ pub fn judge(costs: &[u32], cells: &[u8], plan: Plan, p: Numbered) -> Verdict
         cost,
     );
     let j = level.line;
-    if j.0 < d.0 {
-        return Verdict::Cut(
-            Numbered {
-                piece: Piece { d: j, ..piece },
-                entry: level.lower,
-            },
-            Numbered {
-                piece: Piece { b: j, ..piece },
-                entry: level.upper,
-            },
-        );
-    }
-    let wheel = first_wheel(costs, plan, piece, cost);
-    Verdict::Wheel(wheel)
+    Verdict::Cut(
+        Numbered {
+            piece: Piece { d: j, ..piece },
+            entry: level.lower,
+        },
+        Numbered {
+            piece: Piece { b: j, ..piece },
+            entry: level.upper,
+        },
+    )
 }

@@ -1,22 +1,47 @@
-// The search for a pinwheel: turn by turn the first one, by its lines j, l, k, m, whose five parts cost together what the piece costs. Only a
-// piece that no straight cut serves is searched, so there is one to be found; each search hands back one line, and the lines are found one
-// after the other.
+// The verdict of a piece by pinwheels too, and the search for a pinwheel: turn by turn the first one, by its lines j, l, k, m, whose five parts
+// cost together what the piece costs. Only a piece that no straight cut serves is searched, so there is one to be found; each search hands
+// back one line, and the lines are found one after the other. All of it stands apart from straight cuts, so that those have no room to make
+// for it.
+use super::Cuts;
 use super::Numbered;
 use super::Plan;
-use super::Wheel;
+use super::all_inside;
+use super::first_line;
 use outline::Line;
 use piece::Piece;
 use piece::Turn;
 use table::numbering::entry;
 ghost use mathlib.Core.Path.{_≡_};
 ghost use Prim.Native.Nat.{_+_, _≤_, _<_};
+ghost use Rattle.outline.specs.Grid.{Grid};
+ghost use Rattle.rule.specs.declared.Rule.{Rule};
+ghost use Rattle.piece.specs.declared.Mode.the-variants.{Pinwheel};
 ghost use Rattle.piece.specs.Piece.{box};
 ghost use Rattle.piece.specs.Meant.{meant};
 ghost use Rattle.piece.specs.Cuts.{wheel};
 ghost use Rattle.table.specs.Entry.{Valid};
-ghost use Rattle.verdict.specs.Verdict.{placed, wheelIn};
+ghost use Rattle.verdict.specs.Memory.{Costed, Judgeable};
+ghost use Rattle.verdict.specs.Verdict.{placed, wheelIn, verdictOf};
 ghost use Rattle.verdict.specs.Search.{FirstWith};
 ghost use Rattle.verdict.specs.Pinwheels.{sought, weightOf, Addable, Small, Huntable, Lines, Meets, WithM, WithK, WithL, Leads, Turnable, FirstWheel};
+
+// The five parts of a pinwheel, in the order of equation (3): four arms and the inner piece.
+pub struct Wheel {
+    pub first: Numbered,
+    pub second: Numbered,
+    pub third: Numbered,
+    pub fourth: Numbered,
+    pub inner: Numbered,
+}
+
+// What becomes of a piece: nothing of it is inside, or all of it is one shot, or it is cut, into its low and its high part, or it falls into
+// the parts of a pinwheel.
+pub enum Turned {
+    Outside,
+    Shot,
+    Cut(Numbered, Numbered),
+    Wheel(Wheel),
+}
 
 // What is sought: the pinwheels of a piece of one turn that cost so much.
 struct Sought {
@@ -178,7 +203,7 @@ fn lowest_wheel(costs: &[u32], s: Sought, j: Line) -> Wheel
 }
 
 // The first pinwheel of a piece that costs so much: of the first turn, else of the second.
-pub fn first_wheel(costs: &[u32], plan: Plan, piece: Piece, cost: u32) -> Wheel
+fn first_wheel(costs: &[u32], plan: Plan, piece: Piece, cost: u32) -> Wheel
     requires { ⌜ Turnable (now costs) plan piece cost ⌝ }
     ensures { λ w. ⌜ FirstWheel (now (costs .entry)) plan piece cost w ⌝ }
 {
@@ -201,4 +226,74 @@ pub fn first_wheel(costs: &[u32], plan: Plan, piece: Piece, cost: u32) -> Wheel
     };
     let j = first_j(costs, second);
     lowest_wheel(costs, second, j)
+}
+
+// The verdict of a piece by pinwheels too: as by straight cuts, and where no straight cut costs what the piece costs the first such pinwheel.
+pub fn judge(costs: &[u32], cells: &[u8], plan: Plan, p: Numbered) -> Turned
+    requires { ⌜ Judgeable Pinwheel (now costs) (now cells) plan p ⌝ }
+    ensures { λ v. ⌜ ((g : Grid) (r : Rule) → Costed Pinwheel g r (now (costs .entry)) (now (cells .entry)) plan → v ≡ verdictOf Pinwheel g r (meant (p .piece))) ⌝ }
+{
+    let piece = p.piece;
+    let entry = p.entry;
+    let cost = costs[entry];
+    if cost == 0 {
+        return Turned::Outside;
+    }
+    if all_inside(cells, piece) {
+        return Turned::Shot;
+    }
+    let a = piece.a;
+    let c = piece.c;
+    let upright = first_line(
+        costs,
+        Cuts {
+            last: plan.columns,
+            low: a,
+            high: c,
+            entry,
+            stride: plan.pairs,
+        },
+        cost,
+    );
+    let i = upright.line;
+    if i.0 < c.0 {
+        return Turned::Cut(
+            Numbered {
+                piece: Piece { c: i, ..piece },
+                entry: upright.lower,
+            },
+            Numbered {
+                piece: Piece { a: i, ..piece },
+                entry: upright.upper,
+            },
+        );
+    }
+    let b = piece.b;
+    let d = piece.d;
+    let level = first_line(
+        costs,
+        Cuts {
+            last: plan.rows,
+            low: b,
+            high: d,
+            entry: p.entry,
+            stride: 1,
+        },
+        cost,
+    );
+    let j = level.line;
+    if j.0 < d.0 {
+        return Turned::Cut(
+            Numbered {
+                piece: Piece { d: j, ..piece },
+                entry: level.lower,
+            },
+            Numbered {
+                piece: Piece { b: j, ..piece },
+                entry: level.upper,
+            },
+        );
+    }
+    let wheel = first_wheel(costs, plan, piece, cost);
+    Turned::Wheel(wheel)
 }

@@ -5,7 +5,7 @@
 use crate::progress::Progress;
 use crate::room::Room;
 use crate::Plan;
-use drawings::document::{B, EIGHT, FRAMED, L, NUMBERS, RINGS, ROWS, UNTURNED, WHEELS};
+use drawings::document::{B, EIGHT, FRAMED, L, NUMBERS, RINGS, ROWS, UNTURNED, W2, WHEELS};
 use drawings::seeded::Seeded;
 use drawings::{figures, outlines};
 use law::cutting::Fracture;
@@ -75,15 +75,13 @@ impl Case<'_> {
         (right, table, list)
     }
 
-    /// Compares the library with the law in the pinwheel mode; gives the law's answer, table and list.
+    /// Compares the library and the baseline by pinwheels with the law in the pinwheel mode; gives the law's answer, table and list.
     pub fn compare_pinwheel(&self, plan: &Plan, progress: &Progress, from: &dyn Fn() -> String) -> (Told, Room<u32>, Room<u16>) {
-        let (threshold, weight) = self.rule.unwrap_or(law::call::PRESETS[0]);
+        let (threshold, weight) = self.rule.unwrap_or(law::call::DEFAULT);
         let (mut table, mut list) = (Room::new(self.table), Room::new(self.list));
         let right = Law.fracture_pinwheel(self.drawing, threshold, weight, table.lent(), list.lent());
-        if let Some(library) = plan.library {
-            let (mut its_table, mut its_list) = (Room::new(self.table), Room::new(self.list));
-            let told = library.fracture_pinwheel(self.drawing, threshold, weight, its_table.lent(), its_list.lent());
-            let said = || format!("by pinwheels: {}\n  {:?}\n  rule {:?}, table {}, list {}", from(), self.drawing, self.rule, self.table.len(), self.list.len());
+        let check = |who: &str, told: Told, its_table: Room<u32>, its_list: Room<u16>| {
+            let said = || format!("{who} by pinwheels: {}\n  {:?}\n  rule {:?}, table {}, list {}", from(), self.drawing, self.rule, self.table.len(), self.list.len());
             assert!(told == right, "{}\n  answers {told:?} and not {right:?}", said());
             if let Some((at, right, wrong)) = table.differs(&its_table) {
                 panic!("{}\n  table at {at}: {wrong} and not {right}", said());
@@ -92,7 +90,15 @@ impl Case<'_> {
                 panic!("{}\n  list at {at}: {wrong} and not {right}", said());
             }
             progress.same();
+        };
+        if let Some(library) = plan.library {
+            let (mut its_table, mut its_list) = (Room::new(self.table), Room::new(self.list));
+            let told = library.fracture_pinwheel(self.drawing, threshold, weight, its_table.lent(), its_list.lent());
+            check("the library", told, its_table, its_list);
         }
+        let (mut its_table, mut its_list) = (Room::new(self.table), Room::new(self.list));
+        let told = lent::baseline_wheels(self.drawing, threshold, weight, its_table.lent(), its_list.lent());
+        check("the baseline", with_cuts(told, right), its_table, its_list);
         (right, table, list)
     }
 }
@@ -108,6 +114,8 @@ pub fn wheel_rows(plan: &Plan, progress: &Progress) {
             if wheels { case.compare_pinwheel(plan, progress, &from) } else { case.compare(plan, progress, &from) };
         let [shots, cost, sliver, ..] = told.numbers;
         assert_eq!((told.number, [shots, cost, sliver]), row.outcome, "{}", from());
+        // the cuts are the straight ones in either mode
+        assert_eq!(told.numbers[3], if told.number == 0 { Law.cuts(&drawing).numbers[0] } else { 0 }, "{}", from());
         assert_eq!(&list.held()[..row.list.len()], row.list, "{}", from());
     }
     progress.done(format!("pinwheels: {} rows", UNTURNED.len() + WHEELS.len()));
@@ -134,6 +142,7 @@ fn counted() -> Vec<(Drawing, u64)> {
         (two(&[0, 0, 10, 0, 10, 10, 0, 10, 50, 50, 60, 50, 60, 60, 50, 60]), 32),
         (Drawing::outline(&[0, 0, 100, 0, 100, 100, 0, 100]), 0),
         (stairs(), 104_888),
+        (Drawing::outline(&W2), 158),
     ]
 }
 

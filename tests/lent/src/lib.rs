@@ -24,6 +24,11 @@ extern "C" {
         table: *mut u32, table_len: usize, list: *mut u16, list_len: usize,
         shots: *mut u32, cost: *mut u32, sliver: *mut u32,
     ) -> u32;
+    fn baseline_wheels_fracture(
+        corners: *const u16, corners_len: usize, rings: *const u16, rings_len: usize, threshold: u32, weight: u32,
+        table: *mut u32, table_len: usize, list: *mut u16, list_len: usize,
+        shots: *mut u32, cost: *mut u32, sliver: *mut u32,
+    ) -> u32;
     fn baseline_widths_fracture(
         corners: *const u16, corners_len: usize, rings: *const u16, rings_len: usize, threshold: u32, weight: u32,
         table: *mut u32, table_len: usize, list: *mut u16, list_len: usize,
@@ -134,6 +139,11 @@ pub fn baseline(drawing: &Drawing, threshold: u32, weight: u32, table: &mut [u32
 /// One fracture by the baseline that weighs all strips of a width at once.
 pub fn baseline_widths(drawing: &Drawing, threshold: u32, weight: u32, table: &mut [u32], list: &mut [u16]) -> Told {
     fracture_by(baseline_widths_fracture, drawing, threshold, weight, table, list)
+}
+
+/// One fracture by the baseline that weighs pinwheels too.
+pub fn baseline_wheels(drawing: &Drawing, threshold: u32, weight: u32, table: &mut [u32], list: &mut [u16]) -> Told {
+    fracture_by(baseline_wheels_fracture, drawing, threshold, weight, table, list)
 }
 
 /// The proved library, if it is linked.

@@ -37,7 +37,6 @@ deliver-requires c κs =
     let s = f .before .before .before .before .before .before .before .before .before in
     let w = s .pre in
     record {
-      mode = Straight;
       grid = w .grid;
       rule = s .args .rule;
       walk = laid-walk Straight _ _ (w .laid) _ _ (laid-filled Straight _ _ (w .laid) _ _ (stored _ _ _ _ _) (w .laid .back) (f .fill .ensures)) (room (f .before .before .before .before)) _ (n .pair-count .ensures .0) (w .weight);
@@ -57,7 +56,7 @@ returns-2 c g w =
     let s = f .before .before .before .before .before .before .before .before .before in
     let e = laid-filled Straight g _ w _ _ (stored _ _ _ _ _) (w .back) (f .fill .ensures) in
     let k = room (f .before .before .before .before) in
-    gridded-delivered Straight g _ w _ _ e k _ _ _ (d .deliver .ensures Straight _ _ (laid-walk Straight g _ w _ _ e k _ (n .pair-count .ensures .0) (s .pre .weight)))
+    gridded-delivered Straight g _ w _ _ e k _ _ _ (d .deliver .ensures _ _ (laid-walk Straight g _ w _ _ e k _ (n .pair-count .ensures .0) (s .pre .weight)))
 
 pub fracture-grid-spec : {M : Type 1} → statement M
 fracture-grid-spec =

@@ -1,8 +1,10 @@
 -- `verdict::judge` meets its contract: each exit by one law of Judged. Assumes nothing.
 use native.Mathlib.Omega.{arith}
+use mathlib.Core.Path.{refl}
 use borrow.Author.Needs.{needs}
+use Rattle.piece.specs.declared.Mode.the-variants.{Straight}
 use Rattle.verdict.proofs.Search.{inside-said}
-use Rattle.verdict.proofs.Judged.{entry-within, verdict-outside, verdict-shot, weighable-x, weighable-y, verdict-vertical, verdict-horizontal, turnable, verdict-wheel}
+use Rattle.verdict.proofs.Judged.{entry-within, verdict-outside, verdict-shot, weighable-x, weighable-y, verdict-vertical, verdict-horizontal, level-found}
 use Rattle.verdict.proofs.judge.Statement.{statement}
 use Rattle.verdict.proofs.judge.Tie as tie
 
@@ -21,17 +23,17 @@ shared-slice-read-cost c =
     entry-within _ _ _ _ _ _ (s .pre .costed) (s .args .p .piece) (s .args .p .entry) (s .pre .known)
 
 returns : tie.Need-returns
-returns c mode g r f =
+returns c g r f =
     let s = c .before .before .before .before .before in
-    verdict-outside mode g r _ _ _ f (s .args .p .piece) (s .args .p .entry) (s .pre .known) (c .if1 .taken)
+    verdict-outside Straight g r _ _ _ f (s .args .p .piece) (s .args .p .entry) (s .pre .known) (c .if1 .taken)
 
 all-inside-requires : tie.Need-all-inside-requires
 all-inside-requires c κs = search needs
 
 returns-2 : tie.Need-returns-2
-returns-2 c mode g r f =
+returns-2 c g r f =
     let s = c .before .before .before .before .before .before .before in
-    verdict-shot mode g r _ _ _ f (s .args .p .piece) (s .args .p .entry) (s .pre .known)
+    verdict-shot Straight g r _ _ _ f (s .args .p .piece) (s .args .p .entry) (s .pre .known)
     (inside-said _ (s .args .p .piece) (c .if2 .taken) (c .before .all-inside .ensures))
 
 first-line-requires : tie.Need-first-line-requires
@@ -40,12 +42,12 @@ first-line-requires c κs =
     weighable-x _ _ _ _ _ _ (s .pre .costed) (s .args .p .piece) (s .args .p .entry) (s .pre .known)
 
 returns-3 : tie.Need-returns-3
-returns-3 c mode g r f =
+returns-3 c g r f =
     let t = c .before .before .before .before .before .before in
     let u = t .before .before .before .before in
     let k = u .before .before .before in
     let s = start k in
-    verdict-vertical mode g r _ _ _ f (s .args .p .piece) (s .args .p .entry) (s .pre .known) (k .before .before .if1 .left)
+    verdict-vertical Straight g r _ _ _ f (s .args .p .piece) (s .args .p .entry) (s .pre .known) (k .before .before .if1 .left)
     (inside-said _ (s .args .p .piece) (k .if2 .left) (k .before .all-inside .ensures))
     _
     (u .first-line .ensures)
@@ -57,56 +59,27 @@ first-line-requires-2 c κs =
     weighable-y _ _ _ _ _ _ (s .pre .costed) (s .args .p .piece) (s .args .p .entry) (s .pre .known)
 
 returns-4 : tie.Need-returns-4
-returns-4 c mode g r f =
-    let y = c .before .before .before .before .before .before in
-    let v = y .before .before .before .before in
+returns-4 c g r f =
+    let v = c .before .before .before .before .before .before .before in
     let t = v .before .before .before in
     let u = t .before .before .before .before in
     let k = u .before .before .before in
     let s = start k in
-    verdict-horizontal mode g r _ _ _ f (s .args .p .piece) (s .args .p .entry) (s .pre .known) (k .before .before .if1 .left)
+    verdict-horizontal Straight g r _ _ _ f (s .args .p .piece) (s .args .p .entry) (s .pre .known) (k .before .before .if1 .left)
     (inside-said _ (s .args .p .piece) (k .if2 .left) (k .before .all-inside .ensures))
     _
     (u .first-line .ensures)
     _
     (v .first-line2 .ensures)
     (t .if3 .left)
-    (y .if4 .taken)
-
-first-wheel-requires : tie.Need-first-wheel-requires
-first-wheel-requires c κs =
-    let v = c .before .before .before .before in
-    let t = v .before .before .before in
-    let u = t .before .before .before .before in
-    let k = u .before .before .before in
-    let s = start k in
-    turnable _ _ _ _ _ _ (s .pre .costed) (s .args .p .piece) (s .args .p .entry) (s .pre .known) (k .before .before .if1 .left)
+    (level-found Straight g r _ _ _ f (s .args .p .piece) (s .args .p .entry) (s .pre .known) (k .before .before .if1 .left)
     (inside-said _ (s .args .p .piece) (k .if2 .left) (k .before .all-inside .ensures))
     _
     (u .first-line .ensures)
     _
     (v .first-line2 .ensures)
-    (t .if3 .left)
-    (c .if4 .left)
-
-returns-5 : tie.Need-returns-5
-returns-5 c mode g r f =
-    let y = c .before in
-    let v = y .before .before .before .before in
-    let t = v .before .before .before in
-    let u = t .before .before .before .before in
-    let k = u .before .before .before in
-    let s = start k in
-    verdict-wheel mode g r _ _ _ f (s .args .p .piece) (s .args .p .entry) (s .pre .known) (k .before .before .if1 .left)
-    (inside-said _ (s .args .p .piece) (k .if2 .left) (k .before .all-inside .ensures))
-    _
-    (u .first-line .ensures)
-    _
-    (v .first-line2 .ensures)
-    (t .if3 .left)
-    (y .if4 .left)
-    _
-    (c .first-wheel .ensures)
+    refl
+    (t .if3 .left))
 
 pub judge-spec : {M : Type 1} → statement M
 judge-spec =
@@ -120,6 +93,4 @@ judge-spec =
     first-line-requires
     returns-3
     first-line-requires-2
-    returns-4
-    first-wheel-requires
-    returns-5)
+    returns-4)

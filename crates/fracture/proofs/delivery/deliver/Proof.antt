@@ -23,7 +23,7 @@ cast-t22 : tie.Need-cast-t22
 cast-t22 c =
     let f = c .before .before .before .before in
     let w = start f .pre in
-    let s = short-says _ _ _ (sym (c .before .room .given .1) ∙ c .before .before .before .room-for .ensures (w .mode) (w .grid) (w .rule) (w .walk)) in
+    let s = short-says _ _ _ (sym (c .before .room .given .1) ∙ c .before .before .before .room-for .ensures (w .grid) (w .rule) (w .walk)) in
     omega (arith, s .0, frame-few-shots _ _ _ _ _ _ _ _ (w .walk) _ (f .frame-of .ensures))
 
 enum-told : tie.Need-enum-told
@@ -34,7 +34,7 @@ emit-requires c κs =
     let f = c .before .before .before .before in
     let w = start f .pre in
     frame-emittable _ _ _ _ _ _ _ _ (w .walk) _ (f .frame-of .ensures)
-    (sym (c .before .enum-told .given .1) ∙ c .before .before .before .room-for .ensures (w .mode) (w .grid) (w .rule) (w .walk))
+    (sym (c .before .enum-told .given .1) ∙ c .before .before .before .room-for .ensures (w .grid) (w .rule) (w .walk))
 
 mul-cost : tie.Need-mul-cost
 mul-cost c =
@@ -51,11 +51,11 @@ slivers-requires c κs =
     let e = c .before .before .before .before .before .before .before in
     let f = e .before .before .before .before .before in
     let w = start f .pre in
-    let h = sym (e .before .before .enum-told .given .1) ∙ e .before .before .before .before .room-for .ensures (w .mode) (w .grid) (w .rule) (w .walk) in
+    let h = sym (e .before .before .enum-told .given .1) ∙ e .before .before .before .before .room-for .ensures (w .grid) (w .rule) (w .walk) in
     record {
       grid = w .grid;
       shots = _;
-      listed = frame-listed _ _ _ _ _ _ _ _ (w .walk) _ (f .frame-of .ensures) _ _ h (e .emit .ensures (w .mode) (w .grid) (w .rule) (w .walk));
+      listed = frame-listed _ _ _ _ _ _ _ _ (w .walk) _ (f .frame-of .ensures) _ _ h (e .emit .ensures (w .grid) (w .rule) (w .walk));
       cost = frame-charged _ _ _ _ _ _ _ _ (w .walk) _ (f .frame-of .ensures);
     }
 
@@ -73,24 +73,24 @@ cast-t27 c =
     let w = start f .pre in
     omega (
       arith,
-      count-written _ (e .emit .ensures (w .mode) (w .grid) (w .rule) (w .walk)),
+      count-written _ (e .emit .ensures (w .grid) (w .rule) (w .walk)),
       frame-few-shots _ _ _ _ _ _ _ _ (w .walk) _ (f .frame-of .ensures),
     )
 
 returns : tie.Need-returns
-returns c mode g r w =
+returns c g r w =
     told-lacking _ _ _ _ _ _ _ _ w _ (c .before .before .before .before .frame-of .ensures) _
-    (sym (c .before .room .given .1) ∙ c .before .before .before .room-for .ensures mode g r w)
+    (sym (c .before .room .given .1) ∙ c .before .before .before .room-for .ensures g r w)
 
 same-length : tie.Need-same-length
 same-length c = search needs
 
 returns-2 : tie.Need-returns-2
-returns-2 c mode g r w =
+returns-2 c g r w =
     let e = c .before .before .before .before .before .before .before .before .before in
     let f = e .before .before .before .before .before in
-    let h = sym (e .before .before .enum-told .given .1) ∙ e .before .before .before .before .room-for .ensures mode g r w in
-    let v = e .emit .ensures mode g r w in
+    let h = sym (e .before .before .enum-told .given .1) ∙ e .before .before .before .before .room-for .ensures g r w in
+    let v = e .emit .ensures g r w in
     told-listed _ _ _ _ _ _ _ _ w _ (f .frame-of .ensures) _ _ h v
     (c .before .slivers .ensures g _ (frame-listed _ _ _ _ _ _ _ _ w _ (f .frame-of .ensures) _ _ h v) (frame-charged _ _ _ _ _ _ _ _ w _ (f .frame-of .ensures)))
     (c .cuts .ensures g (walk-shaded _ _ _ _ _ _ (w .costed)))

@@ -12,7 +12,7 @@ mul-if1-2 : tie.Need-mul-if1-2
 mul-if1-2 c = omega (arith, area-few _ _ _ _ _ _ (c .before .before .pre .walk .costed))
 
 returns : tie.Need-returns
-returns c mode g r w = room-all mode g r _ _ _ (w .costed) _ (c .before .before .before .pre .known .valid) _ (c .if1 .taken)
+returns c g r w = room-all _ g r _ _ _ (w .costed) _ (c .before .before .before .pre .known .valid) _ (c .if1 .taken)
 
 slice-aggregate-emit : tie.Need-slice-aggregate-emit
 slice-aggregate-emit c = search needs
@@ -24,10 +24,10 @@ mul-if2 : tie.Need-mul-if2
 mul-if2 c = search needs
 
 returns-2 : tie.Need-returns-2
-returns-2 c mode g r w = room-short _ (count-written g (c .before .before .emit .ensures mode g r w)) (c .if2 .taken)
+returns-2 c g r w = room-short _ (count-written g (c .before .before .emit .ensures g r w)) (c .if2 .taken)
 
 returns-3 : tie.Need-returns-3
-returns-3 c mode g r w = room-fits _ (count-written g (c .before .before .emit .ensures mode g r w)) (c .if2 .left)
+returns-3 c g r w = room-fits _ (count-written g (c .before .before .emit .ensures g r w)) (c .if2 .left)
 
 pub room-for-spec : {M : Type 1} → statement M
 room-for-spec =

@@ -37,7 +37,6 @@ deliver-requires c κs =
     let s = f .before .before .before .before .before .before .before .before .before in
     let w = s .pre in
     record {
-      mode = Pinwheel;
       grid = w .grid;
       rule = s .args .rule;
       walk = laid-walk Pinwheel _ _ (w .laid) _ _ (laid-filled Pinwheel _ _ (w .laid) _ _ (stored _ _ _ _ _) (w .laid .back) (f .fill .ensures)) (room (f .before .before .before .before)) _ (n .pair-count .ensures .0) (w .weight);
@@ -57,7 +56,7 @@ returns-2 c g w =
     let s = f .before .before .before .before .before .before .before .before .before in
     let e = laid-filled Pinwheel g _ w _ _ (stored _ _ _ _ _) (w .back) (f .fill .ensures) in
     let k = room (f .before .before .before .before) in
-    gridded-delivered Pinwheel g _ w _ _ e k _ _ _ (d .deliver .ensures Pinwheel _ _ (laid-walk Pinwheel g _ w _ _ e k _ (n .pair-count .ensures .0) (s .pre .weight)))
+    gridded-delivered Pinwheel g _ w _ _ e k _ _ _ (d .deliver .ensures _ _ (laid-walk Pinwheel g _ w _ _ e k _ (n .pair-count .ensures .0) (s .pre .weight)))
 
 pub fracture-grid-spec : {M : Type 1} → statement M
 fracture-grid-spec =
