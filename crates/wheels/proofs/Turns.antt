@@ -4,7 +4,7 @@
 --   first-turning, second-turning, first-fitting, second-fitting
 --                                    == the arms of the two turns; their pinwheels fit
 --   both-more                        == the pinwheels of both turns, one more line m
---   pairs-end, line-end, wheels-end  == all lines m, k, and all lines of the lower arms
+--   pairs-end, line-end, wheels-halves   == all lines m, k, and all lines of the lower arms
 use Prim.Native.Nat.{ℕ, _+_, _≤_, _<_}
 use mathlib.Core.Logic.{inl, inr}
 use mathlib.Core.List.{List}
@@ -12,7 +12,7 @@ use native.Mathlib.Omega.{arith}
 use Rattle.wheels.specs.declared.lanes.Strips.{Strips}
 use Rattle.wheels.specs.declared.lanes.Arms.{Arms}
 use Rattle.wheels.specs.Wheel.{Weighed, Among, wheelsFrom, endsAt, turned, firstArms, secondArms, bothTurns, fromTo, ofLine, wheeled, Turning, Fitting, FitsAt, AllFit}
-use Rattle.wheels.proofs.Weighed.{weighed-none, weighed-then, among-more, among-end}
+use Rattle.wheels.proofs.Weighed.{weighed-none, weighed-then, among-more, among-end, among-halves}
 
 pub turned-none : (store side : List ℕ) (s : Strips) (arms : Arms) → arms .before ≤ arms .after + 1 → Weighed (s .count) (turned store s arms) side side
 unfolding turned endsAt Among wheelsFrom
@@ -83,10 +83,12 @@ pub line-end : (store side low : List ℕ) (s : Strips) (line k : ℕ) → k ≤
 unfolding ofLine
 line-end store side low s line k h z w = among-end (s .count) 1 k (s .rows) (fromTo store s line) side low h z w
 
-pub wheels-end : (store side low : List ℕ) (s : Strips) (line : ℕ) → line ≤ s .width → s .width ≤ line
-    → Weighed (s .count) (Among 1 line (ofLine store s)) side low → Weighed (s .count) (wheeled store s) side low
+-- the lines of the lower arms below a middle one, and then the others
+pub wheels-halves : (store side mid low : List ℕ) (s : Strips) (m : ℕ) → 1 ≤ m → m ≤ s .width
+    → Weighed (s .count) (Among 1 m (ofLine store s)) side mid → Weighed (s .count) (Among m (s .width) (ofLine store s)) mid low
+    → Weighed (s .count) (wheeled store s) side low
 unfolding wheeled
-wheels-end store side low s line h z w = among-end (s .count) 1 line (s .width) (ofLine store s) side low h z w
+wheels-halves store side mid low s m h k a b = among-halves (s .count) 1 m (s .width) (ofLine store s) side mid low h k a b
 
 pub first-fitting : (store : List ℕ) (s : Strips) (line k m : ℕ) → 0 < line → line < s .width → 0 < k → k < m → m < s .rows → AllFit store s → Fitting store s (firstArms s line k m)
 unfolding AllFit

@@ -2,6 +2,7 @@
 --
 --   weighed-none, weighed-as, weighed-then  == nothing weighed; the same things weighed, said otherwise; one step after another
 --   among-none, among-more, among-end       == a loop: no line yet, one line more, the end
+--   among-halves                            == the lines of two runs, one behind the other
 --   weighed-lower                           == one piece lowered in each lane
 --   weighed-least                           == sums with the least of several rests weigh what the sums with each rest weigh
 use Prim.Native.Nat.{ℕ, _+_, _*_, _-_, _≤_, _<_}
@@ -59,6 +60,23 @@ among-more n lo j S t u w h p q = weighed-as n (λ e a v. Among lo j S e a v ⊎
 
 pub among-end : (n lo j hi : ℕ) (S : ℕ → ℕ → ℕ → ℕ → Type 0) (t u : List ℕ) → j ≤ hi → hi ≤ j → Weighed n (Among lo j S) t u → Weighed n (Among lo hi S) t u
 among-end n lo j hi S t u h k w = subst (λ i. Weighed n (Among lo i S) t u) (omega arith) w
+
+-- the lines from lo up to mid, and then those up to hi
+pub among-halves : (n lo mid hi : ℕ) (S : ℕ → ℕ → ℕ → ℕ → Type 0) (t u w : List ℕ) → lo ≤ mid → mid ≤ hi
+    → Weighed n (Among lo mid S) t u → Weighed n (Among mid hi S) u w → Weighed n (Among lo hi S) t w
+unfolding Among
+among-halves n lo mid hi S t u w h k p q =
+    weighed-as n (λ e a v. Among lo mid S e a v ⊎ Among mid hi S e a v) (Among lo hi S) t w to from (weighed-then n (Among lo mid S) (Among mid hi S) t u w p q)
+  where
+    to : (e a v : ℕ) → a < n → Among lo mid S e a v ⊎ Among mid hi S e a v → Among lo hi S e a v
+    to e a v i (inl z) = (z .0, z .1, omega (arith, z .2), z .3)
+    to e a v i (inr z) = (z .0, omega (arith, z .1), z .2, z .3)
+
+    from : (e a v : ℕ) → a < n → Among lo hi S e a v → Among lo mid S e a v ⊎ Among mid hi S e a v
+    from e a v i s = elim (le-or mid (s .0)) [
+      | inl z ↦ inr (s .0, z, s .2, s .3)
+      | inr z ↦ inl (s .0, s .1, z, s .3)
+    ]
 
 -- one piece lowered in each lane
 pub weighed-lower : (n lanes at p : ℕ) (sums t u : List ℕ) → n ≤ lanes → lanes ≤ 16 → at ≡ 16 * p

@@ -4,9 +4,9 @@ use crate::lanes;
 use crate::lanes::Arms;
 use crate::lanes::Strips;
 ghost use mathlib.Core.Path.{_≡_};
-ghost use Prim.Native.Nat.{_+_, _<_};
+ghost use Prim.Native.Nat.{_<_, _≤_};
 ghost use lib.ListN.{length};
-ghost use Rattle.wheels.specs.Wheel.{Weighed, Ground, Turning, Fitting, turned, fromTo, ofLine, wheeled, AllFit};
+ghost use Rattle.wheels.specs.Wheel.{Weighed, Among, Ground, Turning, Fitting, turned, fromTo, ofLine, wheeled, AllFit};
 
 // The pinwheels with these arms, whatever their high line; none where there is no other line.
 fn weigh_turn(side: &mut [u32], store: &[u32], s: Strips, arms: Arms)
@@ -70,15 +70,30 @@ fn weigh_line(side: &mut [u32], store: &[u32], s: Strips, line: usize)
     }
 }
 
-// All pinwheels: each piece keeps the least of what it has and of what its pinwheels of either turn cost.
+// The pinwheels whose lower arms meet at one of the x lines from `first` up to `end`.
+fn weigh_lines(side: &mut [u32], store: &[u32], s: Strips, first: usize, end: usize)
+    requires { ⌜ Ground s (now store) × ((length (now side) ≡ 1920) × ((0 < first) × ((first ≤ end) × (end ≤ s .width)))) ⌝ }
+    requires { ⌜ AllFit (now store) s ⌝ }
+    ensures { λ _. ⌜ Weighed (s .count) (Among first end (ofLine (now (store .entry)) s)) (now (side .entry)) (now (side .exit)) ⌝ }
+{
+    let mut line = first;
+    while line < end {
+        weigh_line(side, store, s, line);
+        line += 1;
+    }
+}
+
+// All pinwheels: each piece keeps the least of what it has and of what its pinwheels of either turn cost. The lines are weighed in two
+// halves: what has two callers the compiler does not put in place, and in the loop over widths it would take registers from the steps of
+// straight cuts.
 pub fn weigh_wheels(side: &mut [u32], store: &[u32], s: Strips)
     requires { ⌜ Ground s (now store) × (length (now side) ≡ 1920) ⌝ }
     requires { ⌜ AllFit (now store) s ⌝ }
     ensures { λ _. ⌜ Weighed (s .count) (wheeled (now (store .entry)) s) (now (side .entry)) (now (side .exit)) ⌝ }
 {
-    let mut line: usize = 1;
-    while line < s.width {
-        weigh_line(side, store, s, line);
-        line += 1;
-    }
+    let end = s.width;
+    let half = end / 2;
+    let middle = half + 1;
+    weigh_lines(side, store, s, 1, middle);
+    weigh_lines(side, store, s, middle, end);
 }

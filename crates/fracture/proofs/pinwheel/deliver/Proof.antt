@@ -64,7 +64,7 @@ cuts-requires c κs =
     let e = c .before .before .before .before .before .before .before .before in
     let f = e .before .before .before .before .before in
     let w = start f .pre in
-    record { grid = w .grid; shaded = walk-shaded _ _ _ _ _ (w .walk .costed) }
+    record { grid = w .grid; shaded = walk-shaded _ _ _ _ _ _ (w .walk .costed) }
 
 cast-t27 : tie.Need-cast-t27
 cast-t27 c =
