@@ -16,7 +16,7 @@
 --   divided-unique       == two outcomes that are what was promised are equal
 -- The list
 --   reported-is          == the reported shots are those before division, each replaced by its parts, in their order (Division: parts-at,
---                           neighbours; Evenly: count-fewest, step-two)
+--                           neighbours; Evenly: count-fewest, steps-even)
 --   shots-fit            == no side of a reported shot is longer than m, and each has area
 --   cover; shots-inside, shots-apart, shots-cover   == each unit square is in exactly one reported shot if it is inside, and in none if not
 --   these-shots          == count, sliver length and cost, worked out anew from the four numbers of each reported shot, at unit squares

@@ -4,8 +4,8 @@
 --   count-fewest                       == whoever divides the side into parts of at most m has no fewer
 --   count-one                          == a side that is not longer than m is one part
 --   start-first, start-last, start-up  == from the low end to the high end, rising
---   step-two                           == each part is side / n long, or one more while it is one of the first side % n: so they differ by at
---                                         most 1 nm, the longer ones first
+--   step-two                           == each part is side / n long, or one more while it is one of the first side % n
+--   steps-even                         == an earlier part is no shorter than a later one, and at most 1 nm longer
 --   step-most                          == none is longer than m
 --   step-some                          == none is empty
 --   step-wide                          == where the side is longer than m, and m twice t or more, none is shorter than t
@@ -72,6 +72,21 @@ module _ (side n : ℕ) (some : 0 < n) where
   step-two i = elim (le-or (side % n) i) [
     | inl q ↦ inr (q, omega arith)
     | inr q ↦ inl (q, omega arith)
+  ]
+
+  -- an earlier part is no shorter than a later one, and at most 1 nm longer
+  pub steps-even : (i j : ℕ) → i ≤ j
+      → (start side n (suc j) - start side n j ≤ start side n (suc i) - start side n i)
+      × (start side n (suc i) - start side n i ≤ (start side n (suc j) - start side n j) + 1)
+  steps-even i j h = elim (step-two i) [
+    | inl p ↦ elim (step-two j) [
+      | inl q ↦ (omega (arith, p .1, q .1), omega (arith, p .1, q .1))
+      | inr q ↦ (omega (arith, p .1, q .1), omega (arith, p .1, q .1))
+    ]
+    | inr p ↦ elim (step-two j) [
+      | inl q ↦ absurd (omega (arith, p .0, q .0))
+      | inr q ↦ (omega (arith, p .1, q .1), omega (arith, p .1, q .1))
+    ]
   ]
 
   pub start-up : (i : ℕ) → start side n i ≤ start side n (suc i)

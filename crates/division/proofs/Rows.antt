@@ -18,7 +18,7 @@ use Rattle.shot.specs.Bad.{shotOf}
 use Rattle.shot.proofs.Shot.{numbers-length}
 use Rattle.piece.specs.declared.Mode.the-variants.{Straight}
 use Rattle.piece.specs.Cuts.{run}
-use Rattle.demands.specs.Promise.{Asked, Outcome, outcome}
+use Rattle.demands.specs.Promise.{Asked, Outcome, written, outcome}
 use Rattle.demands.specs.Demands.{reported}
 use Rattle.demands.specs.Rows.{B, Says}
 use Rattle.demands.proofs.Outcome.{written-front}
@@ -74,7 +74,7 @@ nose-listed ask m l mode of t w room fits good e =
       ap (λ (o : Outcome). o .cost) q ∙ omega (arith, ap length all, ap (λ v. ask .weight * v) (b .1)),
       ap (λ (o : Outcome). o .sliver) q ∙ b .1,
       ap (λ (o : Outcome). take (4 * length l) (o .list)) q
-          ∙ ap (λ (n : ℕ). take n _) (sym (numbers-length l) ∙ ap (λ l. length (numbers l)) (sym all))
+          ∙ ap (λ (n : ℕ). take n (written (numbers (join (divided m) (reported (outcome (aside ask))))) (ask .list))) (sym (numbers-length l) ∙ ap (λ l. length (numbers l)) (sym all))
           ∙ written-front (numbers (join (divided m) (reported (outcome (aside ask))))) (ask .list)
           ∙ ap numbers all,
     )
