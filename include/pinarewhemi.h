@@ -67,6 +67,7 @@ enum pw_refusal {
                            bytes after ENDEL */
   PW_NOT_CLOSED = 17,   /* last point unlike the first */
   PW_EXTENT = 18,       /* extent above 65535 */
+  PW_LARGEST = 19,      /* largest side below 200, below twice the threshold, or above 65535 */
   PW_SHOT_LIST = 21,    /* a shot list whose length is no multiple of four, or a shot whose high x or y is not
                            above its low one */
   PW_NO_EDGE = 23       /* edge asked for, not below the number of corners */
@@ -82,7 +83,8 @@ enum pw_room {
   PW_OUTLINE_BYTES = 202,    /* 0, R, 8 times V, and 64 coordinates of 3 bytes */
   PW_JOB_BYTES = 4096,
   PW_CUTS_MOST = 134400,     /* 16 lines each way */
-  PW_EDGE_NUMBERS = 60       /* 15 runs of 4 numbers: enough for the list of any fracture without a largest side */
+  PW_EDGE_NUMBERS = 60,      /* 15 runs of 4 numbers: enough for the list of any fracture without a largest side */
+  PW_DIVIDED_NUMBERS = 467856 /* 116964 shots of 4 numbers: enough for every figure and every largest side */
 };
 
 /* The rule of a preset, 0 to 3. Refuses: PW_NO_PRESET. */
@@ -108,6 +110,33 @@ uint32_t pw_fracture_default(const uint16_t *corners, size_t corners_len, const 
 /* How many cuts the fracture of the figure will weigh, by any rule: what pw_fracture then reports. No table is
  * needed. Refuses: PW_LENGTH to PW_EMPTY. */
 uint32_t pw_cuts(const uint16_t *corners, size_t corners_len, const uint16_t *rings, size_t rings_len, uint32_t *cuts);
+
+/* The same as pw_fracture, but a piece may also be cut in the manner of a pinwheel: four arms around an
+ * inner piece, in either turn. Of cuts that cost the same a straight one is made. The cost, and every
+ * entry of the table, is never above that of pw_fracture; cuts is the number that pw_fracture reports.
+ * Refuses as pw_fracture; PW_LIST_SHORT by the shots of this mode. */
+uint32_t pw_fracture_pinwheel(const uint16_t *corners, size_t corners_len, const uint16_t *rings, size_t rings_len,
+                     uint32_t threshold, uint32_t weight,
+                     uint32_t *table, size_t table_len, uint16_t *list, size_t list_len,
+                     uint32_t *shots, uint32_t *cost, uint32_t *sliver, uint32_t *cuts);
+
+/* The same as pw_fracture, and then each shot is divided for a writer that cannot expose beyond a side of
+ * largest nm: a side that is longer into the fewest parts that fit, differing by at most 1 nm, longer ones
+ * first; the parts of a shot stand in its place in the list, rows from the bottom, left to right in a row.
+ * A dividing line is not exposed: sliver is what it is without largest, and so are cuts and the table,
+ * whose entries are costs before division. shots counts the divided shots, and cost is 1000 x shots +
+ * weight x sliver. There may be more than 65535 shots; PW_DIVIDED_NUMBERS are enough for every figure.
+ * Refuses: PW_RULE, PW_LARGEST, then PW_LENGTH to PW_LIST_SHORT, the last by the divided shots. */
+uint32_t pw_fracture_divided(const uint16_t *corners, size_t corners_len, const uint16_t *rings, size_t rings_len,
+                     uint32_t threshold, uint32_t weight, uint32_t largest,
+                     uint32_t *table, size_t table_len, uint16_t *list, size_t list_len,
+                     uint32_t *shots, uint32_t *cost, uint32_t *sliver, uint32_t *cuts);
+
+/* The same by pinwheels too: pw_fracture_pinwheel, and then each shot divided. */
+uint32_t pw_fracture_pinwheel_divided(const uint16_t *corners, size_t corners_len, const uint16_t *rings, size_t rings_len,
+                     uint32_t threshold, uint32_t weight, uint32_t largest,
+                     uint32_t *table, size_t table_len, uint16_t *list, size_t list_len,
+                     uint32_t *shots, uint32_t *cost, uint32_t *sliver, uint32_t *cuts);
 
 /* Reads the number that starts at bytes[at]: its value, of any range, and the place behind it.
  * Any at is allowed; past the end is bytes that end, and the offset is the length all the same.

@@ -112,18 +112,44 @@ static void expect(const char *what, uint64_t told) {
   }
 }
 
-static void fracture(int named) {
-  uint32_t threshold = named ? word() : 0, weight = named ? word() : 0;
+/* By a rule that is named, by the default rule, or by pinwheels. */
+enum manner { NAMED, DEFAULT, PINWHEEL };
+
+static void fracture(enum manner manner) {
+  uint32_t threshold = manner == DEFAULT ? 0 : word(), weight = manner == DEFAULT ? 0 : word();
   size_t corners_len = size(), rings_len = size(), table_len = size(), list_len = size();
   uint32_t mark = word();
   read_drawing(corners_len, rings_len);
   uint32_t shots = 77, cost = 77, sliver = 77, cuts = 77;
   uint32_t *table = lend_table(table_len, mark);
   uint16_t *list = lend_list(list_len, mark);
-  expect("fracture", named ? pw_fracture(corners, corners_len, rings, rings_len, threshold, weight,
-                                         table, table_len, list, list_len, &shots, &cost, &sliver, &cuts)
-                           : pw_fracture_default(corners, corners_len, rings, rings_len,
-                                                 table, table_len, list, list_len, &shots, &cost, &sliver, &cuts));
+  expect("fracture", manner == NAMED      ? pw_fracture(corners, corners_len, rings, rings_len, threshold, weight,
+                                                        table, table_len, list, list_len, &shots, &cost, &sliver, &cuts)
+                     : manner == PINWHEEL ? pw_fracture_pinwheel(corners, corners_len, rings, rings_len, threshold, weight,
+                                                                 table, table_len, list, list_len, &shots, &cost, &sliver, &cuts)
+                                          : pw_fracture_default(corners, corners_len, rings, rings_len,
+                                                                table, table_len, list, list_len, &shots, &cost, &sliver, &cuts));
+  expect("shots", shots);
+  expect("cost", cost);
+  expect("sliver", sliver);
+  expect("cuts", cuts);
+  expect("table", hash_table(table_len));
+  expect("list", hash_list(list_len));
+}
+
+/* The same by a rule that is named or by pinwheels, with a largest side. */
+static void divided(enum manner manner) {
+  uint32_t threshold = word(), weight = word(), largest = word();
+  size_t corners_len = size(), rings_len = size(), table_len = size(), list_len = size();
+  uint32_t mark = word();
+  read_drawing(corners_len, rings_len);
+  uint32_t shots = 77, cost = 77, sliver = 77, cuts = 77;
+  uint32_t *table = lend_table(table_len, mark);
+  uint16_t *list = lend_list(list_len, mark);
+  expect("divided", manner == NAMED ? pw_fracture_divided(corners, corners_len, rings, rings_len, threshold, weight, largest,
+                                                          table, table_len, list, list_len, &shots, &cost, &sliver, &cuts)
+                                    : pw_fracture_pinwheel_divided(corners, corners_len, rings, rings_len, threshold, weight, largest,
+                                                                   table, table_len, list, list_len, &shots, &cost, &sliver, &cuts));
   expect("shots", shots);
   expect("cost", cost);
   expect("sliver", sliver);
@@ -275,8 +301,8 @@ int main(void) {
   while (!over) {
     switch (word()) {
     case 1: preset(); break;
-    case 2: fracture(1); break;
-    case 3: fracture(0); break;
+    case 2: fracture(NAMED); break;
+    case 3: fracture(DEFAULT); break;
     case 4: number(); break;
     case 5: job_check(); break;
     case 6: job_outline(); break;
@@ -289,6 +315,9 @@ int main(void) {
     case 30: join(); break;
     case 31: cuts_ahead(); break;
     case 23: edge_runs(); break;
+    case 32: fracture(PINWHEEL); break;
+    case 50: divided(NAMED); break;
+    case 51: divided(PINWHEEL); break;
     default:
       say("replay: the record is not whole\n");
       return 2;

@@ -2,7 +2,7 @@
 -- numbers lent, and the same in every lent slice. Assumes nothing.
 --
 --   preset-one                  == pw_preset
---   fracture-one                == pw_fracture, pw_fracture_default
+--   fracture-one                == pw_fracture, pw_fracture_default, pw_fracture_pinwheel, pw_fracture_divided, pw_fracture_pinwheel_divided
 --   cuts-one                    == pw_cuts
 --   number-one                  == pw_number
 --   check-one                   == pw_job_check

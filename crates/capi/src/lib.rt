@@ -25,7 +25,7 @@ ghost use mathlib.Core.List.{List};
 ghost use Prim.Native.Nat.{ℕ};
 ghost use Rattle.rule.specs.Rules.{presetTold};
 ghost use Rattle.figure.specs.Figure.{figure};
-ghost use Rattle.piece.specs.declared.Mode.the-variants.{Straight};
+ghost use Rattle.piece.specs.declared.Mode.the-variants.{Straight, Pinwheel};
 ghost use Rattle.demands.specs.Promise.{asked, outcome};
 ghost use Rattle.demands.specs.Cuts.{ahead};
 ghost use Rattle.fracture.specs.Told.{told, byDefault};
@@ -36,6 +36,7 @@ ghost use Rattle.join.specs.Join.{joinLent, Promise};
 ghost use Rattle.capi.specs.Lent.{presetLent, cutsLent, numberLent, numberSaid, checkLent, outlineLent, outlineSaid, unpackLent, writeLent, fractureLent, boundaryLent, plateLent, flashesOf, pairingNo};
 
 mod edges;
+mod divided;
 
 // The rule of a preset, or 15.
 #[no_mangle]
@@ -134,6 +135,26 @@ pub extern "C" fn pw_cuts(corners: &[u16], rings: &[u16], cuts: &mut u32) -> u32
         }
         Forecast::Refused(unfit) => refusal_no(unfit),
     }
+}
+
+// The same as `pw_fracture`, by pinwheels beside straight cuts.
+#[no_mangle]
+pub extern "C" fn pw_fracture_pinwheel(
+    corners: &[u16],
+    rings: &[u16],
+    threshold: u32,
+    weight: u32,
+    table: &mut [u32],
+    list: &mut [u16],
+    shots: &mut u32,
+    cost: &mut u32,
+    sliver: &mut u32,
+    cuts: &mut u32,
+) -> u32
+    ensures settled { λ r. ⌜ fractureLent r (now (shots .exit)) (now (cost .exit)) (now (sliver .exit)) (now (cuts .exit)) (now (table .exit)) (now (list .exit)) ≡ outcome (asked Pinwheel (now (corners .entry)) (now (rings .entry)) threshold weight (now (table .entry)) (now (list .entry))) ⌝ }
+{
+    let answer = fracture::fracture_pinwheel(corners, rings, threshold, weight, table, list);
+    lend(answer, shots, cost, sliver, cuts)
 }
 
 // The number at a place of the bytes and the place past it; or 8, 9, 10 and the offset.

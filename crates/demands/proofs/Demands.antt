@@ -50,6 +50,7 @@
 --   pinwheel-not-above   == of two accepted calls, all else equal but what is lent, the one with pinwheels costs no more than the one by
 --                           straight cuts alone
 --   pinwheel-entry-not-above  == and no entry is above that of the other
+--   pinwheel-cuts        == both report the same cuts: those are counted of straight cuts in either mode
 -- Bound and rows
 --   bound, bound-cost    == no table entry, and no reported cost, exceeds 2,097,345,000
 --   bound-parts          == nor do the entries of all parts of a cut together, the five of a pinwheel among them
@@ -99,6 +100,7 @@ use Rattle.demands.proofs.Refusals.{test, outcome-number, test-false, n
 use Rattle.demands.proofs.Square.{held-one, cover-squares}
 use Rattle.demands.proofs.Ways as ways
 use Rattle.demands.proofs.Figure.{figure-sound, figure-shows}
+use Rattle.demands.proofs.Counted.{cuts-same}
 use Rattle.demands.proofs.Accepted.{shown, sound, light, framed-piece, entry-at, front-table, measured, sliver-at, charge-at, parts-cost, chosen-first, recurrent, lined, framed}
 
 pub words-typed : (l ns : List ℕ) → ((i : ℕ) → Fits w16 (getD l i 0)) → Words (figure l ns)
@@ -392,6 +394,9 @@ module _ (ask : Asked) (table list : List ℕ) where
   unfolding drawn
   pinwheel-entry-not-above e f p v =
       omega (arith, entry-cost pinwheel e p v, entry-cost straight f p v, not-above (drawn ask) (ruleOf ask) p)
+
+  pub pinwheel-cuts : outcome pinwheel .number ≡ 0 → outcome straight .number ≡ 0 → outcome pinwheel .cuts ≡ outcome straight .cuts
+  pinwheel-cuts e f = cuts-same pinwheel straight refl e f
 
 -- Demand 1 once more: nothing in a lent buffer steers the outcome
 

@@ -9,6 +9,7 @@ pub mod Cuts
 pub mod General
 pub mod Counted
 pub mod CutRows
+pub mod Few
 pub mod Demands
 pub mod Room
 pub mod Rows

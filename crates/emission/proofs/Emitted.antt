@@ -8,37 +8,43 @@
 -- What a verdict says of the shots of a piece
 --   told-outside, told-shot              : none; the piece itself
 --   Halves, halves                       : the parts of a cut are smaller pieces of the grid, and their shots are the piece's
---   low-less, high-less, count-parts     : they have fewer cells, and the shots of both are as many as the piece's
---   emit-one, emit-low, emit-high        : what a shot and the parts of an emission ask
+--   Fifths, fifths                       : so are those of a pinwheel
+--   count-halves, count-fifths           : the shots of all parts are as many as the piece's
+--   emit-one, emit-part                  : what a shot and the parts of an emission ask
+--   written-fifths                       : the shots of five parts, one after the other
 --   count-cells, count-few, slivers-few  : how many shots, and how long their slivers, at most
 use Prim.Native.Nat.{ℕ, suc, _+_, _*_, _≤_, _<_}
 use mathlib.Core.Path.{_≡_, refl, ap, ap₂, sym, _∙_, subst}
-use mathlib.Core.List.{List, [], _∷_, _++_}
+use mathlib.Core.List.{List, [], _∷_, _++_, append-nil}
 use native.Mathlib.Omega.{arith}
 use lib.ListN.{length, getD, set, length-append}
 use lib.Seq.{sets}
-use Rattle.sum.specs.Sum.{sumOf, only}
+use Rattle.sum.specs.Sum.{sumOf, only, join}
 use Rattle.sum.proofs.Sum.{only-most}
 use Rattle.sum.proofs.Lists.{sumOf-ones, sumOf-le, All-imp, sets-append}
 use Rattle.recurrence.specs.Scheme.{Kind, outside, full, mixed}
 use Rattle.outline.specs.Grid.{Grid}
 use Rattle.rule.specs.declared.Rule.{Rule}
-use Rattle.piece.specs.declared.Mode.the-variants.{Straight}
+use Rattle.piece.specs.declared.Mode.{Mode}
+use Rattle.piece.specs.declared.Turn.{Turn}
+use Rattle.piece.specs.declared.Turn.the-variants.{First, Second}
 use Rattle.piece.specs.declared.Piece as stored
-use Rattle.piece.specs.Piece.{Piece, kind, cells, cellSum, sliver}
+use Rattle.piece.specs.Piece.{Piece, box, kind, cells, cellSum, sliver, leftPart, rightPart, lowerPart, upperPart}
 use Rattle.piece.specs.Meant.{meant}
-use Rattle.piece.specs.Cuts.{Cut, vertical, horizontal, wheel, CutOf, choice, shots, numbersOf}
+use Rattle.piece.specs.Cuts.{Cut, vertical, horizontal, wheel, parts, Inner, CutOf, choice, shots, numbersOf}
 use Rattle.piece.proofs.Cells.{sum-vertical, sum-horizontal, cells-some, sum-le}
-use Rattle.piece.proofs.Cuts.{straight-only, shots-outside, shots-full, shots-part, cover}
-use Rattle.piece.proofs.Choice.{choice-in, shots-vertical, shots-horizontal, numbers-one, numbers-none, numbers-append, numbers-length}
+use Rattle.piece.proofs.Cuts.{Part, sum-wheel, shots-outside, shots-full, shots-part, cover}
+use Rattle.piece.proofs.Choice.{choice-in, shots-choice, shots-vertical, shots-horizontal, numbers-one, numbers-none, numbers-append, numbers-length}
 use Rattle.piece.proofs.Bound.{count-most, slivers-most}
 use Rattle.table.specs.Entry.{Valid, entryOf}
 use Rattle.verdict.specs.declared.Plan.{Plan}
 use Rattle.verdict.specs.declared.Numbered.{Numbered}
-use Rattle.verdict.specs.declared.Verdict.{Verdict}
-use Rattle.verdict.specs.declared.Verdict.the-variants as verdict
-use Rattle.verdict.specs.Verdict.{verdictOf, numbered, lowPart, highPart}
+use Rattle.verdict.specs.declared.pinwheel.Wheel.{Wheel}
+use Rattle.verdict.specs.declared.pinwheel.Turned.{Turned}
+use Rattle.verdict.specs.declared.pinwheel.Turned.the-variants as verdict
+use Rattle.verdict.specs.Verdict.{verdictOf, numbered, partNo, wheelIn, made}
 use Rattle.verdict.specs.Memory.{Costed, Known}
+use Rattle.verdict.proofs.Hunting.{each-part}
 use Rattle.emission.specs.Emission.{InLists, Written, Walk, Emittable}
 
 -- What is written
@@ -56,12 +62,12 @@ module _ (g : Grid) where
   pub written-none : (u : List ℕ) (at : ℕ) → Written g u u at [] at
   written-none u at = record { behind = omega arith; list = ap (sets u at) (sym (numbers-none g)) }
 
-  pub written-one : (r : Rule) (t cs xs ys : List ℕ) (plan : Plan) → Walk g r t cs xs ys plan → (p : Piece)
+  pub written-one : (mode : Mode) (r : Rule) (t cs xs ys : List ℕ) (plan : Plan) → Walk mode g r t cs xs ys plan → (p : Piece)
       → Valid (plan .columns) (plan .rows) p
       → (u v : List ℕ) (at : ℕ) {n : ℕ}
       → (v ≡ sets u at (getD xs (p .a) 0 ∷ getD ys (p .b) 0 ∷ getD xs (p .c) 0 ∷ getD ys (p .d) 0 ∷ [])) × (n ≡ at + 4)
       → Written g u v at (p ∷ []) n
-  written-one r t cs xs ys plan w p q u v at e =
+  written-one mode r t cs xs ys plan w p q u v at e =
       let d = w .drawn in
       let f = w .costed in
       record {
@@ -95,128 +101,216 @@ module _ (g : Grid) where
 
 -- What a verdict says of the shots of a piece
 
-pub record Halves (g : Grid) (r : Rule) (plan : Plan) (p : Piece) (l h : Numbered) : Type 0 where
-  pub both : shots Straight g r p ≡ shots Straight g r (meant (l .piece)) ++ shots Straight g r (meant (h .piece))
-  pub low : Known plan l
-  pub high : Known plan h
-  pub less-low : cells (meant (l .piece)) < cells p
-  pub less-high : cells (meant (h .piece)) < cells p
+-- a part is a smaller piece of the grid
+pub record Smaller (plan : Plan) (p : Piece) (q : Numbered) : Type 0 where
+  pub known : Known plan q
+  pub less : cells (meant (q .piece)) < cells p
 
-module _ (g : Grid) (r : Rule) (p : Piece) where
-  by-kind : Kind → Verdict
-  by-kind k = elim k [
-    | outside ↦ verdict.Outside
-    | full ↦ verdict.Shot
-    | mixed ↦ verdict.Cut (numbered g (lowPart p (choice Straight g r p))) (numbered g (highPart p (choice Straight g r p)))
-  ]
+pub record Halves (mode : Mode) (g : Grid) (r : Rule) (plan : Plan) (p : Piece) (l h : Numbered) : Type 0 where
+  pub both : shots mode g r p ≡ shots mode g r (meant (l .piece)) ++ shots mode g r (meant (h .piece))
+  pub low : Smaller plan p l
+  pub high : Smaller plan p h
 
-  opened : verdictOf g r p ≡ by-kind (kind g p)
+pub record Fifths (mode : Mode) (g : Grid) (r : Rule) (plan : Plan) (p : Piece) (w : Wheel) : Type 0 where
+  pub all : shots mode g r p
+      ≡ shots mode g r (meant (w .first .piece))
+      ++ (shots mode g r (meant (w .second .piece))
+      ++ (shots mode g r (meant (w .third .piece)) ++ (shots mode g r (meant (w .fourth .piece)) ++ shots mode g r (meant (w .inner .piece)))))
+  pub first : Smaller plan p (w .first)
+  pub second : Smaller plan p (w .second)
+  pub third : Smaller plan p (w .third)
+  pub fourth : Smaller plan p (w .fourth)
+  pub inner : Smaller plan p (w .inner)
+
+module _ (mode : Mode) (g : Grid) (r : Rule) (p : Piece) where
+  by-kind : Kind → Turned
+  by-kind k = elim k [ outside ↦ verdict.Outside | full ↦ verdict.Shot | mixed ↦ made g p (choice mode g r p) ]
+
+  opened : verdictOf mode g r p ≡ by-kind (kind g p)
   unfolding verdictOf by-kind
   opened = refl
 
-  pub told-outside : verdict.Outside ≡ verdictOf g r p → shots Straight g r p ≡ []
+  -- a cut is neither nothing nor a shot
+  not-outside : (c : Cut) → verdict.Outside ≡ made g p c → ⊥
+  not-outside (vertical j) e = (let z : _≡_ {A = ℕ} 0 1 = cc in omega arith)
+  not-outside (horizontal j) e = (let z : _≡_ {A = ℕ} 0 1 = cc in omega arith)
+  not-outside (wheel t j l k m) e = (let z : _≡_ {A = ℕ} 0 1 = cc in omega arith)
+
+  not-shot : (c : Cut) → verdict.Shot ≡ made g p c → ⊥
+  not-shot (vertical j) e = (let z : _≡_ {A = ℕ} 0 1 = cc in omega arith)
+  not-shot (horizontal j) e = (let z : _≡_ {A = ℕ} 0 1 = cc in omega arith)
+  not-shot (wheel t j l k m) e = (let z : _≡_ {A = ℕ} 0 1 = cc in omega arith)
+
+  pub told-outside : verdict.Outside ≡ verdictOf mode g r p → shots mode g r p ≡ []
   unfolding by-kind
   told-outside e = go (kind g p) refl (e ∙ opened)
     where
-      go : (k : Kind) → kind g p ≡ k → verdict.Outside ≡ by-kind k → shots Straight g r p ≡ []
-      go outside h e = shots-outside Straight g r p h
+      go : (k : Kind) → kind g p ≡ k → verdict.Outside ≡ by-kind k → shots mode g r p ≡ []
+      go outside h e = shots-outside mode g r p h
       go full h e = cc
-      go mixed h e = cc
+      go mixed h e = absurd (not-outside (choice mode g r p) e)
 
-  pub told-shot : verdict.Shot ≡ verdictOf g r p → shots Straight g r p ≡ p ∷ []
+  pub told-shot : verdict.Shot ≡ verdictOf mode g r p → shots mode g r p ≡ p ∷ []
   unfolding by-kind
   told-shot e = go (kind g p) refl (e ∙ opened)
     where
-      go : (k : Kind) → kind g p ≡ k → verdict.Shot ≡ by-kind k → shots Straight g r p ≡ p ∷ []
+      go : (k : Kind) → kind g p ≡ k → verdict.Shot ≡ by-kind k → shots mode g r p ≡ p ∷ []
       go outside h e = cc
-      go full h e = shots-full Straight g r p h
-      go mixed h e = cc
+      go full h e = shots-full mode g r p h
+      go mixed h e = absurd (not-shot (choice mode g r p) e)
 
-  told-cut : (l h : Numbered) → verdict.Cut l h ≡ verdictOf g r p
-      → (kind g p ≡ mixed) × (l ≡ numbered g (lowPart p (choice Straight g r p))) × (h ≡ numbered g (highPart p (choice Straight g r p)))
+  -- a cut and a pinwheel are what the choice makes of a mixed piece
+  told-cut : (l h : Numbered) → verdict.Cut l h ≡ verdictOf mode g r p → (kind g p ≡ mixed) × (verdict.Cut l h ≡ made g p (choice mode g r p))
   unfolding by-kind
   told-cut l h e = go (kind g p) refl (e ∙ opened)
     where
-      go : (t : Kind) → kind g p ≡ t → verdict.Cut l h ≡ by-kind t
-          → (kind g p ≡ mixed) × (l ≡ numbered g (lowPart p (choice Straight g r p))) × (h ≡ numbered g (highPart p (choice Straight g r p)))
-      go outside q e = ((let z : _≡_ {A = ℕ} 0 1 = cc in absurd (omega arith)), cc, cc)
-      go full q e = ((let z : _≡_ {A = ℕ} 0 1 = cc in absurd (omega arith)), cc, cc)
-      go mixed q e = (q, cc, cc)
+      go : (t : Kind) → kind g p ≡ t → verdict.Cut l h ≡ by-kind t → (kind g p ≡ mixed) × (verdict.Cut l h ≡ made g p (choice mode g r p))
+      go outside q e = (let z : _≡_ {A = ℕ} 0 1 = cc in absurd (omega arith))
+      go full q e = (let z : _≡_ {A = ℕ} 0 1 = cc in absurd (omega arith))
+      go mixed q e = (q, e)
 
-module _ (g : Grid) (r : Rule) (t cs : List ℕ) (plan : Plan) (f : Costed g r t cs plan) (p : Piece)
+  told-wheel : (w : Wheel) → verdict.Wheel w ≡ verdictOf mode g r p → (kind g p ≡ mixed) × (verdict.Wheel w ≡ made g p (choice mode g r p))
+  unfolding by-kind
+  told-wheel w e = go (kind g p) refl (e ∙ opened)
+    where
+      go : (t : Kind) → kind g p ≡ t → verdict.Wheel w ≡ by-kind t → (kind g p ≡ mixed) × (verdict.Wheel w ≡ made g p (choice mode g r p))
+      go outside q e = (let z : _≡_ {A = ℕ} 0 1 = cc in absurd (omega arith))
+      go full q e = (let z : _≡_ {A = ℕ} 0 1 = cc in absurd (omega arith))
+      go mixed q e = (q, e)
+
+-- the cells and the shots of a pinwheel are those of its parts
+module _ (p : Piece) where
+  shared : (u : Turn) (j l k n : ℕ) → Inner p j l k n
+      → cells p
+      ≡ cells (partNo p (wheel u j l k n) 0)
+      + cells (partNo p (wheel u j l k n) 1)
+      + cells (partNo p (wheel u j l k n) 2)
+      + cells (partNo p (wheel u j l k n) 3)
+      + cells (partNo p (wheel u j l k n) 4)
+  unfolding cells partNo parts sumOf
+  shared First j l k n w = omega (arith, sum-wheel (λ i j. 1) p First j l k n w)
+  shared Second j l k n w = omega (arith, sum-wheel (λ i j. 1) p Second j l k n w)
+
+  joined : (f : Piece → List Piece) (u : Turn) (j l k n : ℕ)
+      → join f (parts p (wheel u j l k n))
+      ≡ f (partNo p (wheel u j l k n) 0)
+      ++ (f (partNo p (wheel u j l k n) 1)
+      ++ (f (partNo p (wheel u j l k n) 2) ++ (f (partNo p (wheel u j l k n) 3) ++ f (partNo p (wheel u j l k n) 4))))
+  unfolding join partNo parts
+  joined f First j l k n =
+      ap (λ x. f (box (p .a) l (p .b) k) ++ (f (box l (p .c) (p .b) n) ++ (f (box (p .a) j k (p .d)) ++ (f (box j (p .c) n (p .d)) ++ x)))) (append-nil (f (box j l k n)))
+  joined f Second j l k n =
+      ap (λ x. f (box (p .a) j (p .b) n) ++ (f (box j (p .c) (p .b) k) ++ (f (box (p .a) l n (p .d)) ++ (f (box l (p .c) k (p .d)) ++ x)))) (append-nil (f (box j l k n)))
+
+module _ (mode : Mode) (g : Grid) (r : Rule) (t cs : List ℕ) (plan : Plan) (f : Costed mode g r t cs plan) (p : Piece)
     (v : Valid (plan .columns) (plan .rows) p) where
   -- a piece of the grid has its entry by the plan's size too
   known : (q : Piece) → Valid (plan .columns) (plan .rows) q → Known plan (numbered g q)
   known q w = record { valid = w; entry = sym (ap₂ (λ x y. entryOf x y q) (f .columns) (f .rows)) }
 
-  cut-halves : (c : Cut) → choice Straight g r p ≡ c → CutOf Straight p c → kind g p ≡ mixed
-      → Halves g r plan p (numbered g (lowPart p c)) (numbered g (highPart p c))
+  cut-halves : (c : Cut) → choice mode g r p ≡ c → CutOf mode p c → kind g p ≡ mixed → (l h : Numbered) → verdict.Cut l h ≡ made g p c
+      → Halves mode g r plan p l h
   unfolding cells
-  cut-halves (vertical j) c i m =
-      let low : Valid (plan .columns) (plan .rows) (lowPart p (vertical j)) =
-      record { ac = i .0; cx = omega (arith, v .cx, i .1); bd = v .bd; dy = v .dy } in
-      let high : Valid (plan .columns) (plan .rows) (highPart p (vertical j)) =
-      record { ac = i .1; cx = v .cx; bd = v .bd; dy = v .dy } in
+  cut-halves (vertical j) c i m l h e =
+      let low : Valid (plan .columns) (plan .rows) (leftPart p j) = record { ac = i .0; cx = omega (arith, v .cx, i .1); bd = v .bd; dy = v .dy } in
+      let high : Valid (plan .columns) (plan .rows) (rightPart p j) = record { ac = i .1; cx = v .cx; bd = v .bd; dy = v .dy } in
       let s = sum-vertical (λ i j. 1) p j (omega (arith, i .0)) (omega (arith, i .1)) in
-      let a = cells-some (lowPart p (vertical j)) (low .ac) (low .bd) in
-      let b = cells-some (highPart p (vertical j)) (high .ac) (high .bd) in
-      record {
-        both = shots-vertical Straight g r p m j c;
-        low = known (lowPart p (vertical j)) low;
-        high = known (highPart p (vertical j)) high;
-        less-low = omega arith;
-        less-high = omega arith;
-      }
-  cut-halves (horizontal j) c i m =
-      let low : Valid (plan .columns) (plan .rows) (lowPart p (horizontal j)) =
-      record { ac = v .ac; cx = v .cx; bd = i .0; dy = omega (arith, v .dy, i .1) } in
-      let high : Valid (plan .columns) (plan .rows) (highPart p (horizontal j)) =
-      record { ac = v .ac; cx = v .cx; bd = i .1; dy = v .dy } in
+      let a = cells-some (leftPart p j) (low .ac) (low .bd) in
+      let b = cells-some (rightPart p j) (high .ac) (high .bd) in
+      let el : l ≡ numbered g (leftPart p j) = cc in
+      let eh : h ≡ numbered g (rightPart p j) = cc in
+      subst (λ x. Halves mode g r plan p x h) (sym el)
+      (subst (λ y. Halves mode g r plan p (numbered g (leftPart p j)) y) (sym eh)
+      (record {
+        both = shots-vertical mode g r p m j c;
+        low = record { known = known (leftPart p j) low; less = omega arith };
+        high = record { known = known (rightPart p j) high; less = omega arith };
+      }))
+  cut-halves (horizontal j) c i m l h e =
+      let low : Valid (plan .columns) (plan .rows) (lowerPart p j) = record { ac = v .ac; cx = v .cx; bd = i .0; dy = omega (arith, v .dy, i .1) } in
+      let high : Valid (plan .columns) (plan .rows) (upperPart p j) = record { ac = v .ac; cx = v .cx; bd = i .1; dy = v .dy } in
       let s = sum-horizontal (λ i j. 1) p j (omega (arith, i .0)) (omega (arith, i .1)) in
-      let a = cells-some (lowPart p (horizontal j)) (low .ac) (low .bd) in
-      let b = cells-some (highPart p (horizontal j)) (high .ac) (high .bd) in
-      record {
-        both = shots-horizontal Straight g r p m j c;
-        low = known (lowPart p (horizontal j)) low;
-        high = known (highPart p (horizontal j)) high;
-        less-low = omega arith;
-        less-high = omega arith;
-      }
-  cut-halves (wheel u j l k n) c i m = absurd (straight-only (i .0))
+      let a = cells-some (lowerPart p j) (low .ac) (low .bd) in
+      let b = cells-some (upperPart p j) (high .ac) (high .bd) in
+      let el : l ≡ numbered g (lowerPart p j) = cc in
+      let eh : h ≡ numbered g (upperPart p j) = cc in
+      subst (λ x. Halves mode g r plan p x h) (sym el)
+      (subst (λ y. Halves mode g r plan p (numbered g (lowerPart p j)) y) (sym eh)
+      (record {
+        both = shots-horizontal mode g r p m j c;
+        low = record { known = known (lowerPart p j) low; less = omega arith };
+        high = record { known = known (upperPart p j) high; less = omega arith };
+      }))
+  cut-halves (wheel u j l k n) c i m x y e = (let z : _≡_ {A = ℕ} 0 1 = cc in absurd (omega arith))
 
-  pub halves : (l h : Numbered) → verdict.Cut l h ≡ verdictOf g r p → Halves g r plan p l h
+  pub halves : (l h : Numbered) → verdict.Cut l h ≡ verdictOf mode g r p → Halves mode g r plan p l h
   halves l h e =
-      let t = told-cut g r p l h e in
-      subst (λ x. Halves g r plan p x h) (sym (t .1))
-      (subst (λ y. Halves g r plan p (numbered g (lowPart p (choice Straight g r p))) y) (sym (t .2))
-      (cut-halves (choice Straight g r p) refl (choice-in Straight g r p (t .0)) (t .0)))
+      let t = told-cut mode g r p l h e in
+      cut-halves (choice mode g r p) refl (choice-in mode g r p (t .0)) (t .0) l h (t .1)
 
-  pub count-few : length (shots Straight g r p) ≤ 225
+  -- a part of a pinwheel
+  part-smaller : (q : Piece) → Part q p → {n : ℕ} → cells p ≡ cells q + n → 0 < n → Smaller plan p (numbered g q)
+  part-smaller q w e n = record {
+    known = known q (record { ac = w .ac; cx = omega (arith, w .c, v .cx); bd = w .bd; dy = omega (arith, w .d, v .dy) });
+    less = omega arith;
+  }
+
+  wheel-fifths : (u : Turn) (j l k n : ℕ) → choice mode g r p ≡ wheel u j l k n → CutOf mode p (wheel u j l k n) → kind g p ≡ mixed
+      → Fifths mode g r plan p (wheelIn (g .columns) (g .rows) p (wheel u j l k n))
+  wheel-fifths u j l k n c i m =
+      let q : ℕ → Piece = λ x. partNo p (wheel u j l k n) x in
+      let h = each-part p u j l k n (i .1) in
+      let s = shared p u j l k n (i .1) in
+      let c0 = cells-some (q 0) (h .0 .ac) (h .0 .bd) in
+      let c1 = cells-some (q 1) (h .1 .ac) (h .1 .bd) in
+      unfold wheelIn in
+      record {
+        all = shots-choice mode g r p m ∙ ap (λ x. join (shots mode g r) (parts p x)) c ∙ joined p (shots mode g r) u j l k n;
+        first = part-smaller (q 0) (h .0) {n = cells (q 1) + cells (q 2) + cells (q 3) + cells (q 4)} (omega (arith, s)) (omega (arith, c1));
+        second = part-smaller (q 1) (h .1) {n = cells (q 0) + cells (q 2) + cells (q 3) + cells (q 4)} (omega (arith, s)) (omega (arith, c0));
+        third = part-smaller (q 2) (h .2) {n = cells (q 0) + cells (q 1) + cells (q 3) + cells (q 4)} (omega (arith, s)) (omega (arith, c0));
+        fourth = part-smaller (q 3) (h .3) {n = cells (q 0) + cells (q 1) + cells (q 2) + cells (q 4)} (omega (arith, s)) (omega (arith, c0));
+        inner = part-smaller (q 4) (h .4) {n = cells (q 0) + cells (q 1) + cells (q 2) + cells (q 3)} (omega (arith, s)) (omega (arith, c0));
+      }
+
+  pub fifths : (w : Wheel) → verdict.Wheel w ≡ verdictOf mode g r p → Fifths mode g r plan p w
+  fifths w e =
+      let t = told-wheel mode g r p w e in
+      go (choice mode g r p) refl (choice-in mode g r p (t .0)) (t .0) (t .1)
+    where
+      go : (c : Cut) → choice mode g r p ≡ c → CutOf mode p c → kind g p ≡ mixed → verdict.Wheel w ≡ made g p c → Fifths mode g r plan p w
+      go (vertical j) c i m e = (let z : _≡_ {A = ℕ} 0 1 = cc in absurd (omega arith))
+      go (horizontal j) c i m e = (let z : _≡_ {A = ℕ} 0 1 = cc in absurd (omega arith))
+      go (wheel u j l k n) c i m e =
+          let q : w ≡ wheelIn (g .columns) (g .rows) p (wheel u j l k n) = cc in
+          subst (λ x. Fifths mode g r plan p x) (sym q) (wheel-fifths u j l k n c i m)
+
+  pub count-few : length (shots mode g r p) ≤ 225
   count-few =
-      count-most Straight g r (f .sound) p (omega (arith, v .ac)) (omega (arith, v .cx, f .columns)) (omega (arith, v .bd)) (omega (arith, v .dy, f .rows))
+      count-most mode g r (f .sound) p (omega (arith, v .ac)) (omega (arith, v .cx, f .columns)) (omega (arith, v .bd)) (omega (arith, v .dy, f .rows))
 
-  pub slivers-few : sumOf (sliver g r) (shots Straight g r p) ≤ 2097120
+  pub slivers-few : sumOf (sliver g r) (shots mode g r p) ≤ 2097120
   slivers-few =
-      slivers-most Straight g r (f .sound) p (omega (arith, v .ac)) (omega (arith, v .cx, f .columns)) (omega (arith, v .bd)) (omega (arith, v .dy, f .rows))
+      slivers-most mode g r (f .sound) p (omega (arith, v .ac)) (omega (arith, v .cx, f .columns)) (omega (arith, v .bd)) (omega (arith, v .dy, f .rows))
 
 -- each shot has a cell of its own
-pub count-cells : (g : Grid) (r : Rule) (p : Piece) → length (shots Straight g r p) ≤ cells p
+pub count-cells : (mode : Mode) (g : Grid) (r : Rule) (p : Piece) → length (shots mode g r p) ≤ cells p
 unfolding cells
-count-cells g r p =
+count-cells mode g r p =
     omega (
       arith,
-      sumOf-ones (shots Straight g r p),
-      sumOf-le (λ s. 1) (cellSum (λ i j. 1)) (shots Straight g r p) (All-imp (λ s w. cells-some s (w .ac) (w .bd)) (shots Straight g r p) (shots-part Straight g r p)),
-      cover Straight g r (λ i j. 1) p,
+      sumOf-ones (shots mode g r p),
+      sumOf-le (λ s. 1) (cellSum (λ i j. 1)) (shots mode g r p) (All-imp (λ s w. cells-some s (w .ac) (w .bd)) (shots mode g r p) (shots-part mode g r p)),
+      cover mode g r (λ i j. 1) p,
       sum-le (λ i j. only (g .inside i j) 1) (λ i j. 1) p (λ i j w. only-most (g .inside i j) 1),
     )
 
 -- What a shot and the parts of an emission ask
 
-pub emit-one : (g : Grid) (r : Rule) (t cs xs ys : List ℕ) (plan : Plan) → Walk g r t cs xs ys plan → (p : stored.Piece)
+pub emit-one : (mode : Mode) (g : Grid) (r : Rule) (t cs xs ys : List ℕ) (plan : Plan) → Walk mode g r t cs xs ys plan → (p : stored.Piece)
     → Valid (plan .columns) (plan .rows) (meant p)
     → InLists xs ys p
-emit-one g r t cs xs ys plan w p v =
+emit-one mode g r t cs xs ys plan w p v =
     let f = w .costed in
     let s = f .sound in
     let d = w .drawn in
@@ -227,35 +321,47 @@ emit-one g r t cs xs ys plan w p v =
       d = omega (arith, v .dy, f .rows, s .rows-most, d .ys-length);
     }
 
-module _ (g : Grid) (r : Rule) (plan : Plan) (p : Piece) (l h : Numbered) (z : Halves g r plan p l h) where
-  pub low-less : {n : ℕ} → cells p ≡ n → cells (meant (l .piece)) < n
-  low-less e = omega (arith, z .less-low)
+-- the shots of all parts are as many as the piece's
+module _ (mode : Mode) (g : Grid) (r : Rule) (plan : Plan) (p : Piece) where
+  pub count-halves : (l h : Numbered) → Halves mode g r plan p l h
+      → length (shots mode g r p) ≡ length (shots mode g r (meant (l .piece))) + length (shots mode g r (meant (h .piece)))
+  count-halves l h z = ap length (z .both) ∙ length-append (shots mode g r (meant (l .piece))) (shots mode g r (meant (h .piece)))
 
-  pub high-less : {n : ℕ} → cells p ≡ n → cells (meant (h .piece)) < n
-  high-less e = omega (arith, z .less-high)
+  pub count-fifths : (w : Wheel) → Fifths mode g r plan p w
+      → length (shots mode g r p)
+      ≡ length (shots mode g r (meant (w .first .piece)))
+      + length (shots mode g r (meant (w .second .piece)))
+      + length (shots mode g r (meant (w .third .piece)))
+      + length (shots mode g r (meant (w .fourth .piece)))
+      + length (shots mode g r (meant (w .inner .piece)))
+  count-fifths w z =
+      let a = shots mode g r (meant (w .first .piece)) in
+      let b = shots mode g r (meant (w .second .piece)) in
+      let c = shots mode g r (meant (w .third .piece)) in
+      let d = shots mode g r (meant (w .fourth .piece)) in
+      let e = shots mode g r (meant (w .inner .piece)) in
+      omega (
+        arith,
+        ap length (z .all),
+        length-append a (b ++ (c ++ (d ++ e))),
+        length-append b (c ++ (d ++ e)),
+        length-append c (d ++ e),
+        length-append d e,
+      )
 
-  pub count-parts : length (shots Straight g r p) ≡ length (shots Straight g r (meant (l .piece))) + length (shots Straight g r (meant (h .piece)))
-  count-parts = ap length (z .both) ∙ length-append (shots Straight g r (meant (l .piece))) (shots Straight g r (meant (h .piece)))
+pub emit-part : (mode : Mode) (t cs xs ys : List ℕ) (room : ℕ) (plan : Plan) (at : ℕ) (p : Numbered) (e : Emittable mode t cs xs ys room plan at p)
+    → (q : Numbered) → Smaller plan (meant (p .piece)) q → {n room′ : ℕ} → room′ ≡ room
+    → n + 4 * length (shots mode (e .grid) (e .rule) (meant (q .piece))) ≤ room
+    → Emittable mode t cs xs ys room′ plan n q
+emit-part mode t cs xs ys room plan at p e q z d h =
+    record { grid = e .grid; rule = e .rule; walk = e .walk; known = z .known; fits = omega arith }
 
-module _ (t cs xs ys : List ℕ) (room : ℕ) (plan : Plan) (at : ℕ) (p : Numbered) (e : Emittable t cs xs ys room plan at p) (l h : Numbered)
-    (z : Halves (e .grid) (e .rule) plan (meant (p .piece)) l h) where
-  pub emit-low : Emittable t cs xs ys room plan at l
-  emit-low =
-      record {
-        grid = e .grid;
-        rule = e .rule;
-        walk = e .walk;
-        known = z .low;
-        fits = omega (arith, e .fits, count-parts (e .grid) (e .rule) plan (meant (p .piece)) l h z);
-      }
+pub less-cells : (plan : Plan) (p : Piece) (q : Numbered) → Smaller plan p q → {n : ℕ} → cells p ≡ n → cells (meant (q .piece)) < n
+less-cells plan p q z e = omega (arith, z .less)
 
-  pub emit-high : {u v : List ℕ} {n room′ : ℕ} → Written (e .grid) u v at (shots Straight (e .grid) (e .rule) (meant (l .piece))) n → room′ ≡ room
-      → Emittable t cs xs ys room′ plan n h
-  emit-high w d =
-      record {
-        grid = e .grid;
-        rule = e .rule;
-        walk = e .walk;
-        known = z .high;
-        fits = omega (arith, e .fits, w .behind, count-parts (e .grid) (e .rule) plan (meant (p .piece)) l h z);
-      }
+-- the shots of five parts, one after the other
+pub written-fifths : (g : Grid) {u u1 u2 u3 u4 v : List ℕ} {at n1 n2 n3 n4 n : ℕ} {l1 l2 l3 l4 l5 : List Piece}
+    → Written g u u1 at l1 n1 → Written g u1 u2 n1 l2 n2 → Written g u2 u3 n2 l3 n3 → Written g u3 u4 n3 l4 n4 → Written g u4 v n4 l5 n
+    → Written g u v at (l1 ++ (l2 ++ (l3 ++ (l4 ++ l5)))) n
+written-fifths g a b c d e =
+    written-join g _ _ _ _ _ _ _ _ a (written-join g _ _ _ _ _ _ _ _ b (written-join g _ _ _ _ _ _ _ _ c (written-join g _ _ _ _ _ _ _ _ d e)))

@@ -2,9 +2,9 @@
 --
 --   InLists xs ys p          == the lines of the piece p are lines of the lists xs and ys
 --   Written g u v at l n     == by writing the shots l from the index at on the list u becomes v, and n is the index behind them
---   Walk g r ..              == the table, the cells, the places and the plan are those of the grid g and the rule r
---   Emittable .. at p        == they are those of some grid and rule, p is one of its pieces with its entry, and from the index at on
---                               there is room for the shots of p
+--   Walk mode g r ..         == the table, the cells, the places and the plan are those of the grid g and the rule r in that mode
+--   Emittable mode .. at p   == they are those of some grid and rule in that mode, p is one of its pieces with its entry, and from the index
+--                               at on there is room for the shots of p
 use Prim.Native.Nat.{ℕ, _+_, _*_, _≤_, _<_}
 use mathlib.Core.Path.{_≡_}
 use mathlib.Core.List.{List}
@@ -12,7 +12,7 @@ use lib.ListN.{length}
 use lib.Seq.{sets}
 use Rattle.outline.specs.Grid.{Grid, Drawn}
 use Rattle.rule.specs.declared.Rule.{Rule}
-use Rattle.piece.specs.declared.Mode.the-variants.{Straight}
+use Rattle.piece.specs.declared.Mode.{Mode}
 use Rattle.piece.specs.declared.Piece as stored
 use Rattle.piece.specs.Piece.{Piece}
 use Rattle.piece.specs.Meant.{meant}
@@ -31,14 +31,14 @@ pub record Written (g : Grid) (u v : List ℕ) (at : ℕ) (l : List Piece) (n : 
   pub behind : n ≡ at + 4 * length l
   pub list : v ≡ sets u at (numbersOf g l)
 
-pub record Walk (g : Grid) (r : Rule) (table cells xs ys : List ℕ) (plan : Plan) : Type 0 where
-  pub costed : Costed g r table cells plan
+pub record Walk (mode : Mode) (g : Grid) (r : Rule) (table cells xs ys : List ℕ) (plan : Plan) : Type 0 where
+  pub costed : Costed mode g r table cells plan
   pub drawn : Drawn g xs ys cells
   pub rule : plan .rule ≡ r
 
-pub record Emittable (table cells xs ys : List ℕ) (room : ℕ) (plan : Plan) (at : ℕ) (p : Numbered) : Type 0 where
+pub record Emittable (mode : Mode) (table cells xs ys : List ℕ) (room : ℕ) (plan : Plan) (at : ℕ) (p : Numbered) : Type 0 where
   pub grid : Grid
   pub rule : Rule
-  pub walk : Walk grid rule table cells xs ys plan
+  pub walk : Walk mode grid rule table cells xs ys plan
   pub known : Known plan p
-  pub fits : at + 4 * length (shots Straight grid rule (meant (p .piece))) ≤ room
+  pub fits : at + 4 * length (shots mode grid rule (meant (p .piece))) ≤ room

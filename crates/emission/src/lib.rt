@@ -19,6 +19,7 @@ ghost use Rattle.piece.specs.Cuts.{shots};
 ghost use Rattle.emission.specs.Emission.{InLists, Written, Walk, Emittable};
 
 pub mod measuring;
+pub mod pinwheel;
 
 // Writes the four numbers of a shot, x low, y low, x high, y high, from the index at on; hands back the index behind them.
 fn write_shot(
@@ -55,8 +56,8 @@ pub fn emit(
     at: usize,
     p: Numbered,
 ) -> usize
-    requires { ⌜ Emittable (now costs) (now cells) (now xs) (now ys) (length (now list)) plan at p ⌝ }
-    ensures { λ n. ⌜ ((g : Grid) (r : Rule) → Walk g r (now (costs .entry)) (now (cells .entry)) (now (xs .entry)) (now (ys .entry)) plan → Written g (now (list .entry)) (now (list .exit)) at (shots Straight g r (meant (p .piece))) n) ⌝ }
+    requires { ⌜ Emittable Straight (now costs) (now cells) (now xs) (now ys) (length (now list)) plan at p ⌝ }
+    ensures { λ n. ⌜ ((g : Grid) (r : Rule) → Walk Straight g r (now (costs .entry)) (now (cells .entry)) (now (xs .entry)) (now (ys .entry)) plan → Written g (now (list .entry)) (now (list .exit)) at (shots Straight g r (meant (p .piece))) n) ⌝ }
 {
     let verdict = judge(costs, cells, plan, p);
     match verdict {

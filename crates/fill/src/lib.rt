@@ -29,6 +29,6 @@ pub fn fill(
     if rows <= FEW_ROWS {
         shallow::fill(xs, ys, cells, columns, rows, rule, table);
     } else {
-        widths::fill_by_widths(xs, ys, cells, columns, rows, rule, table);
+        wheels::fill_straight(xs, ys, cells, columns, rows, rule, table);
     }
 }

@@ -24,7 +24,7 @@ use Rattle.sum.proofs.Lists.{sets-front}
 use Rattle.refusal.specs.declared.Refusal.the-variants as because
 use Rattle.outline.specs.Grid.{Grid}
 use Rattle.rule.specs.declared.Rule.{Rule}
-use Rattle.piece.specs.declared.Mode.the-variants.{Straight}
+use Rattle.piece.specs.declared.Mode.{Mode}
 use Rattle.piece.specs.Piece.{Piece, box, frame, sliver, charge}
 use Rattle.piece.specs.Meant.{meant}
 use Rattle.piece.specs.Cuts.{shots, cost, numbersOf}
@@ -56,18 +56,18 @@ pub room-short : (n : ℕ) {m l : ℕ} → m ≡ l → n < 4 * m → Short m ≡
 unfolding roomOf
 room-short n {m} {l} e h = ap Short e ∙ sym (ap (λ t. cond t (Short l) Enough) (lt-ltb n (4 * l) (omega arith)))
 
-module _ (g : Grid) (r : Rule) (t cs : List ℕ) (plan : Plan) (f : Costed g r t cs plan) where
+module _ (mode : Mode) (g : Grid) (r : Rule) (t cs : List ℕ) (plan : Plan) (f : Costed mode g r t cs plan) where
   pub area-few : plan .columns * plan .rows ≤ 225
   area-few =
       let s = f .sound in
       mul-le-mul {n₁ = plan .columns} {m₁ = plan .rows} {n₂ = 15} {m₂ = 15} (omega (arith, f .columns, s .columns-most)) (omega (arith, f .rows, s .rows-most))
 
-  pub room-all : (p : Piece) → Valid (plan .columns) (plan .rows) p → (n : ℕ) → 4 * (plan .columns * plan .rows) ≤ n → Enough ≡ roomOf n (length (shots Straight g r p))
+  pub room-all : (p : Piece) → Valid (plan .columns) (plan .rows) p → (n : ℕ) → 4 * (plan .columns * plan .rows) ≤ n → Enough ≡ roomOf n (length (shots mode g r p))
   room-all p v n h =
       room-fits n refl
       (omega (
         arith,
-        count-cells g r p,
+        count-cells mode g r p,
         cells-product p (omega (arith, v .ac)) (omega (arith, v .bd)),
         mul-le-mul {n₁ = p .c - p .a} {m₁ = p .d - p .b} {n₂ = plan .columns} {m₂ = plan .rows} (omega (arith, v .cx)) (omega (arith, v .dy)),
       ))
@@ -152,43 +152,43 @@ enough-says n m e = go (ltb n (4 * m)) refl e
     go false h e = ltb-false n (4 * m) h
 
 -- the frame, as the code has made it
-module _ (g : Grid) (r : Rule) (t cs xs ys : List ℕ) (plan : Plan) (w : Walk g r t cs xs ys plan) (p : Numbered)
+module _ (mode : Mode) (g : Grid) (r : Rule) (t cs xs ys : List ℕ) (plan : Plan) (w : Walk mode g r t cs xs ys plan) (p : Numbered)
     (b : (meant (p .piece) ≡ box 0 (plan .columns) 0 (plan .rows)) × Known plan p) where
-  same : shots Straight g r (meant (p .piece)) ≡ shots Straight g r (frame g)
-  same = ap (shots Straight g r) (b .0 ∙ frame-is g r t cs plan (w .costed))
+  same : shots mode g r (meant (p .piece)) ≡ shots mode g r (frame g)
+  same = ap (shots mode g r) (b .0 ∙ frame-is mode g r t cs plan (w .costed))
 
-  frame-fits : (n : ℕ) → 4 * length (shots Straight g r (meant (p .piece))) ≤ n → Emittable t cs xs ys n plan 0 p
+  frame-fits : (n : ℕ) → 4 * length (shots mode g r (meant (p .piece))) ≤ n → Emittable mode t cs xs ys n plan 0 p
   frame-fits n h = record { grid = g; rule = r; walk = w; known = b .1; fits = omega arith }
 
-  pub frame-few-shots : length (shots Straight g r (meant (p .piece))) ≤ 225
-  frame-few-shots = count-few g r t cs plan (w .costed) (meant (p .piece)) (b .1 .valid)
+  pub frame-few-shots : length (shots mode g r (meant (p .piece))) ≤ 225
+  frame-few-shots = count-few mode g r t cs plan (w .costed) (meant (p .piece)) (b .1 .valid)
 
-  pub frame-aside : Emittable t cs xs ys 900 plan 0 p
+  pub frame-aside : Emittable mode t cs xs ys 900 plan 0 p
   frame-aside = frame-fits 900 (omega (arith, frame-few-shots))
 
-  pub frame-emittable : {n : ℕ} → Enough ≡ roomOf n (length (shots Straight g r (meant (p .piece)))) → Emittable t cs xs ys n plan 0 p
-  frame-emittable {n} h = frame-fits n (enough-says n (length (shots Straight g r (meant (p .piece)))) h)
+  pub frame-emittable : {n : ℕ} → Enough ≡ roomOf n (length (shots mode g r (meant (p .piece)))) → Emittable mode t cs xs ys n plan 0 p
+  frame-emittable {n} h = frame-fits n (enough-says n (length (shots mode g r (meant (p .piece)))) h)
 
   -- the shots in the list
-  module _ (list list′ : List ℕ) {n : ℕ} (h : Enough ≡ roomOf (length list) (length (shots Straight g r (meant (p .piece)))))
-      (v : Written g list list′ 0 (shots Straight g r (meant (p .piece))) n) where
-    front : list′ ≡ numbersOf g (shots Straight g r (meant (p .piece))) ++ drop (length (numbersOf g (shots Straight g r (meant (p .piece))))) list
+  module _ (list list′ : List ℕ) {n : ℕ} (h : Enough ≡ roomOf (length list) (length (shots mode g r (meant (p .piece)))))
+      (v : Written g list list′ 0 (shots mode g r (meant (p .piece))) n) where
+    front : list′ ≡ numbersOf g (shots mode g r (meant (p .piece))) ++ drop (length (numbersOf g (shots mode g r (meant (p .piece))))) list
     front =
         v .list
-        ∙ sets-front list (numbersOf g (shots Straight g r (meant (p .piece))))
+        ∙ sets-front list (numbersOf g (shots mode g r (meant (p .piece))))
         (omega (
           arith,
-          enough-says (length list) (length (shots Straight g r (meant (p .piece)))) h,
-          numbers-length g (shots Straight g r (meant (p .piece))),
+          enough-says (length list) (length (shots mode g r (meant (p .piece)))) h,
+          numbers-length g (shots mode g r (meant (p .piece))),
         ))
 
-    stands : (k : ℕ) → k < length (shots Straight g r (meant (p .piece))) → Stands g xs ys cs list′ (4 * k) (shotNo (shots Straight g r (meant (p .piece))) k)
+    stands : (k : ℕ) → k < length (shots mode g r (meant (p .piece))) → Stands g xs ys cs list′ (4 * k) (shotNo (shots mode g r (meant (p .piece))) k)
     stands k i =
-        let l = shots Straight g r (meant (p .piece)) in
+        let l = shots mode g r (meant (p .piece)) in
         let u = drop (length (numbersOf g l)) list in
         let f = w .costed in
         let z = b .1 .valid in
-        let a = all-at (λ s. Part s (meant (p .piece))) l (shots-part Straight g r (meant (p .piece))) k i in
+        let a = all-at (λ s. Part s (meant (p .piece))) l (shots-part mode g r (meant (p .piece))) k i in
         let e = numbers-at g u l k i in
         record {
           sound = f .sound;
@@ -202,67 +202,67 @@ module _ (g : Grid) (r : Rule) (t cs xs ys : List ℕ) (plan : Plan) (w : Walk g
           d = ap (λ (m : List ℕ). getD m (4 * k + 3) 0) front ∙ e .3;
         }
 
-    frame-count : n / 4 ≡ length (shots Straight g r (meant (p .piece)))
+    frame-count : n / 4 ≡ length (shots mode g r (meant (p .piece)))
     frame-count = count-written g v
 
-    pub frame-listed : Listed g cs xs ys list′ (plan .rule) (shots Straight g r (meant (p .piece))) (n / 4)
+    pub frame-listed : Listed g cs xs ys list′ (plan .rule) (shots mode g r (meant (p .piece))) (n / 4)
     frame-listed =
-        subst (λ (x : Rule). Listed g cs xs ys list′ x (shots Straight g r (meant (p .piece))) (n / 4)) (sym (w .rule))
+        subst (λ (x : Rule). Listed g cs xs ys list′ x (shots mode g r (meant (p .piece))) (n / 4)) (sym (w .rule))
         (record {
           count = frame-count;
           most = omega (arith, frame-count, frame-few-shots);
           each = λ k i. stands k (omega (arith, frame-count));
-          few = slivers-few g r t cs plan (w .costed) (meant (p .piece)) (b .1 .valid);
+          few = slivers-few mode g r t cs plan (w .costed) (meant (p .piece)) (b .1 .valid);
         })
 
   pub frame-within : p .entry < length t
   frame-within = omega (arith, b .1 .entry, entry-below _ _ (meant (p .piece)) (b .1 .valid), w .costed .entries)
 
-  frame-cost : getD t (p .entry) 0 ≡ sumOf (charge g r) (shots Straight g r (meant (p .piece)))
+  frame-cost : getD t (p .entry) 0 ≡ sumOf (charge g r) (shots mode g r (meant (p .piece)))
   unfolding cost
   frame-cost = ap (λ i. getD t i 0) (b .1 .entry) ∙ w .costed .cost-at (meant (p .piece)) (b .1 .valid)
 
-  pub frame-charged : getD t (p .entry) 0 ≡ sumOf (charge g (plan .rule)) (shots Straight g r (meant (p .piece)))
-  frame-charged = frame-cost ∙ ap (λ (x : Rule). sumOf (charge g x) (shots Straight g r (meant (p .piece)))) (sym (w .rule))
+  pub frame-charged : getD t (p .entry) 0 ≡ sumOf (charge g (plan .rule)) (shots mode g r (meant (p .piece)))
+  frame-charged = frame-cost ∙ ap (λ (x : Rule). sumOf (charge g x) (shots mode g r (meant (p .piece)))) (sym (w .rule))
 
-  same-frame : shots Straight g r (meant (p .piece)) ≡ frameShots Straight g r
+  same-frame : shots mode g r (meant (p .piece)) ≡ frameShots mode g r
   unfolding frameShots
   same-frame = same
 
   -- the two ends of a delivery
   lacking : List ℕ → Outcome
   lacking list =
-      record { number = 7; shots = length (frameShots Straight g r); cost = 0; sliver = 0; cuts = 0; table = t; list = list }
+      record { number = 7; shots = length (frameShots mode g r); cost = 0; sliver = 0; cuts = 0; table = t; list = list }
 
   listed : List ℕ → Outcome
   listed list =
       record {
         number = 0;
-        shots = length (frameShots Straight g r);
-        cost = frameCost Straight g r;
-        sliver = frameSliver Straight g r;
+        shots = length (frameShots mode g r);
+        cost = frameCost mode g r;
+        sliver = frameSliver mode g r;
         cuts = weighedCuts g;
         table = t;
-        list = written (frameNumbers Straight g r) list;
+        list = written (frameNumbers mode g r) list;
       }
 
-  pub told-lacking : (list : List ℕ) {k : ℕ} → Short k ≡ roomOf (length list) (length (shots Straight g r (meant (p .piece))))
-      → told (Refused because.List k) t list ≡ delivered Straight g r t list
+  pub told-lacking : (list : List ℕ) {k : ℕ} → Short k ≡ roomOf (length list) (length (shots mode g r (meant (p .piece))))
+      → told (Refused because.List k) t list ≡ delivered mode g r t list
   unfolding delivered told lacking listed
   told-lacking list {k} h =
-      let s = short-says (length list) (length (shots Straight g r (meant (p .piece)))) k h in
-      let b : length list < 4 * length (frameShots Straight g r) = omega (arith, s .1, ap length same-frame) in
+      let s = short-says (length list) (length (shots mode g r (meant (p .piece)))) k h in
+      let b : length list < 4 * length (frameShots mode g r) = omega (arith, s .1, ap length same-frame) in
       (λ i. record { number = 7; shots = (s .0 ∙ ap length same-frame) i; cost = 0; sliver = 0; cuts = 0; table = t; list = list })
-      ∙ sym (ap (λ x. cond x (lacking list) (listed list)) (lt-ltb (length list) (4 * length (frameShots Straight g r)) b))
+      ∙ sym (ap (λ x. cond x (lacking list) (listed list)) (lt-ltb (length list) (4 * length (frameShots mode g r)) b))
 
-  pub told-listed : (list list′ : List ℕ) {n v m : ℕ} → Enough ≡ roomOf (length list) (length (shots Straight g r (meant (p .piece))))
-      → Written g list list′ 0 (shots Straight g r (meant (p .piece))) n
-      → v ≡ sumOf (sliver g (plan .rule)) (shots Straight g r (meant (p .piece))) → m ≡ weighedCuts g
-      → told (Done (n / 4) (getD t (p .entry) 0) v m) t list′ ≡ delivered Straight g r t list
+  pub told-listed : (list list′ : List ℕ) {n v m : ℕ} → Enough ≡ roomOf (length list) (length (shots mode g r (meant (p .piece))))
+      → Written g list list′ 0 (shots mode g r (meant (p .piece))) n
+      → v ≡ sumOf (sliver g (plan .rule)) (shots mode g r (meant (p .piece))) → m ≡ weighedCuts g
+      → told (Done (n / 4) (getD t (p .entry) 0) v m) t list′ ≡ delivered mode g r t list
   unfolding delivered told written lacking listed frameCost frameSliver frameNumbers
   told-listed list list′ h v s k =
-      let m = enough-says (length list) (length (shots Straight g r (meant (p .piece)))) h in
-      let b : 4 * length (frameShots Straight g r) ≤ length list = omega (arith, m, ap length same-frame) in
+      let m = enough-says (length list) (length (shots mode g r (meant (p .piece)))) h in
+      let b : 4 * length (frameShots mode g r) ≤ length list = omega (arith, m, ap length same-frame) in
       (λ i.
       record {
         number = 0;
@@ -273,4 +273,4 @@ module _ (g : Grid) (r : Rule) (t cs xs ys : List ℕ) (plan : Plan) (w : Walk g
         table = t;
         list = (front list list′ h v ∙ ap (λ s. written (numbersOf g s) list) same-frame) i;
       })
-      ∙ sym (ap (λ x. cond x (lacking list) (listed list)) (le-ltb (length list) (4 * length (frameShots Straight g r)) b))
+      ∙ sym (ap (λ x. cond x (lacking list) (listed list)) (le-ltb (length list) (4 * length (frameShots mode g r)) b))

@@ -1,18 +1,21 @@
 -- The demands of the call itself, as theorems from its contract. Assumes nothing.
 --
--- Of a call of `fracture` with the corners, ring lengths, threshold t, weight w, table and list that answers Done and leaves table′ and
--- list′. `settled` is its contract; `typed` is what the language says of a `&[u16]`: each of its numbers is one of the type u16. There is
--- no other premise. `fracture_default` is the same at t and w of the default preset. The theorems speak of what was answered and left: the numbers
+-- Of a call of `fracture`, or in the pinwheel mode of `fracture_pinwheel`, with the corners, ring lengths, threshold t, weight w, table and list
+-- that answers Done and leaves table′ and list′. `settled` is its contract; `typed` is what the language says of a `&[u16]`: each of its
+-- numbers is one of the type u16. There is no other premise. `fracture_default` is the same at t and w of the default preset. The theorems
+-- speak of what was answered and left: the numbers
 -- shots, cost and sliver, table′, and `given`, the shots that the first 4 x shots numbers of list′ say. That the numbers of a `&[u16]` are
 -- `typed` is proved of the code in `fracture_by`, which both calls hand their corners to (its clause `words`).
 --   call-cover           == each unit square is in exactly one given shot if it is inside, and in none if not
 --   call-inside, call-apart, call-whole   == so the shots lie inside, no two hold the same square, and each inside square is held
 --   call-these           == count, sliver length and cost are those of these very shots
---   call-never-cheaper   == no way to cut the frame totals less than the cost
+--   call-never-cheaper   == no way to cut the frame in that mode totals less than the cost
 --   call-attained        == one way has the given shots, and totals the cost
 --   call-cuts            == the cuts are those of the figure at unit squares, and at most 134,400
 --   call-ahead           == they are what `cuts` has told ahead
 --   call-bound           == neither the cost nor a table entry exceeds 2,097,345,000
+--   call-not-above       == of two calls that answer Done, all else equal but what is lent, `fracture_pinwheel` costs no more than `fracture`
+--   call-cuts-same       == and both report the same cuts
 --   default-row          == `fracture_default` of L answers 2 shots, cost 2000, sliver length 0 and 4 cuts, lists them, and leaves L's nine entries
 use Prim.Native.Nat.{ℕ, _*_, _≤_, _<_}
 use mathlib.Core.Path.{_≡_, refl, sym, _∙_, ap, subst}
@@ -31,7 +34,8 @@ use Rattle.shot.specs.Shot.{Shot, holds, shotsIn}
 use Rattle.figure.specs.declared.Axis.the-variants.{X, Y}
 use Rattle.figure.specs.Figure.{figure, cornersOf}
 use Rattle.figure.specs.Inside.{insideAt}
-use Rattle.piece.specs.declared.Mode.the-variants.{Straight}
+use Rattle.piece.specs.declared.Mode.{Mode}
+use Rattle.piece.specs.declared.Mode.the-variants.{Straight, Pinwheel}
 use Rattle.piece.specs.Piece.{Piece}
 use Rattle.table.specs.Entry.{entryOf}
 use Rattle.demands.specs.Promise.{Asked, asked, drawn, Outcome, outcome}
@@ -51,9 +55,9 @@ use Rattle.fracture.specs.declared.Forecast.the-variants as forecast
 use Rattle.fracture.specs.declared.Forecast.the-variants.{Cuts}
 use Rattle.fracture.specs.Told.{told, byDefault, aheadTold}
 
-module _ (corners lengths : List ℕ) (t w : ℕ) (table list : List ℕ) where
+module _ (mode : Mode) (corners lengths : List ℕ) (t w : ℕ) (table list : List ℕ) where
   abbrev ask : Asked
-  ask = asked Straight corners lengths t w table list
+  ask = asked mode corners lengths t w table list
 
   abbrev rule : Rule
   rule = record { threshold = t; weight = w }
@@ -69,7 +73,7 @@ module _ (corners lengths : List ℕ) (t w : ℕ) (table list : List ℕ) where
   OnY = On Y (cornersOf (figure corners lengths))
 
   abbrev AnyWay : Type 0
-  AnyWay = Way Straight F OnX OnY (frameOf (cornersOf (figure corners lengths)))
+  AnyWay = Way mode F OnX OnY (frameOf (cornersOf (figure corners lengths)))
 
   module _ (typed : (i : ℕ) → Fits w16 (getD corners i 0)) (shots cost sliver cuts : ℕ) (table′ list′ : List ℕ)
       (settled : told (Done shots cost sliver cuts) table′ list′ ≡ outcome ask) where
@@ -122,14 +126,14 @@ module _ (corners lengths : List ℕ) (t w : ℕ) (table list : List ℕ) where
         × (o .cost ≡ sumOf (shotCharge F rule) (reported o)))
         (demands.these-shots ask words done)
 
-    pub call-never-cheaper : (way : AnyWay) → cost ≤ total Straight F OnX OnY rule way
+    pub call-never-cheaper : (way : AnyWay) → cost ≤ total mode F OnX OnY rule way
     unfolding told
-    call-never-cheaper = said (λ o. (way : AnyWay) → o .cost ≤ total Straight F OnX OnY rule way) (demands.never-cheaper ask words done)
+    call-never-cheaper = said (λ o. (way : AnyWay) → o .cost ≤ total mode F OnX OnY rule way) (demands.never-cheaper ask words done)
 
-    pub call-attained : (way : AnyWay) × (shotsOf Straight F OnX OnY way ≡ given) × (total Straight F OnX OnY rule way ≡ cost)
+    pub call-attained : (way : AnyWay) × (shotsOf mode F OnX OnY way ≡ given) × (total mode F OnX OnY rule way ≡ cost)
     unfolding told reported
     call-attained =
-        said (λ o. (way : AnyWay) × (shotsOf Straight F OnX OnY way ≡ reported o) × (total Straight F OnX OnY rule way ≡ o .cost))
+        said (λ o. (way : AnyWay) × (shotsOf mode F OnX OnY way ≡ reported o) × (total mode F OnX OnY rule way ≡ o .cost))
         (demands.attained ask words done)
 
     pub call-bound : (cost ≤ 2097345000)
@@ -152,6 +156,31 @@ module _ (corners lengths : List ℕ) (t w : ℕ) (table list : List ℕ) where
     unfolding told aheadTold
     call-ahead (Cuts n) e = ap Cuts (ap (λ a. a .cuts) (e ∙ cuts-ahead ask done) ∙ sym (ap (λ o. o .cuts) settled))
     call-ahead (forecast.Refused why) e = absurd (omega (arith, refusal-some why, ap (λ a. a .number) (e ∙ cuts-ahead ask done)))
+
+-- The two modes
+
+pub call-not-above : (corners lengths : List ℕ) (t w : ℕ) (table list table₂ list₂ : List ℕ) (s c n k s′ c′ n′ k′ : ℕ) (u l u′ l′ : List ℕ)
+    → told (Done s c n k) u l ≡ outcome (asked Pinwheel corners lengths t w table list)
+    → told (Done s′ c′ n′ k′) u′ l′ ≡ outcome (asked Straight corners lengths t w table₂ list₂)
+    → c ≤ c′
+unfolding told
+call-not-above corners lengths t w table list table₂ list₂ s c n k s′ c′ n′ k′ u l u′ l′ p q =
+    omega (
+      arith,
+      demands.pinwheel-not-above (asked Straight corners lengths t w table₂ list₂) table list (sym (ap (λ o. o .number) p)) (sym (ap (λ o. o .number) q)),
+      ap (λ o. o .cost) p,
+      ap (λ o. o .cost) q,
+    )
+
+pub call-cuts-same : (corners lengths : List ℕ) (t w : ℕ) (table list table₂ list₂ : List ℕ) (s c n k s′ c′ n′ k′ : ℕ) (u l u′ l′ : List ℕ)
+    → told (Done s c n k) u l ≡ outcome (asked Pinwheel corners lengths t w table list)
+    → told (Done s′ c′ n′ k′) u′ l′ ≡ outcome (asked Straight corners lengths t w table₂ list₂)
+    → k ≡ k′
+unfolding told
+call-cuts-same corners lengths t w table list table₂ list₂ s c n k s′ c′ n′ k′ u l u′ l′ p q =
+    ap (λ o. o .cuts) p
+    ∙ demands.pinwheel-cuts (asked Straight corners lengths t w table₂ list₂) table list (sym (ap (λ o. o .number) p)) (sym (ap (λ o. o .number) q))
+    ∙ sym (ap (λ o. o .cuts) q)
 
 -- The call without a rule
 

@@ -16,7 +16,7 @@ use Rattle.refusal.specs.declared.Refusal.the-variants as because
 use Rattle.outline.specs.Grid.{Grid, Memory, stored}
 use Rattle.rule.specs.declared.Rule.{Rule}
 use Rattle.rule.specs.Rules.{limit}
-use Rattle.piece.specs.declared.Mode.the-variants.{Straight}
+use Rattle.piece.specs.declared.Mode.{Mode}
 use Rattle.piece.specs.Piece.{Piece}
 use Rattle.piece.specs.Cuts.{cost}
 use Rattle.table.specs.Entry.{Valid, pairCount, entryCount, entryOf, costs}
@@ -39,30 +39,31 @@ module _ (g : Grid) (m : Memory) (w : Laid g m) where
   counted : entryCount (m .columns) (m .rows) ≡ entryCount (g .columns) (g .rows)
   counted = ap₂ entryCount (w .columns) (w .rows)
 
+  pub laid-ready : (r : Rule) (t : List ℕ) → r .weight ≤ limit → entryCount (m .columns) (m .rows) ≤ length t
+      → Ready (stored (m .columns) (m .rows) (m .xs) (m .ys) (m .cells)) r (m .xs) (m .ys) (m .cells) t
+  laid-ready r t h k =
+      subst (λ s. Ready s r (m .xs) (m .ys) (m .cells) t) (sym (w .back))
+      (record { sound = w .sound; drawn = w .drawn; weight-most = h; room = omega (arith, counted) })
+
+module _ (mode : Mode) (g : Grid) (m : Memory) (w : Laid g m) where
   module _ (r : Rule) (t : List ℕ) where
-    pub laid-ready : r .weight ≤ limit → entryCount (m .columns) (m .rows) ≤ length t
-        → Ready (stored (m .columns) (m .rows) (m .xs) (m .ys) (m .cells)) r (m .xs) (m .ys) (m .cells) t
-    laid-ready h k =
-        subst (λ s. Ready s r (m .xs) (m .ys) (m .cells) t) (sym (w .back))
-        (record { sound = w .sound; drawn = w .drawn; weight-most = h; room = omega (arith, counted) })
-
-    pub laid-filled : {u : List ℕ} (s : Grid) → s ≡ g → u ≡ costs Straight s r ++ drop (length (costs Straight s r)) t → u ≡ written (costs Straight g r) t
+    pub laid-filled : {u : List ℕ} (s : Grid) → s ≡ g → u ≡ costs mode s r ++ drop (length (costs mode s r)) t → u ≡ written (costs mode g r) t
     unfolding written
-    laid-filled s b e = e ∙ ap (λ x. costs Straight x r ++ drop (length (costs Straight x r)) t) b
+    laid-filled s b e = e ∙ ap (λ x. costs mode x r ++ drop (length (costs mode x r)) t) b
 
-    module _ {u : List ℕ} (e : u ≡ written (costs Straight g r) t) (k : entryCount (m .columns) (m .rows) ≤ length t) where
+    module _ {u : List ℕ} (e : u ≡ written (costs mode g r) t) (k : entryCount (m .columns) (m .rows) ≤ length t) where
       -- what the table has for a piece
-      cost-at : (p : Piece) → Valid (m .columns) (m .rows) p → getD u (entryOf (m .columns) (m .rows) p) 0 ≡ cost Straight g r p
+      cost-at : (p : Piece) → Valid (m .columns) (m .rows) p → getD u (entryOf (m .columns) (m .rows) p) 0 ≡ cost mode g r p
       cost-at p v =
           let v′ : Valid (g .columns) (g .rows) p =
           record { ac = v .ac; cx = omega (arith, v .cx, w .columns); bd = v .bd; dy = omega (arith, v .dy, w .rows) } in
           ap₂ (λ (l : List ℕ) (i : ℕ). getD l i 0) e (ap₂ (λ x y. entryOf x y p) (w .columns) (w .rows))
-          ∙ written-at (costs Straight g r) t (entryOf (g .columns) (g .rows) p)
-          (omega (arith, entry-below (g .columns) (g .rows) p v′, costs-length Straight g r))
-          ∙ costs-at Straight g r p v′
+          ∙ written-at (costs mode g r) t (entryOf (g .columns) (g .rows) p)
+          (omega (arith, entry-below (g .columns) (g .rows) p v′, costs-length mode g r))
+          ∙ costs-at mode g r p v′
 
       pub laid-walk : (n : ℕ) → n ≡ pairCount (m .rows) → r .weight ≤ limit
-          → Walk g r u (m .cells) (m .xs) (m .ys) (record { columns = m .columns; rows = m .rows; pairs = n; rule = r })
+          → Walk mode g r u (m .cells) (m .xs) (m .ys) (record { columns = m .columns; rows = m .rows; pairs = n; rule = r })
       laid-walk n p h =
           let d = w .drawn in
           record {
@@ -75,32 +76,32 @@ module _ (g : Grid) (m : Memory) (w : Laid g m) where
                   pairs = p;
                   cells-length = d .cells-length;
                   cell-at = d .cell-at;
-                  entries = omega (arith, ap length e, written-length (costs Straight g r) t (omega (arith, counted, costs-length Straight g r)));
+                  entries = omega (arith, ap length e, written-length (costs mode g r) t (omega (arith, counted g m w, costs-length mode g r)));
                   cost-at = cost-at;
                 };
             drawn = d;
             rule = refl;
           }
 
-      pub gridded-delivered : (a : Fractured) (l l′ : List ℕ) → told a u l′ ≡ delivered Straight g r u l → told a u l′ ≡ gridded Straight g r t l
+      pub gridded-delivered : (a : Fractured) (l l′ : List ℕ) → told a u l′ ≡ delivered mode g r u l → told a u l′ ≡ gridded mode g r t l
       unfolding gridded refused
       gridded-delivered a l l′ h =
           h
-          ∙ ap (λ (x : List ℕ). delivered Straight g r x l) e
+          ∙ ap (λ (x : List ℕ). delivered mode g r x l) e
           ∙ sym
           (ap
           (λ b.
           cond b (refused 6 t l)
-          (delivered Straight g r (written (costs Straight g r) t) l))
-          (le-ltb (length t) (entryCount (g .columns) (g .rows)) (omega (arith, counted))))
+          (delivered mode g r (written (costs mode g r) t) l))
+          (le-ltb (length t) (entryCount (g .columns) (g .rows)) (omega (arith, counted g m w))))
 
     pub gridded-table : (l : List ℕ) → length t < entryCount (m .columns) (m .rows)
-        → told (Refused because.Table 0) t l ≡ gridded Straight g r t l
+        → told (Refused because.Table 0) t l ≡ gridded mode g r t l
     unfolding gridded refused told
     gridded-table l h =
         sym
         (ap
         (λ b.
         cond b (refused 6 t l)
-        (delivered Straight g r (written (costs Straight g r) t) l))
-        (lt-ltb (length t) (entryCount (g .columns) (g .rows)) (omega (arith, counted))))
+        (delivered mode g r (written (costs mode g r) t) l))
+        (lt-ltb (length t) (entryCount (g .columns) (g .rows)) (omega (arith, counted g m w))))

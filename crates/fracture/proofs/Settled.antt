@@ -32,6 +32,7 @@ use Rattle.outline.specs.Grid.{Grid, Memory}
 use Rattle.outline.specs.Inside.{grid}
 use Rattle.outline.specs.Promise.{answerNo, refusal, Sheet, Promise}
 use Rattle.outline.proofs.Memory.{drawing-columns, drawing-rows, drawing-drawn, drawing-stored}
+use Rattle.piece.specs.declared.Mode.{Mode}
 use Rattle.piece.specs.declared.Mode.the-variants.{Straight}
 use Rattle.demands.specs.Cuts.{weighedCuts, ahead}
 use Rattle.count.specs.Count.{Shaded}
@@ -59,14 +60,14 @@ module _ (f : Figure) (s : Sheet) (p : Promise f s) where
         back = drawing-stored f s p h;
       }
 
-  pub told-figure : (r : Rule) (table list : List ℕ) (why : Refusal) → s .answer ≡ drawing.Refused why
-      → told (Refused why 0) table list ≡ ruled Straight f r table list
+  pub told-figure : (mode : Mode) (r : Rule) (table list : List ℕ) (why : Refusal) → s .answer ≡ drawing.Refused why
+      → told (Refused why 0) table list ≡ ruled mode f r table list
   unfolding told ruled refused
-  told-figure r table list why e =
+  told-figure mode r table list why e =
       let n : refusal f ≡ refusalNo why = answered (drawing.Refused why) e in
       ap (λ m. refused m table list) (sym n)
       ∙ sym
-      (ap (λ b. cond b (gridded Straight (grid f) r table list) (refused (refusal f) table list))
+      (ap (λ b. cond b (gridded mode (grid f) r table list) (refused (refusal f) table list))
       (ne-eqb (refusal f) 0 (λ z. omega (arith, refusal-some why))))
 
   pub ahead-figure : (why : Refusal) → s .answer ≡ drawing.Refused why → aheadTold (forecast.Refused why) ≡ ahead f
@@ -105,10 +106,10 @@ ahead-apart (forecast.Cuts m) (forecast.Refused why) e = absurd (omega (arith, r
 ahead-apart (forecast.Refused why) (forecast.Cuts n) e = absurd (omega (arith, refusal-some why, ap (λ x. x .number) e))
 ahead-apart (forecast.Refused why) (forecast.Refused for) e = ap forecast.Refused (refusal-one why for (ap (λ x. x .number) e))
 
-pub told-grid : (f : Figure) (r : Rule) (table list : List ℕ) → refusal f ≡ 0 → gridded Straight (grid f) r table list ≡ ruled Straight f r table list
+pub told-grid : (mode : Mode) (f : Figure) (r : Rule) (table list : List ℕ) → refusal f ≡ 0 → gridded mode (grid f) r table list ≡ ruled mode f r table list
 unfolding ruled
-told-grid f r table list h =
-    sym (ap (λ b. cond b (gridded Straight (grid f) r table list) (refused (refusal f) table list)) (eq-eqb (refusal f) 0 h))
+told-grid mode f r table list h =
+    sym (ap (λ b. cond b (gridded mode (grid f) r table list) (refused (refusal f) table list)) (eq-eqb (refusal f) 0 h))
 
 -- the rule that was made of two numbers
 module _ (ask : Asked) where

@@ -2,7 +2,7 @@
 --
 --   roomOf n m               == whether n numbers have room for m shots, four for each
 --   Sized plan               == the plan's size is that of a grid, and it has the count of its pairs of y lines
---   Walkable ..              == what is lent speaks of some grid and rule
+--   Walkable mode ..         == what is lent speaks of some grid and rule in that mode
 --   Laid g m                 == the sound grid g lies in memory as m, and is read back as itself
 --   Fillable m r             == there is such a grid, and the weight of the rule r is within its limit
 use Prim.Native.Nat.{ℕ, _*_, _≤_}
@@ -13,6 +13,7 @@ use lib.Dec.{ltb}
 use Rattle.outline.specs.Grid.{Grid, Sound, Drawn, Memory, stored}
 use Rattle.rule.specs.declared.Rule.{Rule}
 use Rattle.rule.specs.Rules.{limit}
+use Rattle.piece.specs.declared.Mode.{Mode}
 use Rattle.table.specs.Entry.{pairCount}
 use Rattle.verdict.specs.declared.Plan.{Plan}
 use Rattle.emission.specs.Emission.{Walk}
@@ -29,10 +30,10 @@ pub record Sized (plan : Plan) : Type 0 where
   pub rows-most : plan .rows ≤ 15
   pub pairs : plan .pairs ≡ pairCount (plan .rows)
 
-pub record Walkable (table cells xs ys : List ℕ) (plan : Plan) : Type 0 where
+pub record Walkable (mode : Mode) (table cells xs ys : List ℕ) (plan : Plan) : Type 0 where
   pub grid : Grid
   pub rule : Rule
-  pub walk : Walk grid rule table cells xs ys plan
+  pub walk : Walk mode grid rule table cells xs ys plan
 
 pub record Laid (g : Grid) (m : Memory) : Type 0 where
   pub sound : Sound g

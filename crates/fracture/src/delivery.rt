@@ -1,4 +1,4 @@
-// From a filled table to the list: is there room for the shots, and then the shots.
+// From a filled table to the list, by straight cuts: is there room for the shots, and then the shots.
 use super::Fractured;
 use emission::emit;
 use emission::measuring::slivers;
@@ -29,7 +29,7 @@ pub enum Room {
 }
 
 // The piece from the lowest lines to the highest. The pair of the lowest and the highest line is the last that begins at the lowest.
-fn frame_of(plan: Plan) -> Numbered
+pub fn frame_of(plan: Plan) -> Numbered
     requires { ⌜ Sized plan ⌝ }
     ensures { λ p. ⌜ (meant (p .piece) ≡ box 0 (plan .columns) 0 (plan .rows)) × Known plan p ⌝ }
 {
@@ -59,8 +59,8 @@ fn room_for(
     frame: Numbered,
     numbers: usize,
 ) -> Room
-    requires { ⌜ Emittable (now costs) (now cells) (now xs) (now ys) 900 plan 0 frame ⌝ }
-    ensures { λ a. ⌜ ((g : Grid) (r : Rule) → Walk g r (now (costs .entry)) (now (cells .entry)) (now (xs .entry)) (now (ys .entry)) plan → a ≡ roomOf numbers (length (shots Straight g r (meant (frame .piece))))) ⌝ }
+    requires { ⌜ Emittable Straight (now costs) (now cells) (now xs) (now ys) 900 plan 0 frame ⌝ }
+    ensures { λ a. ⌜ ((g : Grid) (r : Rule) → Walk Straight g r (now (costs .entry)) (now (cells .entry)) (now (xs .entry)) (now (ys .entry)) plan → a ≡ roomOf numbers (length (shots Straight g r (meant (frame .piece))))) ⌝ }
 {
     let columns = plan.columns;
     let rows = plan.rows;
@@ -86,8 +86,8 @@ pub fn deliver(
     list: &mut [u16],
     plan: Plan,
 ) -> Fractured
-    requires { ⌜ Walkable (now costs) (now cells) (now xs) (now ys) plan ⌝ }
-    ensures { λ a. ⌜ ((g : Grid) (r : Rule) → Walk g r (now (costs .entry)) (now (cells .entry)) (now (xs .entry)) (now (ys .entry)) plan → told a (now (costs .entry)) (now (list .exit)) ≡ delivered Straight g r (now (costs .entry)) (now (list .entry))) ⌝ }
+    requires { ⌜ Walkable Straight (now costs) (now cells) (now xs) (now ys) plan ⌝ }
+    ensures { λ a. ⌜ ((g : Grid) (r : Rule) → Walk Straight g r (now (costs .entry)) (now (cells .entry)) (now (xs .entry)) (now (ys .entry)) plan → told a (now (costs .entry)) (now (list .exit)) ≡ delivered Straight g r (now (costs .entry)) (now (list .entry))) ⌝ }
 {
     let frame = frame_of(plan);
     let room = room_for(costs, cells, xs, ys, plan, frame, list.len());

@@ -1,4 +1,4 @@
-// From a figure to its shots by straight cuts: the fill, the delivery, and the calls.
+// From a figure to its shots: the fill, the delivery, and the calls; by pinwheels too in `pinwheel`.
 use delivery::deliver;
 use fill::fill;
 use outline::Answer;
@@ -17,7 +17,7 @@ ghost use mathlib.Core.Bool.{true};
 ghost use Rattle.rule.specs.Rules.{inRange};
 ghost use Rattle.figure.specs.Figure.{figure};
 ghost use Rattle.outline.specs.Grid.{Grid, memory};
-ghost use Rattle.piece.specs.declared.Mode.the-variants.{Straight};
+ghost use Rattle.piece.specs.declared.Mode.the-variants.{Straight, Pinwheel};
 ghost use Rattle.demands.specs.Promise.{asked, gridded, ruled, outcome};
 ghost use Rattle.demands.specs.Demands.{Words};
 ghost use Rattle.demands.specs.Cuts.{ahead};
@@ -25,6 +25,7 @@ ghost use Rattle.fracture.specs.Delivery.{Laid, Fillable};
 ghost use Rattle.fracture.specs.Told.{told, byDefault, aheadTold};
 
 mod delivery;
+mod pinwheel;
 
 // What a fracture answers: how many shots, their cost in thousandths of a shot, their sliver length in nm, and how many cuts were weighed;
 // or why there are none, and beside it how many shots there are where the list is too short for them, else 0.
@@ -130,6 +131,24 @@ pub fn fracture_default(
     match Rule::preset(Rule::DEFAULT_PRESET) {
         Preset::Row(rule) => fracture_by(corners, lengths, rule, table, list),
         Preset::Refused(why) => Fractured::Refused(why, 0),
+    }
+}
+
+// The same as `fracture`, by pinwheels beside straight cuts: a piece may also fall into four arms around an inner piece. No drawing costs
+// more so than by straight cuts.
+pub fn fracture_pinwheel(
+    corners: &[u16],
+    lengths: &[u16],
+    threshold: u32,
+    weight: u32,
+    table: &mut [u32],
+    list: &mut [u16],
+) -> Fractured
+    ensures settled { λ a. ⌜ told a (now (table .exit)) (now (list .exit)) ≡ outcome (asked Pinwheel (now (corners .entry)) (now (lengths .entry)) threshold weight (now (table .entry)) (now (list .entry))) ⌝ }
+{
+    match Rule::new(threshold, weight) {
+        Made::Rule(made) => pinwheel::fracture_by(corners, lengths, made, table, list),
+        Made::Refused(cause) => Fractured::Refused(cause, 0),
     }
 }
 

@@ -1,3 +1,4 @@
 pub mod Across
+pub mod Hunting
 pub mod Judged
 pub mod Search

@@ -1,3 +1,4 @@
 pub mod Verdict
 pub mod Memory
 pub mod Search
+pub mod Pinwheels

@@ -1,9 +1,11 @@
 -- Inner: what lies in memory when the pieces are judged (nobody has to believe these).
 --
---   Costed g r table cells plan   == the table begins with the cost of every piece of the grid g under the rule r, cells are g's cells,
---                                    and plan has its size
+--   Costed mode g r table cells plan
+--                                 == the table begins with the cost of every piece of the grid g under the rule r in that mode, cells are
+--                                    g's cells, and plan has its size
 --   Known plan p                  == p is one of the pieces of a grid of that size, and has its own entry
---   Judgeable table cells plan p  == there are such a grid and such a rule, and p is one of the grid's pieces with its entry
+--   Judgeable mode table cells plan p
+--                                 == there are such a grid and such a rule, and p is one of the grid's pieces with its entry
 use Prim.Native.Nat.{ℕ, _+_, _*_, _≤_, _<_}
 use mathlib.Core.Path.{_≡_}
 use mathlib.Core.List.{List}
@@ -12,7 +14,7 @@ use Rattle.sum.specs.Sum.{only}
 use Rattle.outline.specs.Grid.{Grid, Sound}
 use Rattle.rule.specs.declared.Rule.{Rule}
 use Rattle.rule.specs.Rules.{limit}
-use Rattle.piece.specs.declared.Mode.the-variants.{Straight}
+use Rattle.piece.specs.declared.Mode.{Mode}
 use Rattle.piece.specs.Piece.{Piece}
 use Rattle.piece.specs.Meant.{meant}
 use Rattle.piece.specs.Cuts.{cost}
@@ -20,7 +22,7 @@ use Rattle.table.specs.Entry.{Valid, pairCount, entryOf, entryCount}
 use Rattle.verdict.specs.declared.Plan.{Plan}
 use Rattle.verdict.specs.declared.Numbered.{Numbered}
 
-pub record Costed (g : Grid) (r : Rule) (table cells : List ℕ) (plan : Plan) : Type 0 where
+pub record Costed (mode : Mode) (g : Grid) (r : Rule) (table cells : List ℕ) (plan : Plan) : Type 0 where
   pub sound : Sound g
   pub weight : r .weight ≤ limit
   pub columns : plan .columns ≡ g .columns
@@ -29,14 +31,14 @@ pub record Costed (g : Grid) (r : Rule) (table cells : List ℕ) (plan : Plan) :
   pub cells-length : length cells ≡ 256
   pub cell-at : (i j : ℕ) → i < 16 → j < 16 → getD cells (16 * i + j) 0 ≡ only (g .inside i j) 1
   pub entries : entryCount (plan .columns) (plan .rows) ≤ length table
-  pub cost-at : (p : Piece) → Valid (plan .columns) (plan .rows) p → getD table (entryOf (plan .columns) (plan .rows) p) 0 ≡ cost Straight g r p
+  pub cost-at : (p : Piece) → Valid (plan .columns) (plan .rows) p → getD table (entryOf (plan .columns) (plan .rows) p) 0 ≡ cost mode g r p
 
 pub record Known (plan : Plan) (p : Numbered) : Type 0 where
   pub valid : Valid (plan .columns) (plan .rows) (meant (p .piece))
   pub entry : p .entry ≡ entryOf (plan .columns) (plan .rows) (meant (p .piece))
 
-pub record Judgeable (table cells : List ℕ) (plan : Plan) (p : Numbered) : Type 0 where
+pub record Judgeable (mode : Mode) (table cells : List ℕ) (plan : Plan) (p : Numbered) : Type 0 where
   pub grid : Grid
   pub rule : Rule
-  pub costed : Costed grid rule table cells plan
+  pub costed : Costed mode grid rule table cells plan
   pub known : Known plan p

@@ -1,41 +1,59 @@
--- To believe: the verdict of a piece (document 01, "Pieces, slivers, cost").
+-- To believe: the verdict of a piece (document 01, "Pieces, slivers, cost"; document 02, Item 8).
 --
---   lowPart p k, highPart p k == the two parts of the piece p at the straight cut k: left or bottom is low. No verdict of the straight-cut mode
---                        is a pinwheel; the piece itself stands in there
---   numbered g p      == the piece p as the code holds it, with its entry in the table of the grid g
---   verdictOf g r p   == by straight cuts: outside where no cell of p is inside; a shot where all of them are; else a cut, into the two parts of the first
---                        cut in the tie order whose parts cost what p costs, which is the least
+--   placed columns rows p == the piece p as the code holds it, with its entry in the table of a grid of so many columns and rows
+--   numbered g p          == the same, by the size of the grid g
+--   partNo p k n          == the part number n of the cut k of p; p itself stands in beyond the last
+--   wheelIn columns rows p k == the five parts of the pinwheel k, so placed
+--   made g p k            == what becomes of p by the cut k: its low and its high part, left or bottom being low; or the parts of a pinwheel
+--   verdictOf mode g r p  == outside where no cell of p is inside; a shot where all of them are; else what becomes of it by the first cut in the
+--                            tie order whose parts cost what p costs, which is the least
+--   plain v               == a verdict by straight cuts, as one of either mode
+use Prim.Native.Nat.{ℕ}
+use lib.ListN.{getD}
 use Rattle.recurrence.specs.Scheme.{outside, full, mixed}
 use Rattle.outline.specs.Grid.{Grid}
 use Rattle.rule.specs.declared.Rule.{Rule}
-use Rattle.piece.specs.declared.Mode.the-variants.{Straight}
+use Rattle.piece.specs.declared.Mode.{Mode}
 use Rattle.piece.specs.Piece.{Piece, kind, leftPart, rightPart, lowerPart, upperPart}
-use Rattle.piece.specs.Cuts.{Cut, vertical, horizontal, wheel, choice}
+use Rattle.piece.specs.Cuts.{Cut, vertical, horizontal, wheel, parts, choice}
 use Rattle.table.specs.Entry.{entryOf}
 use Rattle.verdict.specs.declared.Numbered.{Numbered}
 use Rattle.verdict.specs.declared.Verdict.{Verdict}
-use Rattle.verdict.specs.declared.Verdict.the-variants as verdict
+use Rattle.verdict.specs.declared.Verdict.the-variants as straight
+use Rattle.verdict.specs.declared.pinwheel.Wheel.{Wheel}
+use Rattle.verdict.specs.declared.pinwheel.Turned.{Turned}
+use Rattle.verdict.specs.declared.pinwheel.Turned.the-variants as verdict
 
-abbrev pub lowPart : Piece → Cut → Piece
-lowPart p (vertical j) = leftPart p j
-lowPart p (horizontal j) = lowerPart p j
-lowPart p (wheel t j l k m) = p
-
-abbrev pub highPart : Piece → Cut → Piece
-highPart p (vertical j) = rightPart p j
-highPart p (horizontal j) = upperPart p j
-highPart p (wheel t j l k m) = p
-
-abbrev pub numbered : Grid → Piece → Numbered
-numbered g p = record {
+abbrev pub placed : ℕ → ℕ → Piece → Numbered
+placed columns rows p = record {
   piece = record { a = record { 0 = p .a }; c = record { 0 = p .c }; b = record { 0 = p .b }; d = record { 0 = p .d } };
-  entry = entryOf (g .columns) (g .rows) p;
+  entry = entryOf columns rows p;
 }
 
-unfoldable pub verdictOf : Grid → Rule → Piece → Verdict
-verdictOf g r p =
-    elim (kind g p) [
-      | outside ↦ verdict.Outside
-      | full ↦ verdict.Shot
-      | mixed ↦ verdict.Cut (numbered g (lowPart p (choice Straight g r p))) (numbered g (highPart p (choice Straight g r p)))
-    ]
+abbrev pub numbered : Grid → Piece → Numbered
+numbered g p = placed (g .columns) (g .rows) p
+
+unfoldable pub partNo : Piece → Cut → ℕ → Piece
+partNo p k n = getD (parts p k) n p
+
+unfoldable pub wheelIn : ℕ → ℕ → Piece → Cut → Wheel
+wheelIn columns rows p k = record {
+  first = placed columns rows (partNo p k 0);
+  second = placed columns rows (partNo p k 1);
+  third = placed columns rows (partNo p k 2);
+  fourth = placed columns rows (partNo p k 3);
+  inner = placed columns rows (partNo p k 4);
+}
+
+abbrev pub made : Grid → Piece → Cut → Turned
+made g p (vertical j) = verdict.Cut (numbered g (leftPart p j)) (numbered g (rightPart p j))
+made g p (horizontal j) = verdict.Cut (numbered g (lowerPart p j)) (numbered g (upperPart p j))
+made g p (wheel t j l k m) = verdict.Wheel (wheelIn (g .columns) (g .rows) p (wheel t j l k m))
+
+unfoldable pub verdictOf : Mode → Grid → Rule → Piece → Turned
+verdictOf mode g r p = elim (kind g p) [ outside ↦ verdict.Outside | full ↦ verdict.Shot | mixed ↦ made g p (choice mode g r p) ]
+
+abbrev pub plain : Verdict → Turned
+plain straight.Outside = verdict.Outside
+plain straight.Shot = verdict.Shot
+plain (straight.Cut l h) = verdict.Cut l h

@@ -7,10 +7,13 @@ ghost use mathlib.Core.Path.{_≡_};
 ghost use Prim.Native.Nat.{_+_, _*_, _≤_};
 ghost use lib.ListN.{length, getD};
 ghost use Rattle.outline.specs.Grid.{Grid};
+ghost use Rattle.piece.specs.declared.Mode.the-variants.{Straight};
 ghost use Rattle.piece.specs.Meant.{meant};
 ghost use Rattle.verdict.specs.Memory.{Costed, Judgeable};
 ghost use Rattle.verdict.specs.Search.{FirstWith, AllInside, Weighable, Finds};
-ghost use Rattle.verdict.specs.Verdict.{verdictOf};
+ghost use Rattle.verdict.specs.Verdict.{plain, verdictOf};
+
+pub mod pinwheel;
 
 // A piece with its entry in the table: the parts of a cut get theirs from the search, so that no entry is reckoned anew.
 pub struct Numbered {
@@ -18,7 +21,7 @@ pub struct Numbered {
     pub entry: usize,
 }
 
-// What becomes of a piece: nothing of it is inside, or all of it is one shot, or it is cut, into its low and its high part.
+// What becomes of a piece by straight cuts: nothing of it is inside, or all of it is one shot, or it is cut, into its low and its high part.
 pub enum Verdict {
     Outside,
     Shot,
@@ -118,10 +121,10 @@ fn first_line(table: &[u32], cuts: Cuts, cost: u32) -> Found
 }
 
 // The verdict of a piece. What costs nothing is outside; what is inside in all cells is a shot; else the cut is the first, vertical ones first and
-// the lower line first, whose parts cost together what the piece costs.
+// the lower line first, whose parts cost together what the piece costs. There always is one.
 pub fn judge(costs: &[u32], cells: &[u8], plan: Plan, p: Numbered) -> Verdict
-    requires { ⌜ Judgeable (now costs) (now cells) plan p ⌝ }
-    ensures { λ v. ⌜ ((g : Grid) (r : Rule) → Costed g r (now (costs .entry)) (now (cells .entry)) plan → v ≡ verdictOf g r (meant (p .piece))) ⌝ }
+    requires { ⌜ Judgeable Straight (now costs) (now cells) plan p ⌝ }
+    ensures { λ v. ⌜ ((g : Grid) (r : Rule) → Costed Straight g r (now (costs .entry)) (now (cells .entry)) plan → plain v ≡ verdictOf Straight g r (meant (p .piece))) ⌝ }
 {
     let piece = p.piece;
     let entry = p.entry;

@@ -1,6 +1,6 @@
 //! The lines of the benchmark and their drawings.
 
-use drawings::document::{B, FRAMED, L};
+use drawings::document::{B, FRAMED, JOGS, L, W2};
 use drawings::seeded::Seeded;
 use drawings::{figures, outlines};
 use law::{Calls, Drawing, Law};
@@ -85,6 +85,25 @@ pub fn guarded() -> [(&'static str, Drawing); 5] {
         ("frame", framed()),
         ("staircase", staircase()),
         ("16-by-16", walk(WORST)),
+    ]
+}
+
+/// A frame with a window and a jog at each corner: a pinwheel cuts it into four.
+fn jogs() -> Drawing {
+    Drawing { corners: JOGS.to_vec(), rings: vec![12, 4] }
+}
+
+/// The lines of the table of fractures by pinwheels.
+pub fn wheel_lines() -> Vec<Line> {
+    vec![
+        Line { name: "L, 3 by 3 lines", drawings: vec![Drawing::outline(&L)] },
+        Line { name: "frame with a window, 4 by 4 lines", drawings: vec![framed()] },
+        Line { name: "W2, 5 by 5 lines", drawings: vec![Drawing::outline(&W2)] },
+        Line { name: "frame with jogs, 8 by 8 lines", drawings: vec![jogs()] },
+        Line { name: "staircase, 32 corners", drawings: vec![staircase()] },
+        Line { name: "16 by 16 lines, most pieces mixed", drawings: vec![walk(WORST)] },
+        Line { name: "200 layout-like outlines", drawings: layout() },
+        Line { name: "200 layout-like figures with windows", drawings: layout_with_windows() },
     ]
 }
 

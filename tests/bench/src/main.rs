@@ -8,7 +8,7 @@
 //! Table (14,400 entries) and list (900 numbers) are lent whole and not cleared between calls: each
 //! call finds what the last one left. Every call is whole: checks, grid, fill, emission.
 
-use bench::{layout, lines};
+use bench::{layout, lines, wheel_lines};
 use drawings::document::{FRAMED_JOB, JOB};
 use drawings::elements;
 use law::bytes::{header, written_outline};
@@ -85,6 +85,26 @@ fn load() -> String {
     load.split(' ').take(3).collect::<Vec<_>>().join(" ")
 }
 
+/// The same by pinwheels, beside the C++ baseline that weighs them in the same way.
+fn by_pinwheels(calls: &dyn Calls, who: &str, rounds: usize) {
+    let ours: Fracture = &|drawing, table, list| calls.fracture_pinwheel(drawing, 25, 40, table, list);
+    let wheels: Fracture = &|drawing, table, list| lent::baseline_wheels(drawing, 25, 40, table, list);
+    println!("\n| By pinwheels | {who} | C++ by pinwheels | to it |\n|---|---:|---:|---:|");
+    let (mut table, mut list) = (vec![0u32; 14_400], vec![0u16; 900]);
+    for line in &wheel_lines() {
+        let all = [ours, wheels];
+        let turns = all.map(|fracture| turns(&line.drawings, fracture, &mut table, &mut list));
+        let mut best = [f64::MAX; 2];
+        for _ in 0..rounds {
+            for which in 0..2 {
+                let took = round(&line.drawings, all[which], &mut table, &mut list, turns[which]);
+                best[which] = best[which].min(took);
+            }
+        }
+        println!("| {} | {:.0} | {:.0} | {:.2} |", line.name, best[0], best[1], best[0] / best[1]);
+    }
+}
+
 fn main() {
     let words: Vec<String> = std::env::args().collect();
     let rounds = match words.get(1).map(String::as_str) {
@@ -126,6 +146,7 @@ fn main() {
         Some(library) => library,
         None => &Law,
     };
+    by_pinwheels(calls, who, rounds);
     println!("\n| Job, by the {who} | bytes | outlines | ns |\n|---|---:|---:|---:|");
     let mut rings = [0; 8];
     let jobs =
@@ -150,6 +171,17 @@ fn main() {
             black_box(calls.gdsii_fracture(black_box(&element), &mut table, &mut list));
         });
         println!("| {name} | {} | {read:.0} | {fractured:.0} |", element.len());
+    }
+    println!("\n| Largest shot, by the {who} | shots before | shots | ns |\n|---|---:|---:|---:|");
+    let square = Drawing::outline(&[0, 0, 65_535, 0, 65_535, 65_535, 0, 65_535]);
+    let mut long = vec![0u16; 467_856];
+    for (name, drawing, largest) in [("full square at 200 nm", &square, 200), ("full square at 65,535 nm", &square, 65_535)] {
+        let before = calls.fracture(drawing, 25, 40, &mut table, &mut list).numbers[0];
+        let shots = calls.fracture_divided(false, drawing, 25, 40, largest, &mut table, &mut long).numbers[0];
+        let took = best(rounds.min(5), || {
+            black_box(calls.fracture_divided(false, black_box(drawing), 25, 40, largest, &mut table, &mut long));
+        });
+        println!("| {name} | {before} | {shots} | {took:.0} |");
     }
     println!("load after {}", load());
 }

@@ -5,7 +5,7 @@
 use crate::progress::Progress;
 use crate::room::Room;
 use crate::Plan;
-use drawings::document::{B, EIGHT, FRAMED, L, NUMBERS, RINGS, ROWS};
+use drawings::document::{B, EIGHT, FRAMED, L, NUMBERS, RINGS, ROWS, UNTURNED, W2, WHEELS};
 use drawings::seeded::Seeded;
 use drawings::{figures, outlines};
 use law::cutting::Fracture;
@@ -74,6 +74,51 @@ impl Case<'_> {
         check("the baseline by widths", with_cuts(told, right), its_table, its_list);
         (right, table, list)
     }
+
+    /// Compares the library and the baseline by pinwheels with the law in the pinwheel mode; gives the law's answer, table and list.
+    pub fn compare_pinwheel(&self, plan: &Plan, progress: &Progress, from: &dyn Fn() -> String) -> (Told, Room<u32>, Room<u16>) {
+        let (threshold, weight) = self.rule.unwrap_or(law::call::DEFAULT);
+        let (mut table, mut list) = (Room::new(self.table), Room::new(self.list));
+        let right = Law.fracture_pinwheel(self.drawing, threshold, weight, table.lent(), list.lent());
+        let check = |who: &str, told: Told, its_table: Room<u32>, its_list: Room<u16>| {
+            let said = || format!("{who} by pinwheels: {}\n  {:?}\n  rule {:?}, table {}, list {}", from(), self.drawing, self.rule, self.table.len(), self.list.len());
+            assert!(told == right, "{}\n  answers {told:?} and not {right:?}", said());
+            if let Some((at, right, wrong)) = table.differs(&its_table) {
+                panic!("{}\n  table at {at}: {wrong} and not {right}", said());
+            }
+            if let Some((at, right, wrong)) = list.differs(&its_list) {
+                panic!("{}\n  list at {at}: {wrong} and not {right}", said());
+            }
+            progress.same();
+        };
+        if let Some(library) = plan.library {
+            let (mut its_table, mut its_list) = (Room::new(self.table), Room::new(self.list));
+            let told = library.fracture_pinwheel(self.drawing, threshold, weight, its_table.lent(), its_list.lent());
+            check("the library", told, its_table, its_list);
+        }
+        let (mut its_table, mut its_list) = (Room::new(self.table), Room::new(self.list));
+        let told = lent::baseline_wheels(self.drawing, threshold, weight, its_table.lent(), its_list.lent());
+        check("the baseline", with_cuts(told, right), its_table, its_list);
+        (right, table, list)
+    }
+}
+
+/// The rows of pinwheels: the law against the document in both modes, then the library against the law.
+pub fn wheel_rows(plan: &Plan, progress: &Progress) {
+    for (row, wheels) in UNTURNED.iter().map(|row| (row, false)).chain(WHEELS.iter().map(|row| (row, true))) {
+        let drawing = row.drawing();
+        let (table, list) = (vec![7; row.room.0], vec![9; row.room.1]);
+        let case = Case { drawing: &drawing, rule: Some(row.rule), table: &table, list: &list };
+        let from = || format!("the document's row: {}", row.name);
+        let (told, _, list) =
+            if wheels { case.compare_pinwheel(plan, progress, &from) } else { case.compare(plan, progress, &from) };
+        let [shots, cost, sliver, ..] = told.numbers;
+        assert_eq!((told.number, [shots, cost, sliver]), row.outcome, "{}", from());
+        // the cuts are the straight ones in either mode
+        assert_eq!(told.numbers[3], if told.number == 0 { Law.cuts(&drawing).numbers[0] } else { 0 }, "{}", from());
+        assert_eq!(&list.held()[..row.list.len()], row.list, "{}", from());
+    }
+    progress.done(format!("pinwheels: {} rows", UNTURNED.len() + WHEELS.len()));
 }
 
 /// Document 02's stairs over 16 by 16 lines.
@@ -97,6 +142,7 @@ fn counted() -> Vec<(Drawing, u64)> {
         (two(&[0, 0, 10, 0, 10, 10, 0, 10, 50, 50, 60, 50, 60, 60, 50, 60]), 32),
         (Drawing::outline(&[0, 0, 100, 0, 100, 100, 0, 100]), 0),
         (stairs(), 104_888),
+        (Drawing::outline(&W2), 158),
     ]
 }
 
@@ -278,12 +324,14 @@ pub fn every_length(plan: &Plan, progress: &Progress) {
         for length in 0..=pieces + 3 {
             let case = Case { drawing: &drawing, rule: Some(rule), table: &marks[..length], list: &places };
             case.compare(plan, progress, &from);
-            count += 1;
+            case.compare_pinwheel(plan, progress, &from);
+            count += 2;
         }
         for length in 0..=4 * shots + 5 {
             let case = Case { drawing: &drawing, rule: Some(rule), table: &marks, list: &places[..length] };
             case.compare(plan, progress, &from);
-            count += 1;
+            case.compare_pinwheel(plan, progress, &from);
+            count += 2;
         }
     }
     progress.done(format!("tables and lists of every length: {count} fractures"));
@@ -292,7 +340,7 @@ pub fn every_length(plan: &Plan, progress: &Progress) {
 /// Every cutting of small grids: none is cheaper than what the table says of its piece, and one
 /// costs as much.
 pub fn every_cutting(plan: &Plan, progress: &Progress) {
-    let (mut grids, mut ringed, mut cuttings) = (0, 0, 0);
+    let (mut grids, mut ringed, mut cuttings, mut turned, mut cheaper) = (0, 0, 0, 0, 0);
     for seed in 0..1500u64 {
         let mut s = Seeded::new(plan.seed << 32 | 0xc077 << 16 | seed);
         // outlines and figures of few lines
@@ -322,13 +370,27 @@ pub fn every_cutting(plan: &Plan, progress: &Progress) {
             let least = *all.iter().min().unwrap();
             assert_eq!(least, table.held()[entry] as u64, "every cutting, seed {seed}, {drawing:?}, {piece:?}");
         }
+        // the same with pinwheels among them: none below 4 lines each way
+        if columns.min(rows) > 2 && columns * rows <= 12 {
+            let (_, by_wheels, _) = case.compare_pinwheel(plan, progress, &|| format!("every cutting, seed {seed}"));
+            let fracture = Fracture::with_pinwheels(&figure, threshold, weight);
+            let mut known = HashMap::new();
+            for (entry, piece) in fracture.pieces().into_iter().enumerate() {
+                let all = prices(&fracture, piece, &mut known);
+                turned += all.len();
+                let least = *all.iter().min().unwrap();
+                assert_eq!(least, by_wheels.held()[entry] as u64, "every cutting by pinwheels, seed {seed}, {drawing:?}, {piece:?}");
+                assert!(by_wheels.held()[entry] <= table.held()[entry]);
+                cheaper += (by_wheels.held()[entry] < table.held()[entry]) as usize;
+            }
+        }
         grids += 1;
         ringed += (drawing.rings.len() > 1) as usize;
         progress.at("every cutting", seed as usize, 1500);
     }
     assert!(ringed > 100, "only {ringed} small grids of several rings");
     progress.done(format!(
-        "every cutting of {grids} small grids ({ringed} of several rings): {cuttings} cuttings, none cheaper"
+        "every cutting of {grids} small grids ({ringed} of several rings): {cuttings} cuttings, none cheaper; {turned} with pinwheels among them, {cheaper} pieces cheaper so"
     ));
 }
 
@@ -368,6 +430,7 @@ pub fn outlines(plan: &Plan, progress: &Progress) {
     let next = AtomicUsize::new(0);
     let refused = Mutex::new([0usize; 16]);
     let (squares, shots, ringed) = (AtomicUsize::new(0), AtomicUsize::new(0), AtomicUsize::new(0));
+    let (turned, cheaper) = (AtomicUsize::new(0), AtomicUsize::new(0));
     std::thread::scope(|scope| {
         for _ in 0..plan.threads {
             scope.spawn(|| {
@@ -409,6 +472,15 @@ pub fn outlines(plan: &Plan, progress: &Progress) {
                             squares.fetch_add(1, Ordering::Relaxed);
                         }
                         shots.fetch_add(told.numbers[0] as usize, Ordering::Relaxed);
+                        // the law tries every pinwheel of every piece: of few lines, and now and then of many
+                        if pieces <= 1300 || seed % 257 == 0 {
+                            let (its, ..) = case.compare_pinwheel(plan, progress, &|| format!("drawing, seed {seed}, sort {sort}"));
+                            turned.fetch_add((its.number == 0) as usize, Ordering::Relaxed);
+                            if told.number == 0 && its.number == 0 {
+                                assert!(its.numbers[1] <= told.numbers[1], "drawing, seed {seed}, sort {sort}");
+                                cheaper.fetch_add((its.numbers[1] < told.numbers[1]) as usize, Ordering::Relaxed);
+                            }
+                        }
                         // what this drawing left is what the next one finds
                         table[..entries].copy_from_slice(its_table.held());
                         list[..numbers].copy_from_slice(its_list.held());
@@ -426,13 +498,15 @@ pub fn outlines(plan: &Plan, progress: &Progress) {
     }
     let numbers: Vec<String> = (1..8).map(|n| format!("{n}: {}", refused[n])).collect();
     progress.done(format!(
-        "drawings, seeds 0 to {} under {}: {} fractured ({} of several rings; {} shots; {} held to their unit squares), refused {}",
+        "drawings, seeds 0 to {} under {}: {} fractured ({} of several rings; {} shots; {} held to their unit squares; {} by pinwheels too, {} cheaper so), refused {}",
         plan.outlines - 1,
         plan.seed,
         refused[0],
         ringed.into_inner(),
         shots.into_inner(),
         squares.into_inner(),
+        turned.into_inner(),
+        cheaper.into_inner(),
         numbers.join(", ")
     ));
 }

@@ -7,6 +7,7 @@
 //! with their outcomes for the C program `replay`. Without the library only the baselines are compared.
 
 mod edges;
+mod divisions;
 mod fractures;
 mod gdsii;
 mod jobs;
@@ -69,6 +70,7 @@ fn main() {
         plan.threads
     );
     fractures::rows(&plan, &progress);
+    fractures::wheel_rows(&plan, &progress);
     fractures::presets(&plan, &progress);
     fractures::every_ring_length(&plan, &progress);
     fractures::every_order(&plan, &progress);
@@ -90,6 +92,11 @@ fn main() {
     joins::lists(&plan, &progress);
     edges::rows(&plan, &progress);
     edges::figures(&plan, &progress);
+    divisions::rows(&plan, &progress);
+    divisions::ranges(&plan, &progress);
+    divisions::sides(&plan, &progress);
+    divisions::full_square(&plan, &progress);
+    divisions::drawings(&plan, &progress);
     if let Some(file) = &plan.record {
         record::write(file, plan.seed, &progress);
     }

@@ -7,7 +7,7 @@
 //! numbers, a hash over each lent buffer with 16 elements before and beyond it. Calls: 1 preset,
 //! 2 fracture, 3 fracture by the default rule, 4 number, 5 job check, 6 job outline, 7 unpack, 8 write
 //! header, 9 write outline, 10 read a boundary, 11 fracture one, 12 the end, 23 the runs of an edge, 30 join,
-//! 31 cuts ahead. A shift has its sign.
+//! 31 cuts ahead, 32 fracture by pinwheels, 50 and 51 the same as 2 and 32 with a largest side. A shift has its sign.
 //! An entry of a table of pairs is hashed field by field, its partner as two words.
 
 use crate::edges::shot_list;
@@ -26,6 +26,7 @@ const JOBS: u64 = 6_000;
 const ELEMENTS: u64 = 6_000;
 const LISTS: u64 = 6_000;
 const EDGES: u64 = 6_000;
+const DIVIDED: u64 = 4_000;
 
 struct Record {
     words: Vec<u32>,
@@ -73,11 +74,16 @@ impl Record {
         self.calls += 1;
     }
 
-    fn fracture(&mut self, drawing: &Drawing, rule: Option<(u32, u32)>, entries: usize, numbers: usize, mark: u32) {
+    /// By pinwheels (with a rule), by a rule, or by the default rule.
+    fn fracture(&mut self, wheels: bool, drawing: &Drawing, rule: Option<(u32, u32)>, entries: usize, numbers: usize, mark: u32) {
         let mut table = lend(entries, mark, 32, |x| x);
         let mut list = lend(numbers, mark, 16, |x| x as u16);
         let (inner_table, inner_list) = (&mut table[MARGIN..MARGIN + entries], &mut list[MARGIN..MARGIN + numbers]);
         let told = match rule {
+            Some((threshold, weight)) if wheels => {
+                self.words.extend([32, threshold, weight]);
+                Law.fracture_pinwheel(drawing, threshold, weight, inner_table, inner_list)
+            }
             Some((threshold, weight)) => {
                 self.words.extend([2, threshold, weight]);
                 Law.fracture(drawing, threshold, weight, inner_table, inner_list)
@@ -87,6 +93,20 @@ impl Record {
                 Law.fracture_default(drawing, inner_table, inner_list)
             }
         };
+        self.drawing_lengths(drawing);
+        self.size(entries);
+        self.size(numbers);
+        self.words.push(mark);
+        self.drawing(drawing);
+        self.outcome(told, 4, &[hash(table.into_iter()), hash(list.into_iter().map(u32::from))]);
+    }
+
+    fn divided(&mut self, wheels: bool, drawing: &Drawing, rule: (u32, u32), largest: u32, (entries, numbers): (usize, usize), mark: u32) {
+        let mut table = lend(entries, mark, 32, |x| x);
+        let mut list = lend(numbers, mark, 16, |x| x as u16);
+        let (inner_table, inner_list) = (&mut table[MARGIN..MARGIN + entries], &mut list[MARGIN..MARGIN + numbers]);
+        let told = Law.fracture_divided(wheels, drawing, rule.0, rule.1, largest, inner_table, inner_list);
+        self.words.extend([if wheels { 51 } else { 50 }, rule.0, rule.1, largest]);
         self.drawing_lengths(drawing);
         self.size(entries);
         self.size(numbers);
@@ -269,7 +289,10 @@ pub fn write(file: &str, seed: u64, progress: &Progress) {
         let numbers = s.pick(&[900, 900, 901, few]);
         let rule = if s.once_in(8) { None } else { Some(outlines::rule(&mut s, &drawing)) };
         let mark = s.any() as u32;
-        record.fracture(&drawing, rule, entries, numbers, mark);
+        record.fracture(false, &drawing, rule, entries, numbers, mark);
+        if rule.is_some() && (pieces <= 1300 || turn % 67 == 0) {
+            record.fracture(true, &drawing, rule, entries, numbers, mark);
+        }
         record.cuts(&drawing);
         progress.at("recording", turn as usize, OUTLINES as usize);
     }
@@ -315,6 +338,21 @@ pub fn write(file: &str, seed: u64, progress: &Progress) {
         let few = s.within(0, 20);
         let room = s.pick(&[60 + 2 * shots.len(), few]);
         record.edge(&drawing, edge, &shots, room, turn as u32);
+    }
+    for turn in 0..DIVIDED {
+        let mut s = Seeded::new(seed << 32 | 0xd1f0 << 16 | turn);
+        let mut drawing = any_figure(&mut s);
+        let most = (u16::MAX / drawing.corners.iter().max().copied().unwrap_or(0).max(1)).max(1);
+        let times = s.pick(&[1, 2, 5]).min(most);
+        drawing.corners.iter_mut().for_each(|place| *place *= times);
+        let pieces = figure(&drawing).map_or(50, |f| f.pieces());
+        let rule = outlines::rule(&mut s, &drawing);
+        let any = s.within(0, 70_000) as u32;
+        let largest = s.pick(&[199, 200, 200, 201, 2 * rule.0.min(1000), 500, 2_000, 65_535, 65_536, any]);
+        let few = s.within(0, 60);
+        let numbers = s.pick(&[900, 2_000, 20_000, few]);
+        let wheels = pieces <= 1300 && s.once_in(2);
+        record.divided(wheels, &drawing, rule, largest, (pieces, numbers), turn as u32);
     }
     record.words.push(12);
     let bytes: Vec<u8> = record.words.iter().flat_map(|word| word.to_le_bytes()).collect();

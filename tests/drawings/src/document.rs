@@ -1,5 +1,5 @@
 //! The drawings of document 01's table with their outcomes, and the worked example; the same for
-//! windows (document 02, Item 1).
+//! windows (document 02, Item 1) and for pinwheels (Item 8).
 
 use law::Drawing;
 
@@ -296,4 +296,58 @@ pub const GUILTY: [(&[u8], usize, u32, usize); 10] = [
     (&[0x05, 0x80, 0x80, 0x00], 1, 9, 3),
     (&[0x80, 0x80, 0x80], 0, 10, 2),
     (&[0x80, 0x80, 0x80, 0x00], 0, 10, 2),
+];
+
+/// A drawing that is best cut as a pinwheel of the second turn; W1 is the same with x replaced by 120 - x.
+pub const W2: [u16; 24] =
+    [100, 60, 40, 60, 40, 0, 110, 0, 110, 80, 100, 80, 100, 20, 70, 20, 70, 60, 10, 60, 10, 100, 100, 100];
+pub const W1: [u16; 24] =
+    [20, 60, 80, 60, 80, 0, 10, 0, 10, 80, 20, 80, 20, 20, 50, 20, 50, 60, 110, 60, 110, 100, 20, 100];
+/// A frame with a window, with a jog at each corner.
+pub const JOGS: [u16; 32] = [
+    0, 20, 620, 20, 620, 0, 920, 0, 920, 620, 940, 620, 940, 920, 320, 920, 320, 940, 20, 940, 20, 320, 0, 320, 320, 320,
+    620, 320, 620, 620, 320, 620,
+];
+/// Several pinwheels of one turn cost the same here.
+const TIES: [u16; 48] = [
+    16, 1, 13, 1, 13, 0, 12, 0, 12, 3, 11, 3, 11, 4, 14, 4, 14, 5, 15, 5, 15, 2, 16, 2, 14, 2, 13, 2, 13, 3, 14, 3, 14, 3,
+    15, 3, 15, 4, 14, 4, 14, 5, 16, 5, 16, 0, 14, 0,
+];
+const W2_BY_WHEEL: [u16; 16] = [40, 0, 70, 60, 70, 0, 110, 20, 10, 60, 100, 100, 100, 20, 110, 80];
+const W1_BY_WHEEL: [u16; 16] = [10, 0, 50, 20, 50, 0, 80, 60, 10, 20, 20, 80, 20, 60, 110, 100];
+
+/// Rows by straight cuts, of drawings that pinwheels cut better.
+pub const UNTURNED: [Row; 5] = [
+    row("W2, straight", &W2, (25, 40), (0, [4, 11_200, 180]), &[40, 0, 70, 60, 70, 0, 100, 20, 10, 60, 100, 100, 100, 0, 110, 80]),
+    row("W1, straight", &W1, (25, 40), (0, [4, 11_200, 180]), &[10, 0, 20, 80, 20, 0, 50, 20, 50, 0, 80, 60, 20, 60, 110, 100]),
+    row("W2 at 25, 0, straight", &W2, (25, 0), (0, [4, 4000, 210]), &[40, 0, 100, 20, 40, 20, 70, 60, 10, 60, 100, 100, 100, 0, 110, 80]),
+    ringed("frame with jogs, straight", &JOGS, &[12, 4], (0, [5, 5000, 0]), &[]),
+    Row { rule: (2, 40), ..ringed("ties within a turn, straight", &TIES, &[12, 4, 4, 4], (0, [6, 6880, 22]), &[]) },
+];
+
+/// Rows by pinwheels.
+pub const WHEELS: [Row; 8] = [
+    row("W2", &W2, (25, 40), (0, [4, 10_800, 170]), &W2_BY_WHEEL),
+    row("W1", &W1, (25, 40), (0, [4, 10_800, 170]), &W1_BY_WHEEL),
+    row("W2 at 25, 0: the straight cut of equals", &W2, (25, 0), (0, [4, 4000, 210]), &[40, 0, 100, 20, 40, 20, 70, 60, 10, 60, 100, 100, 100, 0, 110, 80]),
+    Row { room: (100, 16), ..row("W2, table of 100, list of 16", &W2, (25, 40), (0, [4, 10_800, 170]), &W2_BY_WHEEL) },
+    Row { room: (100, 15), ..row("W2, list of 15", &W2, (25, 40), (7, [4, 0, 0]), &[]) },
+    Row { room: (99, 900), ..row("W2, table of 99", &W2, (25, 40), (6, [0; 3]), &[]) },
+    ringed(
+        "frame with jogs",
+        &JOGS,
+        &[12, 4],
+        (0, [4, 4000, 0]),
+        &[0, 20, 620, 320, 620, 0, 920, 620, 20, 320, 320, 940, 320, 620, 940, 920],
+    ),
+    Row {
+        rule: (2, 40),
+        ..ringed(
+            "ties within a turn",
+            &TIES,
+            &[12, 4, 4, 4],
+            (0, [5, 5920, 23]),
+            &[12, 0, 13, 3, 14, 0, 16, 1, 11, 3, 15, 4, 15, 2, 16, 5, 13, 1, 14, 2],
+        )
+    },
 ];

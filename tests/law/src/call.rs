@@ -20,6 +20,17 @@ pub fn preset(number: u32) -> Told {
 
 /// Shots, cost, sliver length and cuts weighed, the table and the list filled from the front; or 1 to 7.
 pub fn fracture(drawing: &Drawing, threshold: u32, weight: u32, table: &mut [u32], list: &mut [u16]) -> Told {
+    fracture_by(false, drawing, threshold, weight, table, list)
+}
+
+/// The same by pinwheels beside straight cuts.
+pub fn fracture_pinwheel(drawing: &Drawing, threshold: u32, weight: u32, table: &mut [u32], list: &mut [u16]) -> Told {
+    fracture_by(true, drawing, threshold, weight, table, list)
+}
+
+fn fracture_by(
+    pinwheels: bool, drawing: &Drawing, threshold: u32, weight: u32, table: &mut [u32], list: &mut [u16],
+) -> Told {
     if threshold > 1000 || weight > 1000 {
         return Told::refused(1);
     }
@@ -33,7 +44,11 @@ pub fn fracture(drawing: &Drawing, threshold: u32, weight: u32, table: &mut [u32
     if table.len() < figure.pieces() {
         return Told::refused(6);
     }
-    let mut fracture = Fracture::new(&figure, threshold, weight);
+    let mut fracture = if pinwheels {
+        Fracture::with_pinwheels(&figure, threshold, weight)
+    } else {
+        Fracture::new(&figure, threshold, weight)
+    };
     for (entry, piece) in fracture.pieces().into_iter().enumerate() {
         table[entry] = fracture.judge(piece).1;
     }

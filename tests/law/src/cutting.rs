@@ -22,12 +22,21 @@ pub enum Kind {
     Mixed,
 }
 
+/// The first and the second term of the paper's equation (3).
+#[derive(Clone, Copy, PartialEq, Eq, Debug)]
+pub enum Turn {
+    First,
+    Second,
+}
+
 #[derive(Clone, Copy, PartialEq, Eq, Debug)]
 pub enum Verdict {
     Outside,
     Shot,
     CutAtX(usize),
     CutAtY(usize),
+    /// a pinwheel by its x lines j < l and its y lines k < m
+    Wheel(Turn, [usize; 4]),
 }
 
 /// A figure under a rule, with the verdict and cost of each piece as far as they are known.
@@ -35,12 +44,24 @@ pub struct Fracture<'a> {
     pub figure: &'a Figure,
     threshold: u32,
     weight: u32,
+    pinwheels: bool,
     known: Vec<Option<(Verdict, u32)>>,
 }
 
 impl<'a> Fracture<'a> {
+    /// By straight cuts alone.
     pub fn new(figure: &'a Figure, threshold: u32, weight: u32) -> Self {
-        Fracture { figure, threshold, weight, known: vec![None; 1 << 16] }
+        Fracture { figure, threshold, weight, pinwheels: false, known: vec![None; 1 << 16] }
+    }
+
+    /// By pinwheels too.
+    pub fn with_pinwheels(figure: &'a Figure, threshold: u32, weight: u32) -> Self {
+        Fracture { pinwheels: true, ..Fracture::new(figure, threshold, weight) }
+    }
+
+    /// The cuts of a piece in the order of ties: straight ones, then pinwheels where they are allowed.
+    pub fn cuts(&self, p: Piece) -> impl Iterator<Item = Verdict> {
+        cuts(p).chain(if self.pinwheels { wheels(p) } else { Vec::new() })
     }
 
     pub fn frame(&self) -> Piece {
@@ -140,9 +161,8 @@ impl<'a> Fracture<'a> {
             Kind::Full => (Verdict::Shot, self.charge(p)),
             Kind::Mixed => {
                 let mut best = None;
-                for cut in cuts(p) {
-                    let (low, high) = parts(p, cut);
-                    let cost = self.judge(low).1 + self.judge(high).1;
+                for cut in self.cuts(p) {
+                    let cost = parts(p, cut).map(|part| self.judge(part).1).sum();
                     // the first of equals stays
                     if best.map_or(true, |(_, least)| cost < least) {
                         best = Some((cut, cost));
@@ -155,31 +175,50 @@ impl<'a> Fracture<'a> {
         answer
     }
 
-    /// The shots of a piece: by itself, or those of the low part and then those of the high part.
+    /// The shots of a piece: by itself, or those of its parts in their order.
     pub fn shots(&mut self, p: Piece) -> Vec<Piece> {
         match self.judge(p).0 {
             Verdict::Outside => Vec::new(),
             Verdict::Shot => vec![p],
-            cut => {
-                let (low, high) = parts(p, cut);
-                let mut all = self.shots(low);
-                all.extend(self.shots(high));
-                all
-            }
+            cut => parts(p, cut).flat_map(|part| self.shots(part)).collect(),
         }
     }
 }
 
-/// The cuts of a piece in the order of ties: vertical before horizontal, low before high.
+/// The straight cuts of a piece in the order of ties: vertical before horizontal, low before high.
 pub fn cuts(p: Piece) -> impl Iterator<Item = Verdict> {
     (p.a + 1..p.c).map(Verdict::CutAtX).chain((p.b + 1..p.d).map(Verdict::CutAtY))
 }
 
-/// The low and the high part of a cut.
-pub fn parts(p: Piece, cut: Verdict) -> (Piece, Piece) {
-    match cut {
-        Verdict::CutAtX(line) => (Piece { c: line, ..p }, Piece { a: line, ..p }),
-        Verdict::CutAtY(line) => (Piece { d: line, ..p }, Piece { b: line, ..p }),
-        Verdict::Outside | Verdict::Shot => panic!("no cut"),
+/// The pinwheels of a piece in the order of ties: the first turn before the second, then by j, l, k, m.
+pub fn wheels(p: Piece) -> Vec<Verdict> {
+    let mut all = Vec::new();
+    for turn in [Turn::First, Turn::Second] {
+        for j in p.a + 1..p.c {
+            for l in j + 1..p.c {
+                for k in p.b + 1..p.d {
+                    all.extend((k + 1..p.d).map(|m| Verdict::Wheel(turn, [j, l, k, m])));
+                }
+            }
+        }
     }
+    all
+}
+
+/// The low and the high part of a straight cut; the arms of a pinwheel, in the paper's order, and its inner piece.
+pub fn parts(p: Piece, cut: Verdict) -> impl Iterator<Item = Piece> {
+    let piece = |a, c, b, d| Piece { a, c, b, d };
+    let Piece { a, c, b, d } = p;
+    let (all, count) = match cut {
+        Verdict::CutAtX(line) => ([piece(a, line, b, d), piece(line, c, b, d), p, p, p], 2),
+        Verdict::CutAtY(line) => ([piece(a, c, b, line), piece(a, c, line, d), p, p, p], 2),
+        Verdict::Wheel(Turn::First, [j, l, k, m]) => {
+            ([piece(a, l, b, k), piece(l, c, b, m), piece(a, j, k, d), piece(j, c, m, d), piece(j, l, k, m)], 5)
+        }
+        Verdict::Wheel(Turn::Second, [j, l, k, m]) => {
+            ([piece(a, j, b, m), piece(j, c, b, k), piece(a, l, m, d), piece(l, c, k, d), piece(j, l, k, m)], 5)
+        }
+        Verdict::Outside | Verdict::Shot => panic!("no cut"),
+    };
+    all.into_iter().take(count)
 }

@@ -1,8 +1,8 @@
-//! Every cutting of a figure: each way to cut a piece along lines, again and again, until no piece
-//! is mixed. A piece that is wholly inside is kept whole; one that is wholly outside may be cut. For small figures only: 3 by 3 cells have
+//! Every cutting of a figure: each way to cut a piece along lines, and in the manner of a pinwheel where the
+//! fracture allows it, again and again, until no piece is mixed. A piece that is wholly inside is kept whole; one that is wholly outside may be cut. For small figures only: 3 by 3 cells have
 //! 1,241 ways to be cut into pieces, 3 by 4 have 32,905, 4 by 4 have 2,594,401.
 
-use crate::cutting::{cuts, parts, Fracture, Kind, Piece};
+use crate::cutting::{parts, Fracture, Kind, Piece};
 use std::collections::HashMap;
 use std::rc::Rc;
 
@@ -16,12 +16,13 @@ pub fn prices(fracture: &Fracture, p: Piece, known: &mut HashMap<Piece, Rc<Vec<u
         Kind::Full => vec![fracture.charge(p) as u64],
         Kind::Mixed => Vec::new(),
     };
-    for cut in cuts(p).filter(|_| fracture.kind(p) != Kind::Full) {
-        let (low, high) = parts(p, cut);
-        let (low, high) = (prices(fracture, low, known), prices(fracture, high, known));
-        for &first in low.iter() {
-            all.extend(high.iter().map(|&second| first + second));
+    for cut in fracture.cuts(p).filter(|_| fracture.kind(p) != Kind::Full) {
+        let mut sums = vec![0];
+        for part in parts(p, cut) {
+            let of_part = prices(fracture, part, known);
+            sums = sums.iter().flat_map(|sum| of_part.iter().map(move |price| sum + price)).collect();
         }
+        all.extend(sums);
     }
     let all = Rc::new(all);
     known.insert(p, all.clone());

@@ -1,4 +1,4 @@
-//! Document 01, with windows and GDSII boundaries (document 02, Items 1 and 2), in plain Rust: what
+//! Document 01, with windows and GDSII boundaries (document 02, Items 1 and 2) and pinwheels (Item 8), in plain Rust: what
 //! every call answers and what it leaves in lent memory.
 //!
 //! Written from the documents alone, and built otherwise than the proved library, so that the two
@@ -17,6 +17,7 @@
 //! | `joining` | shots joined in pairs |
 //! | `edge` | one edge and the shots that it ends up on |
 //! | `cif` | a shot list as a CIF text, and back |
+//! | `division` | shots divided by a largest side |
 //! | `program` | what the job program prints |
 //! | `nano` | the same costs once more, nanometre by nanometre, for small figures |
 //! | `every` | every cutting of a small figure, with its price |
@@ -25,6 +26,7 @@ pub mod bytes;
 pub mod call;
 pub mod cif;
 pub mod cutting;
+pub mod division;
 pub mod drawing;
 pub mod edge;
 pub mod every;
@@ -66,6 +68,7 @@ pub trait Calls {
     fn fracture(&self, drawing: &Drawing, threshold: u32, weight: u32, table: &mut [u32], list: &mut [u16]) -> Told;
     fn fracture_default(&self, drawing: &Drawing, table: &mut [u32], list: &mut [u16]) -> Told;
     fn cuts(&self, drawing: &Drawing) -> Told;
+    fn fracture_pinwheel(&self, drawing: &Drawing, threshold: u32, weight: u32, table: &mut [u32], list: &mut [u16]) -> Told;
     fn number(&self, bytes: &[u8], at: usize) -> Told;
     fn job_check(&self, job: &[u8]) -> Told;
     fn job_outline(&self, job: &[u8], k: usize) -> Told;
@@ -76,6 +79,10 @@ pub trait Calls {
     fn gdsii_fracture(&self, element: &[u8], table: &mut [u32], list: &mut [u16]) -> Told;
     fn join(&self, list: &[u16], table: &mut [joining::Joined]) -> Told;
     fn edge(&self, drawing: &Drawing, edge: usize, shots: &[u16], runs: &mut [usize]) -> Told;
+    /// By straight cuts, or by pinwheels too, with a largest side.
+    fn fracture_divided(
+        &self, pinwheels: bool, drawing: &Drawing, threshold: u32, weight: u32, largest: u32, table: &mut [u32], list: &mut [u16],
+    ) -> Told;
 }
 
 /// The documents themselves.
@@ -93,6 +100,9 @@ impl Calls for Law {
     }
     fn cuts(&self, drawing: &Drawing) -> Told {
         call::cuts(drawing)
+    }
+    fn fracture_pinwheel(&self, drawing: &Drawing, threshold: u32, weight: u32, table: &mut [u32], list: &mut [u16]) -> Told {
+        call::fracture_pinwheel(drawing, threshold, weight, table, list)
     }
     fn number(&self, bytes: &[u8], at: usize) -> Told {
         bytes::told_number(bytes, at)
@@ -121,8 +131,12 @@ impl Calls for Law {
     fn join(&self, list: &[u16], table: &mut [joining::Joined]) -> Told {
         joining::told_join(list, table)
     }
-
     fn edge(&self, drawing: &Drawing, edge: usize, shots: &[u16], runs: &mut [usize]) -> Told {
         edge::told_edge(drawing, edge, shots, runs)
+    }
+    fn fracture_divided(
+        &self, pinwheels: bool, drawing: &Drawing, threshold: u32, weight: u32, largest: u32, table: &mut [u32], list: &mut [u16],
+    ) -> Told {
+        division::fracture_divided(pinwheels, drawing, threshold, weight, largest, table, list)
     }
 }

@@ -145,6 +145,42 @@ fn no_cutting_is_cheaper() {
     println!("{compared} cuttings");
 }
 
+/// The same with pinwheels among the cuts; some figures are cheaper so, and none is dearer.
+#[test]
+fn no_cutting_with_pinwheels_is_cheaper() {
+    let mut state = 5;
+    let (mut compared, mut cheaper) = (0, 0);
+    for round in 0..600 {
+        let rings = rings_of(&mut state, round);
+        let mut drawing = Drawing::of(&walks(&mut state, rings, 4));
+        drawing.corners.iter_mut().for_each(|place| *place *= 7);
+        let rule = ((any(&mut state) % 30) as u32, (any(&mut state) % 300) as u32);
+        let figure = figure(&drawing).unwrap();
+        let mut fracture = Fracture::with_pinwheels(&figure, rule.0, rule.1);
+        let frame = fracture.frame();
+        let all = prices(&fracture, frame, &mut HashMap::new());
+        compared += all.len();
+        let (least, cost) = (*all.iter().min().unwrap(), fracture.judge(frame).1);
+        assert_eq!(least, cost as u64, "round {round}, {drawing:?}, {rule:?}");
+        let straight = Fracture::new(&figure, rule.0, rule.1).judge(frame).1;
+        assert!(cost <= straight, "round {round}, {drawing:?}, {rule:?}");
+        cheaper += (cost < straight) as usize;
+    }
+    println!("{compared} cuttings, {cheaper} of 600 figures cheaper by pinwheels");
+}
+
+/// Every cutting of W2 (document 02, Item 8), of 4 by 4 cells: the cheapest with pinwheels is one, and costs less than every straight one.
+#[test]
+fn a_pinwheel_is_cheaper() {
+    let corners = [
+        100, 60, 40, 60, 40, 0, 110, 0, 110, 80, 100, 80, 100, 20, 70, 20, 70, 60, 10, 60, 10, 100, 100, 100,
+    ];
+    let figure = figure(&Drawing::outline(&corners)).unwrap();
+    let least = |fracture: &Fracture| *prices(fracture, fracture.frame(), &mut HashMap::new()).iter().min().unwrap();
+    assert_eq!(least(&Fracture::new(&figure, 25, 40)), 11_200);
+    assert_eq!(least(&Fracture::with_pinwheels(&figure, 25, 40)), 10_800);
+}
+
 /// Refusals 2 to 4 as document 02 orders them: each over all rings before the next.
 #[test]
 fn refusals_over_all_rings() {

@@ -24,6 +24,11 @@ extern "C" {
         table: *mut u32, table_len: usize, list: *mut u16, list_len: usize,
         shots: *mut u32, cost: *mut u32, sliver: *mut u32,
     ) -> u32;
+    fn baseline_wheels_fracture(
+        corners: *const u16, corners_len: usize, rings: *const u16, rings_len: usize, threshold: u32, weight: u32,
+        table: *mut u32, table_len: usize, list: *mut u16, list_len: usize,
+        shots: *mut u32, cost: *mut u32, sliver: *mut u32,
+    ) -> u32;
     fn baseline_widths_fracture(
         corners: *const u16, corners_len: usize, rings: *const u16, rings_len: usize, threshold: u32, weight: u32,
         table: *mut u32, table_len: usize, list: *mut u16, list_len: usize,
@@ -47,6 +52,11 @@ mod pw {
         ) -> u32;
         pub fn pw_cuts(
             corners: *const u16, corners_len: usize, rings: *const u16, rings_len: usize, cuts: *mut u32,
+        ) -> u32;
+        pub fn pw_fracture_pinwheel(
+            corners: *const u16, corners_len: usize, rings: *const u16, rings_len: usize, threshold: u32, weight: u32,
+            table: *mut u32, table_len: usize, list: *mut u16, list_len: usize,
+            shots: *mut u32, cost: *mut u32, sliver: *mut u32, cuts: *mut u32,
         ) -> u32;
         pub fn pw_number(bytes: *const u8, len: usize, at: usize, value: *mut u32, next: *mut usize, offset: *mut usize) -> u32;
         pub fn pw_job_check(
@@ -73,6 +83,16 @@ mod pw {
         pub fn pw_gdsii_fracture(
             element: *const u8, len: usize, table: *mut u32, table_len: usize, list: *mut u16, list_len: usize,
             shots: *mut u32, cost: *mut u32, sliver: *mut u32, cuts: *mut u32, shift_x: *mut i32, shift_y: *mut i32, offset: *mut usize,
+        ) -> u32;
+        pub fn pw_fracture_divided(
+            corners: *const u16, corners_len: usize, rings: *const u16, rings_len: usize, threshold: u32, weight: u32,
+            largest: u32, table: *mut u32, table_len: usize, list: *mut u16, list_len: usize,
+            shots: *mut u32, cost: *mut u32, sliver: *mut u32, cuts: *mut u32,
+        ) -> u32;
+        pub fn pw_fracture_pinwheel_divided(
+            corners: *const u16, corners_len: usize, rings: *const u16, rings_len: usize, threshold: u32, weight: u32,
+            largest: u32, table: *mut u32, table_len: usize, list: *mut u16, list_len: usize,
+            shots: *mut u32, cost: *mut u32, sliver: *mut u32, cuts: *mut u32,
         ) -> u32;
         pub fn pw_join(
             list: *const u16, list_len: usize, table: *mut law::joining::Joined, table_len: usize, flashes: *mut usize,
@@ -123,6 +143,11 @@ pub fn baseline(drawing: &Drawing, threshold: u32, weight: u32, table: &mut [u32
 /// One fracture by the baseline that weighs all strips of a width at once.
 pub fn baseline_widths(drawing: &Drawing, threshold: u32, weight: u32, table: &mut [u32], list: &mut [u16]) -> Told {
     fracture_by(baseline_widths_fracture, drawing, threshold, weight, table, list)
+}
+
+/// One fracture by the baseline that weighs pinwheels too.
+pub fn baseline_wheels(drawing: &Drawing, threshold: u32, weight: u32, table: &mut [u32], list: &mut [u16]) -> Told {
+    fracture_by(baseline_wheels_fracture, drawing, threshold, weight, table, list)
 }
 
 /// The proved library, if it is linked.
@@ -182,6 +207,19 @@ impl Calls for Library {
             )
         };
         Told::of(number, &[cuts as u64])
+    }
+
+    fn fracture_pinwheel(&self, drawing: &Drawing, threshold: u32, weight: u32, table: &mut [u32], list: &mut [u16]) -> Told {
+        let (mut shots, mut cost, mut sliver, mut cuts) = (MARK, MARK, MARK, MARK);
+        let number = unsafe {
+            pw::pw_fracture_pinwheel(
+                drawing.corners.as_ptr(), drawing.corners.len(), drawing.rings.as_ptr(), drawing.rings.len(),
+                threshold, weight,
+                table.as_mut_ptr(), table.len(), list.as_mut_ptr(), list.len(),
+                &mut shots, &mut cost, &mut sliver, &mut cuts,
+            )
+        };
+        Told::of(number, &[shots as u64, cost as u64, sliver as u64, cuts as u64])
     }
 
     fn number(&self, bytes: &[u8], at: usize) -> Told {
@@ -273,5 +311,21 @@ impl Calls for Library {
             )
         };
         Told::of(number, &[count as u64])
+    }
+
+    fn fracture_divided(
+        &self, pinwheels: bool, drawing: &Drawing, threshold: u32, weight: u32, largest: u32, table: &mut [u32], list: &mut [u16],
+    ) -> Told {
+        let (mut shots, mut cost, mut sliver, mut cuts) = (MARK, MARK, MARK, MARK);
+        let call = if pinwheels { pw::pw_fracture_pinwheel_divided } else { pw::pw_fracture_divided };
+        let number = unsafe {
+            call(
+                drawing.corners.as_ptr(), drawing.corners.len(), drawing.rings.as_ptr(), drawing.rings.len(),
+                threshold, weight, largest,
+                table.as_mut_ptr(), table.len(), list.as_mut_ptr(), list.len(),
+                &mut shots, &mut cost, &mut sliver, &mut cuts,
+            )
+        };
+        Told::of(number, &[shots as u64, cost as u64, sliver as u64, cuts as u64])
     }
 }

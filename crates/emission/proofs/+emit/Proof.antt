@@ -1,15 +1,17 @@
 -- `emission::emit` meets its contract. The measure is the number of cells of the piece. Assumes nothing.
 use Prim.Native.Nat.{ℕ, _<_}
-use mathlib.Core.Path.{sym, _∙_, ap}
+use mathlib.Core.Path.{refl, sym, _∙_, ap}
 use native.Mathlib.Omega.{arith}
 use borrow.Author.Needs.{needs}
 use lib.ListN.{length}
 use Rattle.outline.specs.Grid.{Grid}
 use Rattle.rule.specs.declared.Rule.{Rule}
+use Rattle.piece.specs.declared.Mode.the-variants.{Straight}
 use Rattle.piece.specs.Piece.{cells}
 use Rattle.piece.specs.Meant.{meant}
 use Rattle.verdict.specs.Memory.{Costed}
-use Rattle.emission.proofs.Emitted.{Halves, halves, told-outside, told-shot, low-less, high-less, emit-one, emit-low, emit-high, written-none, written-one, written-join, written-as}
+use Rattle.verdict.specs.Verdict.{plain}
+use Rattle.emission.proofs.Emitted.{Halves, halves, count-halves, told-outside, told-shot, less-cells, emit-one, emit-part, written-none, written-one, written-join, written-as}
 use borrow.Fn.Kinds.{In}
 use borrow.Fn.PlainCycle.{Measures, is, falls, and}
 use Rattle.emission.proofs.emit.Reads as emit
@@ -38,11 +40,11 @@ cut : (t : ℕ) (c : emit-lts.After-known-told (
   emit-below t,
   emit.Post,
 ) (emit-at t) emit.Post) (g : Grid) (r : Rule)
-    → Costed g r (c .before .before .before .before .before .before .before .args .costs .now) (c .before .before .before .before .before .before .before .args .cells .now) (c .before .before .before .before .before .before .before .args .plan)
-    → Halves g r (c .before .before .before .before .before .before .before .args .plan) (meant (c .before .before .before .before .before .before .before .args .p .piece)) (c .before .verdict .given .0 .0) (c .before .verdict .given .0 .1 .0)
+    → Costed Straight g r (c .before .before .before .before .before .before .before .args .costs .now) (c .before .before .before .before .before .before .before .args .cells .now) (c .before .before .before .before .before .before .before .args .plan)
+    → Halves Straight g r (c .before .before .before .before .before .before .before .args .plan) (meant (c .before .before .before .before .before .before .before .args .p .piece)) (c .before .verdict .given .0 .0) (c .before .verdict .given .0 .1 .0)
 cut t c g r f =
-    halves g r _ _ _ f _ (c .before .before .before .before .before .before .before .pre .1 .known .valid) _ _
-    (sym (c .before .verdict .given .1) ∙ c .before .before .before .judge .ensures g r f)
+    halves Straight g r _ _ _ f _ (c .before .before .before .before .before .before .before .pre .1 .known .valid) _ _
+    (sym (ap plain (c .before .verdict .given .1)) ∙ c .before .before .before .judge .ensures g r f)
 
 emit-judge-requires : (t : ℕ) → emit-lts.Need-judge-requires (
   judge-reads.Asked,
@@ -88,8 +90,8 @@ emit-write-shot-requires t c κs =
     let v = c .before .before in
     let s = v .before .before .before .before .before .before in
     let w = s .pre .1 in
-    let e = told-shot (w .grid) (w .rule) _ (sym (v .enum-told2 .given .1) ∙ v .before .before .judge .ensures (w .grid) (w .rule) (w .walk .costed)) in
-    (emit-one _ _ _ _ _ _ _ (w .walk) (s .args .p .piece) (w .known .valid), omega (arith, w .fits, ap length e))
+    let e = told-shot Straight (w .grid) (w .rule) _ (sym (ap plain (v .enum-told2 .given .1)) ∙ v .before .before .judge .ensures (w .grid) (w .rule) (w .walk .costed)) in
+    (emit-one _ _ _ _ _ _ _ _ (w .walk) (s .args .p .piece) (w .known .valid), omega (arith, w .fits, ap length e))
 
 emit-enum-known-verdict : (t : ℕ) → emit-lts.Need-enum-known-verdict (
   judge-reads.Asked,
@@ -112,8 +114,10 @@ emit-emit-requires : (t : ℕ) → emit-lts.Need-emit-requires (
 emit-emit-requires t c κs =
     let s = c .before .before .before .before .before .before .before .before in
     let w = s .pre .1 in
-    let z = cut t (c .before) (w .grid) (w .rule) (w .walk .costed) in
-    (low-less _ _ _ _ _ _ z (s .pre .0), emit-low _ _ _ _ _ _ _ _ w _ _ z)
+    let z = cut t (c .before) (w .grid) (w .rule) (w .walk .costed) in (
+      less-cells _ _ _ (z .low) (s .pre .0),
+      emit-part Straight _ _ _ _ _ _ _ _ w _ (z .low) refl (omega (arith, w .fits, count-halves Straight _ _ _ _ _ _ z)),
+    )
 
 emit-emit-requires-2 : (t : ℕ) → emit-lts.Need-emit-requires-2 (
   judge-reads.Asked,
@@ -128,8 +132,9 @@ emit-emit-requires-2 t c κs =
     let s = m .before .before .before .before .before .before .before .before .before in
     let w = s .pre .1 in
     let z = cut t (m .before .before) (w .grid) (w .rule) (w .walk .costed) in (
-      high-less _ _ _ _ _ _ z (s .pre .0),
-      emit-high _ _ _ _ _ _ _ _ w _ _ z (m .emit .ensures (w .grid) (w .rule) (w .walk)) (m .emit .kept .1 .1 .1 .1 .0),
+      less-cells _ _ _ (z .high) (s .pre .0),
+      emit-part Straight _ _ _ _ _ _ _ _ w _ (z .high) (m .emit .kept .1 .1 .1 .1 .0)
+          (omega (arith, w .fits, m .emit .ensures (w .grid) (w .rule) (w .walk) .behind, count-halves Straight _ _ _ _ _ _ z)),
     )
 
 emit-returns : (t : ℕ) → emit-lts.Need-returns (
@@ -141,7 +146,7 @@ emit-returns : (t : ℕ) → emit-lts.Need-returns (
   emit.Post,
 ) (emit-at t) emit.Post
 emit-returns t c g r w =
-    written-as g _ _ _ _ (told-outside g r _ (sym (c .enum-told .given .1) ∙ c .before .before .judge .ensures g r (w .costed))) (written-none g _ _)
+    written-as g _ _ _ _ (told-outside Straight g r _ (sym (ap plain (c .enum-told .given .1)) ∙ c .before .before .judge .ensures g r (w .costed))) (written-none g _ _)
 
 emit-same-length : (t : ℕ) → emit-lts.Need-same-length (
   judge-reads.Asked,
@@ -164,8 +169,8 @@ emit-returns-2 : (t : ℕ) → emit-lts.Need-returns-2 (
 emit-returns-2 t c g r w =
     let v = c .before .before .before .before .before in
     let s = v .before .before .before .before .before .before in
-    written-as g _ _ _ _ (told-shot g r _ (sym (v .enum-told2 .given .1) ∙ v .before .before .judge .ensures g r (w .costed)))
-    (written-one g r _ _ _ _ _ w _ (s .pre .1 .known .valid) _ _ _ (c .before .before .write-shot .ensures))
+    written-as g _ _ _ _ (told-shot Straight g r _ (sym (ap plain (v .enum-told2 .given .1)) ∙ v .before .before .judge .ensures g r (w .costed)))
+    (written-one g Straight r _ _ _ _ _ w _ (s .pre .1 .known .valid) _ _ _ (c .before .before .write-shot .ensures))
 
 emit-same-length-2 : (t : ℕ) → emit-lts.Need-same-length-2 (
   judge-reads.Asked,

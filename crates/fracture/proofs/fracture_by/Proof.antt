@@ -5,6 +5,7 @@ use Rattle.rule.proofs.Rules.{range-true}
 use Rattle.figure.specs.Figure.{figure}
 use Rattle.outline.specs.Promise.{refusal, sheet}
 use Rattle.outline.proofs.Memory.{drawing-lengths}
+use Rattle.piece.specs.declared.Mode.the-variants.{Straight}
 use Rattle.demands.specs.Demands.{Words}
 use Rattle.demands.proofs.Demands.{words-typed}
 use Rattle.fracture.proofs.Settled.{answered, told-figure, laid-drawing, told-grid}
@@ -64,7 +65,7 @@ returns c =
     let s = d .before .before .before .before .before .before .before .before in
     let h = accepted t in (
       f .fracture-grid .ensures _ (laid-drawing _ (sheet _ _ _ _) (d .draw .ensures) h)
-          ∙ told-grid (figure (s .args .corners .now) (s .args .lengths .now)) (s .args .rule) (s .args .table .now) (s .args .list .now) h,
+          ∙ told-grid Straight (figure (s .args .corners .now) (s .args .lengths .now)) (s .args .rule) (s .args .table .now) (s .args .list .now) h,
       typed d,
     )
 
@@ -72,7 +73,7 @@ returns-2 : tie.Need-returns-2
 unfolding sheet
 returns-2 c =
     let a = c .before in
-    (told-figure _ (sheet _ _ _ _) (a .before .before .draw .ensures) _ _ _ _ (a .answer .given .1), typed (a .before .before))
+    (told-figure _ (sheet _ _ _ _) (a .before .before .draw .ensures) Straight _ _ _ _ (a .answer .given .1), typed (a .before .before))
 
 pub fracture-by-spec : {M : Type 1} → statement M
 fracture-by-spec =

@@ -4,6 +4,7 @@ use native.Mathlib.Omega.{arith}
 use borrow.Author.Needs.{needs}
 use lib.ListN.{length}
 use Rattle.outline.specs.Grid.{stored}
+use Rattle.piece.specs.declared.Mode.the-variants.{Straight}
 use Rattle.table.specs.Entry.{entryCount}
 use Rattle.fracture.proofs.Gridded.{laid-few, laid-ready, laid-filled, laid-walk, gridded-table, gridded-delivered}
 use Rattle.fracture.proofs.fracture_grid.Statement.{statement}
@@ -13,7 +14,7 @@ entries-requires : tie.Need-entries-requires
 entries-requires c κs = laid-few _ _ (c .before .before .before .pre .laid)
 
 returns : tie.Need-returns
-returns c g w = gridded-table g _ w _ _ _ (omega (arith, c .if1 .taken, c .before .entries .ensures))
+returns c g w = gridded-table Straight g _ w _ _ _ (omega (arith, c .if1 .taken, c .before .entries .ensures))
 
 -- the table has an entry for every piece
 room : (c : tie.Else1)
@@ -38,7 +39,7 @@ deliver-requires c κs =
     record {
       grid = w .grid;
       rule = s .args .rule;
-      walk = laid-walk _ _ (w .laid) _ _ (laid-filled _ _ (w .laid) _ _ (stored _ _ _ _ _) (w .laid .back) (f .fill .ensures)) (room (f .before .before .before .before)) _ (n .pair-count .ensures .0) (w .weight);
+      walk = laid-walk Straight _ _ (w .laid) _ _ (laid-filled Straight _ _ (w .laid) _ _ (stored _ _ _ _ _) (w .laid .back) (f .fill .ensures)) (room (f .before .before .before .before)) _ (n .pair-count .ensures .0) (w .weight);
     }
 
 same-length : tie.Need-same-length
@@ -53,9 +54,9 @@ returns-2 c g w =
     let n = d .before .before .before in
     let f = d .before .before .before .before .before .before in
     let s = f .before .before .before .before .before .before .before .before .before in
-    let e = laid-filled g _ w _ _ (stored _ _ _ _ _) (w .back) (f .fill .ensures) in
+    let e = laid-filled Straight g _ w _ _ (stored _ _ _ _ _) (w .back) (f .fill .ensures) in
     let k = room (f .before .before .before .before) in
-    gridded-delivered g _ w _ _ e k _ _ _ (d .deliver .ensures _ _ (laid-walk g _ w _ _ e k _ (n .pair-count .ensures .0) (s .pre .weight)))
+    gridded-delivered Straight g _ w _ _ e k _ _ _ (d .deliver .ensures _ _ (laid-walk Straight g _ w _ _ e k _ (n .pair-count .ensures .0) (s .pre .weight)))
 
 pub fracture-grid-spec : {M : Type 1} → statement M
 fracture-grid-spec =

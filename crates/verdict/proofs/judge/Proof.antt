@@ -1,8 +1,10 @@
 -- `verdict::judge` meets its contract: each exit by one law of Judged. Assumes nothing.
 use native.Mathlib.Omega.{arith}
+use mathlib.Core.Path.{refl}
 use borrow.Author.Needs.{needs}
+use Rattle.piece.specs.declared.Mode.the-variants.{Straight}
 use Rattle.verdict.proofs.Search.{inside-said}
-use Rattle.verdict.proofs.Judged.{entry-within, verdict-outside, verdict-shot, weighable-x, weighable-y, verdict-vertical, verdict-horizontal}
+use Rattle.verdict.proofs.Judged.{entry-within, verdict-outside, verdict-shot, weighable-x, weighable-y, verdict-vertical, verdict-horizontal, level-found}
 use Rattle.verdict.proofs.judge.Statement.{statement}
 use Rattle.verdict.proofs.judge.Tie as tie
 
@@ -13,17 +15,17 @@ start k = k .before .before .before .before .before .before .before
 mul-cost : tie.Need-mul-cost
 mul-cost c =
     let s = c .before .before .before in
-    omega (arith, entry-within _ _ _ _ _ (s .pre .costed) (s .args .p .piece) (s .args .p .entry) (s .pre .known))
+    omega (arith, entry-within _ _ _ _ _ _ (s .pre .costed) (s .args .p .piece) (s .args .p .entry) (s .pre .known))
 
 shared-slice-read-cost : tie.Need-shared-slice-read-cost
 shared-slice-read-cost c =
     let s = c .before .before .before .before in
-    entry-within _ _ _ _ _ (s .pre .costed) (s .args .p .piece) (s .args .p .entry) (s .pre .known)
+    entry-within _ _ _ _ _ _ (s .pre .costed) (s .args .p .piece) (s .args .p .entry) (s .pre .known)
 
 returns : tie.Need-returns
 returns c g r f =
     let s = c .before .before .before .before .before in
-    verdict-outside g r _ _ _ f (s .args .p .piece) (s .args .p .entry) (s .pre .known) (c .if1 .taken)
+    verdict-outside Straight g r _ _ _ f (s .args .p .piece) (s .args .p .entry) (s .pre .known) (c .if1 .taken)
 
 all-inside-requires : tie.Need-all-inside-requires
 all-inside-requires c κs = search needs
@@ -31,13 +33,13 @@ all-inside-requires c κs = search needs
 returns-2 : tie.Need-returns-2
 returns-2 c g r f =
     let s = c .before .before .before .before .before .before .before in
-    verdict-shot g r _ _ _ f (s .args .p .piece) (s .args .p .entry) (s .pre .known)
+    verdict-shot Straight g r _ _ _ f (s .args .p .piece) (s .args .p .entry) (s .pre .known)
     (inside-said _ (s .args .p .piece) (c .if2 .taken) (c .before .all-inside .ensures))
 
 first-line-requires : tie.Need-first-line-requires
 first-line-requires c κs =
     let s = start (c .before .before) in
-    weighable-x _ _ _ _ _ (s .pre .costed) (s .args .p .piece) (s .args .p .entry) (s .pre .known)
+    weighable-x _ _ _ _ _ _ (s .pre .costed) (s .args .p .piece) (s .args .p .entry) (s .pre .known)
 
 returns-3 : tie.Need-returns-3
 returns-3 c g r f =
@@ -45,7 +47,7 @@ returns-3 c g r f =
     let u = t .before .before .before .before in
     let k = u .before .before .before in
     let s = start k in
-    verdict-vertical g r _ _ _ f (s .args .p .piece) (s .args .p .entry) (s .pre .known) (k .before .before .if1 .left)
+    verdict-vertical Straight g r _ _ _ f (s .args .p .piece) (s .args .p .entry) (s .pre .known) (k .before .before .if1 .left)
     (inside-said _ (s .args .p .piece) (k .if2 .left) (k .before .all-inside .ensures))
     _
     (u .first-line .ensures)
@@ -54,7 +56,7 @@ returns-3 c g r f =
 first-line-requires-2 : tie.Need-first-line-requires-2
 first-line-requires-2 c κs =
     let s = start (c .before .before .before .before .before .before .before .before .before) in
-    weighable-y _ _ _ _ _ (s .pre .costed) (s .args .p .piece) (s .args .p .entry) (s .pre .known)
+    weighable-y _ _ _ _ _ _ (s .pre .costed) (s .args .p .piece) (s .args .p .entry) (s .pre .known)
 
 returns-4 : tie.Need-returns-4
 returns-4 c g r f =
@@ -63,13 +65,21 @@ returns-4 c g r f =
     let u = t .before .before .before .before in
     let k = u .before .before .before in
     let s = start k in
-    verdict-horizontal g r _ _ _ f (s .args .p .piece) (s .args .p .entry) (s .pre .known) (k .before .before .if1 .left)
+    verdict-horizontal Straight g r _ _ _ f (s .args .p .piece) (s .args .p .entry) (s .pre .known) (k .before .before .if1 .left)
     (inside-said _ (s .args .p .piece) (k .if2 .left) (k .before .all-inside .ensures))
     _
     (u .first-line .ensures)
     _
     (v .first-line2 .ensures)
     (t .if3 .left)
+    (level-found Straight g r _ _ _ f (s .args .p .piece) (s .args .p .entry) (s .pre .known) (k .before .before .if1 .left)
+    (inside-said _ (s .args .p .piece) (k .if2 .left) (k .before .all-inside .ensures))
+    _
+    (u .first-line .ensures)
+    _
+    (v .first-line2 .ensures)
+    refl
+    (t .if3 .left))
 
 pub judge-spec : {M : Type 1} → statement M
 judge-spec =

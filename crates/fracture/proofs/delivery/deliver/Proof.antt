@@ -11,10 +11,10 @@ abbrev start : tie.After-frame-of → tie.Start
 start c = c .before .before .before .before
 
 frame-of-requires : tie.Need-frame-of-requires
-frame-of-requires c κs = walk-sized _ _ _ _ _ (c .before .before .before .pre .walk .costed)
+frame-of-requires c κs = walk-sized _ _ _ _ _ _ (c .before .before .before .pre .walk .costed)
 
 room-for-requires : tie.Need-room-for-requires
-room-for-requires c κs = frame-aside _ _ _ _ _ _ _ (start c .pre .walk) _ (c .frame-of .ensures)
+room-for-requires c κs = frame-aside _ _ _ _ _ _ _ _ (start c .pre .walk) _ (c .frame-of .ensures)
 
 enum-known-room : tie.Need-enum-known-room
 enum-known-room c = search needs
@@ -24,7 +24,7 @@ cast-t22 c =
     let f = c .before .before .before .before in
     let w = start f .pre in
     let s = short-says _ _ _ (sym (c .before .room .given .1) ∙ c .before .before .before .room-for .ensures (w .grid) (w .rule) (w .walk)) in
-    omega (arith, s .0, frame-few-shots _ _ _ _ _ _ _ (w .walk) _ (f .frame-of .ensures))
+    omega (arith, s .0, frame-few-shots _ _ _ _ _ _ _ _ (w .walk) _ (f .frame-of .ensures))
 
 enum-told : tie.Need-enum-told
 enum-told c = search needs
@@ -33,18 +33,18 @@ emit-requires : tie.Need-emit-requires
 emit-requires c κs =
     let f = c .before .before .before .before in
     let w = start f .pre in
-    frame-emittable _ _ _ _ _ _ _ (w .walk) _ (f .frame-of .ensures)
+    frame-emittable _ _ _ _ _ _ _ _ (w .walk) _ (f .frame-of .ensures)
     (sym (c .before .enum-told .given .1) ∙ c .before .before .before .room-for .ensures (w .grid) (w .rule) (w .walk))
 
 mul-cost : tie.Need-mul-cost
 mul-cost c =
     let f = c .before .before .before .before .before .before .before .before in
-    omega (arith, frame-within _ _ _ _ _ _ _ (start f .pre .walk) _ (f .frame-of .ensures), start f .good .0)
+    omega (arith, frame-within _ _ _ _ _ _ _ _ (start f .pre .walk) _ (f .frame-of .ensures), start f .good .0)
 
 shared-slice-read-cost : tie.Need-shared-slice-read-cost
 shared-slice-read-cost c =
     let f = c .before .before .before .before .before .before .before .before .before in
-    frame-within _ _ _ _ _ _ _ (start f .pre .walk) _ (f .frame-of .ensures)
+    frame-within _ _ _ _ _ _ _ _ (start f .pre .walk) _ (f .frame-of .ensures)
 
 slivers-requires : tie.Need-slivers-requires
 slivers-requires c κs =
@@ -55,8 +55,8 @@ slivers-requires c κs =
     record {
       grid = w .grid;
       shots = _;
-      listed = frame-listed _ _ _ _ _ _ _ (w .walk) _ (f .frame-of .ensures) _ _ h (e .emit .ensures (w .grid) (w .rule) (w .walk));
-      cost = frame-charged _ _ _ _ _ _ _ (w .walk) _ (f .frame-of .ensures);
+      listed = frame-listed _ _ _ _ _ _ _ _ (w .walk) _ (f .frame-of .ensures) _ _ h (e .emit .ensures (w .grid) (w .rule) (w .walk));
+      cost = frame-charged _ _ _ _ _ _ _ _ (w .walk) _ (f .frame-of .ensures);
     }
 
 cuts-requires : tie.Need-cuts-requires
@@ -64,7 +64,7 @@ cuts-requires c κs =
     let e = c .before .before .before .before .before .before .before .before in
     let f = e .before .before .before .before .before in
     let w = start f .pre in
-    record { grid = w .grid; shaded = walk-shaded _ _ _ _ _ (w .walk .costed) }
+    record { grid = w .grid; shaded = walk-shaded _ _ _ _ _ _ (w .walk .costed) }
 
 cast-t27 : tie.Need-cast-t27
 cast-t27 c =
@@ -74,12 +74,12 @@ cast-t27 c =
     omega (
       arith,
       count-written _ (e .emit .ensures (w .grid) (w .rule) (w .walk)),
-      frame-few-shots _ _ _ _ _ _ _ (w .walk) _ (f .frame-of .ensures),
+      frame-few-shots _ _ _ _ _ _ _ _ (w .walk) _ (f .frame-of .ensures),
     )
 
 returns : tie.Need-returns
 returns c g r w =
-    told-lacking _ _ _ _ _ _ _ w _ (c .before .before .before .before .frame-of .ensures) _
+    told-lacking _ _ _ _ _ _ _ _ w _ (c .before .before .before .before .frame-of .ensures) _
     (sym (c .before .room .given .1) ∙ c .before .before .before .room-for .ensures g r w)
 
 same-length : tie.Need-same-length
@@ -91,9 +91,9 @@ returns-2 c g r w =
     let f = e .before .before .before .before .before in
     let h = sym (e .before .before .enum-told .given .1) ∙ e .before .before .before .before .room-for .ensures g r w in
     let v = e .emit .ensures g r w in
-    told-listed _ _ _ _ _ _ _ w _ (f .frame-of .ensures) _ _ h v
-    (c .before .slivers .ensures g _ (frame-listed _ _ _ _ _ _ _ w _ (f .frame-of .ensures) _ _ h v) (frame-charged _ _ _ _ _ _ _ w _ (f .frame-of .ensures)))
-    (c .cuts .ensures g (walk-shaded _ _ _ _ _ (w .costed)))
+    told-listed _ _ _ _ _ _ _ _ w _ (f .frame-of .ensures) _ _ h v
+    (c .before .slivers .ensures g _ (frame-listed _ _ _ _ _ _ _ _ w _ (f .frame-of .ensures) _ _ h v) (frame-charged _ _ _ _ _ _ _ _ w _ (f .frame-of .ensures)))
+    (c .cuts .ensures g (walk-shaded _ _ _ _ _ _ (w .costed)))
 
 pub deliver-spec : {M : Type 1} → statement M
 deliver-spec =

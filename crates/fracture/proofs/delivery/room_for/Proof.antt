@@ -6,13 +6,13 @@ use Rattle.fracture.proofs.delivery.room_for.Statement.{statement}
 use Rattle.fracture.proofs.delivery.room_for.Tie as tie
 
 mul-if1 : tie.Need-mul-if1
-mul-if1 c = omega (arith, area-few _ _ _ _ _ (c .before .before .pre .walk .costed))
+mul-if1 c = omega (arith, area-few _ _ _ _ _ _ (c .before .before .pre .walk .costed))
 
 mul-if1-2 : tie.Need-mul-if1-2
-mul-if1-2 c = omega (arith, area-few _ _ _ _ _ (c .before .before .pre .walk .costed))
+mul-if1-2 c = omega (arith, area-few _ _ _ _ _ _ (c .before .before .pre .walk .costed))
 
 returns : tie.Need-returns
-returns c g r w = room-all g r _ _ _ (w .costed) _ (c .before .before .before .pre .known .valid) _ (c .if1 .taken)
+returns c g r w = room-all _ g r _ _ _ (w .costed) _ (c .before .before .before .pre .known .valid) _ (c .if1 .taken)
 
 slice-aggregate-emit : tie.Need-slice-aggregate-emit
 slice-aggregate-emit c = search needs

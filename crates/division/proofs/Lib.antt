@@ -1,0 +1,10 @@
+pub mod Evenly
+pub mod Division
+pub mod Room
+pub mod Written
+pub mod Loops
+pub mod Outcome
+pub mod Refusals
+pub mod Demands
+pub mod Rows
+pub mod Settled
