@@ -35,8 +35,8 @@ ghost use Rattle.gdsii.specs.Calls.{boundaryRead, boundaryFractured};
 ghost use Rattle.join.specs.Join.{joinLent, Promise};
 ghost use Rattle.capi.specs.Lent.{presetLent, cutsLent, numberLent, numberSaid, checkLent, outlineLent, outlineSaid, unpackLent, writeLent, fractureLent, boundaryLent, plateLent, flashesOf, pairingNo};
 
-mod edges;
 mod divided;
+mod edges;
 
 // The rule of a preset, or 15.
 #[no_mangle]
