@@ -186,6 +186,26 @@ numbers-small b f =
 box-same : {a b x y a′ b′ x′ y′ : ℕ} → a ≡ a′ → b ≡ b′ → x ≡ x′ → y ≡ y′ → boxOf a b x y ≡ boxOf a′ b′ x′ y′
 box-same e f g h = cc
 
+-- sides and centre give back both ends: no two shots have their boxes at one place
+module _ (s : List ℕ) (at : ℕ) where
+  pub box-one : (p q : Shot) → Fit p → Fit q → Stands s at (boxLine p) → Stands s at (boxLine q) → p ≡ q
+  unfolding boxLine
+  box-one p q fp fq sp sq =
+      let n = line-there s at _ _ _ _ (numbers-small p fp) sp in
+      let e = n .1 .only _ _ _ _ (numbers-small q fq) sq in
+      let a = fp .wide in
+      let b = fq .wide in
+      let c = fp .high in
+      let d = fq .high in
+      let xl : p .xlow ≡ q .xlow = omega (arith, e .one, e .three) in
+      let xh : p .xhigh ≡ q .xhigh = omega (arith, e .one, e .three) in
+      let yl : p .ylow ≡ q .ylow = omega (arith, e .two, e .four) in
+      let yh : p .yhigh ≡ q .yhigh = omega (arith, e .two, e .four) in
+      shot-same xl yl xh yh
+    where
+      shot-same : {a b c d a′ b′ c′ d′ : ℕ} → a ≡ a′ → b ≡ b′ → c ≡ c′ → d ≡ d′ → shotOf a b c d ≡ shotOf a′ b′ c′ d′
+      shot-same e f g h = cc
+
 pub box-some : (b : Shot) → 0 < length (boxLine b)
 unfolding boxLine boxOf
 box-some b = omega arith
@@ -220,24 +240,6 @@ module _ (s : List ℕ) (at : ℕ) where
           within = f .within;
           onward = omega (arith, past, box-some (shotOf xl yl xh yh));
         }
-
-  pub box-one : (p q : Shot) → Fit p → Fit q → Stands s at (boxLine p) → Stands s at (boxLine q) → p ≡ q
-  unfolding boxLine
-  box-one p q fp fq sp sq =
-      let n = line-there s at _ _ _ _ (numbers-small p fp) sp in
-      let e = n .1 .only _ _ _ _ (numbers-small q fq) sq in
-      let a = fp .wide in
-      let b = fq .wide in
-      let c = fp .high in
-      let d = fq .high in
-      let xl : p .xlow ≡ q .xlow = omega (arith, e .one, e .three) in
-      let xh : p .xhigh ≡ q .xhigh = omega (arith, e .one, e .three) in
-      let yl : p .ylow ≡ q .ylow = omega (arith, e .two, e .four) in
-      let yh : p .yhigh ≡ q .yhigh = omega (arith, e .two, e .four) in
-      shot-same xl yl xh yh
-    where
-      shot-same : {a b c d a′ b′ c′ d′ : ℕ} → a ≡ a′ → b ≡ b′ → c ≡ c′ → d ≡ d′ → shotOf a b c d ≡ shotOf a′ b′ c′ d′
-      shot-same e f g h = cc
 
   pub box-not-finish : Stands s at finish → NoBox s at
   unfolding boxLine boxOf

@@ -5,3 +5,7 @@ pub mod Words
 pub mod Putting
 pub mod Back
 pub mod Settled
+pub mod Exactly
+pub mod Beyond
+pub mod Room
+pub mod Worked

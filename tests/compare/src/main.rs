@@ -15,6 +15,7 @@ mod progress;
 mod record;
 mod room;
 mod same;
+mod texts;
 
 use law::Calls;
 use progress::Progress;
@@ -90,6 +91,10 @@ fn main() {
     joins::lists(&plan, &progress);
     edges::rows(&plan, &progress);
     edges::figures(&plan, &progress);
+    texts::rows(&plan, &progress);
+    texts::every_byte(&plan, &progress);
+    texts::longest(&plan, &progress);
+    texts::lists(&plan, &progress);
     if let Some(file) = &plan.record {
         record::write(file, plan.seed, &progress);
     }

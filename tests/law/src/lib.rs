@@ -76,6 +76,8 @@ pub trait Calls {
     fn gdsii_fracture(&self, element: &[u8], table: &mut [u32], list: &mut [u16]) -> Told;
     fn join(&self, list: &[u16], table: &mut [joining::Joined]) -> Told;
     fn edge(&self, drawing: &Drawing, edge: usize, shots: &[u16], runs: &mut [usize]) -> Told;
+    fn cif_write(&self, list: &[u16], out: &mut [u8]) -> Told;
+    fn cif_read(&self, text: &[u8], list: &mut [u16]) -> Told;
 }
 
 /// The documents themselves.
@@ -124,5 +126,12 @@ impl Calls for Law {
 
     fn edge(&self, drawing: &Drawing, edge: usize, shots: &[u16], runs: &mut [usize]) -> Told {
         edge::told_edge(drawing, edge, shots, runs)
+    }
+
+    fn cif_write(&self, list: &[u16], out: &mut [u8]) -> Told {
+        cif::told_write(list, out)
+    }
+    fn cif_read(&self, text: &[u8], list: &mut [u16]) -> Told {
+        cif::told_read(text, list)
     }
 }
