@@ -15,6 +15,7 @@
 --   OpeningTold s r, ClosingTold s at r == past the lines before and after the boxes, or the first of them that does not stand
 --   ScanTold s r         == the number of shots whose text s is, or the first line at fault
 --   Stored s at n list after == the numbers of the n shots whose boxes stand at the place are at the front of the list
+--   Reckoned s a b x y   == these are the four numbers of the box of the shot s, of six digits at most
 --   boxesBytes l         == the box lines of a list of numbers
 --   MeasureTold l room r == how many bytes these are, or that they are more than the room
 use Prim.Native.Nat.{ℕ, _+_, _-_, _*_, _<_, _≤_}
@@ -169,6 +170,10 @@ unfoldable pub Stored : List ℕ → ℕ → ℕ → List ℕ → List ℕ → T
 Stored s at n list after = (l : List Shot) → Boxes s at l → n ≡ length l → after ≡ sets list 0 (numbers l)
 
 -- writing
+
+pub record Reckoned (s : Shot) (a b x y : ℕ) : Type 0 where
+  pub line : boxOf a b x y ≡ boxLine s
+  pub small : Small a b x y
 
 unfoldable pub boxesBytes : List ℕ → List ℕ
 boxesBytes l = join boxLine (shotsIn l)

@@ -1,7 +1,5 @@
 -- `texts::pw_cif_read` meets its contract: it lends on what the reader tells. Assumes nothing.
-use mathlib.Core.Path.{sym, subst}
-use Rattle.cif.specs.Calls.{ReadSays, readTold}
-use Rattle.capi.specs.TextLent.{shotsLent}
+use Rattle.capi.proofs.TextLent.{read-shots, read-refused}
 use borrow.Author.Needs.{needs}
 use Rattle.capi.proofs.texts.pw_cif_read.Statement.{statement}
 use Rattle.capi.proofs.texts.pw_cif_read.Tie as tie
@@ -22,9 +20,7 @@ same-length : tie.Need-same-length
 same-length c = search needs
 
 returns : tie.Need-returns
-returns c =
-    let u = c .before .before .before .before .before in
-    subst (λ t. ReadSays _ _ (readTold t (u .read .last .1 .0))) (c .before .n .given .1) (u .read .ensures)
+returns c = read-shots (c .before .before .before .before .before .read .ensures) (c .before .n .given .1)
 
 same-length-2 : tie.Need-same-length-2
 same-length-2 c = search needs
@@ -32,9 +28,7 @@ same-length-2 c = search needs
 returns-2 : tie.Need-returns-2
 returns-2 c =
     let r = c .before .before in
-    let u = r .before .before .before .before in
-    subst (λ n. ReadSays _ _ (shotsLent n 0 (r .why .given .0 .1 .0) (u .read .last .1 .0))) (sym (c .refusal-no .ensures))
-    (subst (λ t. ReadSays _ _ (readTold t (u .read .last .1 .0))) (r .why .given .1) (u .read .ensures))
+    read-refused (r .before .before .before .before .read .ensures) (r .why .given .1) (c .refusal-no .ensures)
 
 pub pw-cif-read-spec : {M : Type 1} → statement M
 pw-cif-read-spec =
