@@ -25,8 +25,9 @@ def rectangles(text):
     return sorted(found)
 
 
-for text in sorted(glob.glob(texts + "/*.cif")):  # texts comes from the command line
+found = sorted(glob.glob(texts + "/*.cif"))  # texts comes from the command line
+for text in found:
     with open(text[:-4] + ".found", "w") as out:
         for rectangle in rectangles(text):
             print(*rectangle, file=out)
-print("KLayout", pya.Application.instance().version() if pya.Application.instance() else "", "read", len(glob.glob(texts + "/*.cif")), "texts")
+print(pya.Application.instance().version(), "read", len(found), "texts")
