@@ -1,12 +1,12 @@
 -- Box lines: what stands at a place and nothing else does. Assumes nothing.
 --
---   between-even, between-one == the ends of a doubled side about a doubled centre
 --   line-..          == the ways of reading a box line
 --   box-..           == the ways of reading the box of a shot
 --   box-one          == no two shots have their boxes at one place
 --   box-not-finish   == where `DF;` stands there is no box
 --   boxes-one        == as many boxes as there are at a place: no other shots have theirs there
---   boxes-..         == the loop over boxes
+--   walked-..        == the loop over boxes
+--   between-even     == the ends of a doubled side about a doubled centre
 use Prim.Native.Nat.{ℕ, zero, suc, _+_, _-_, _*_, _/_, _%_, _<_, _≤_}
 use mathlib.Core.Path.{_≡_, _∙_, refl, sym, ap, ap₂, subst}
 use mathlib.Core.Logic.{inl, inr}
@@ -18,7 +18,7 @@ use Rattle.sum.proofs.Lists.{All-append, join-append}
 use Rattle.shot.specs.Shot.{Shot}
 use Rattle.shot.specs.Bad.{shotOf}
 use Rattle.number.proofs.Bytes.{stands-at, stands-first, stands-room, stands-join, stands-front, stands-back}
-use Rattle.cif.specs.Text.{decimal, field, boxOf, boxLine, finish, Fit}
+use Rattle.cif.specs.Text.{decimal, field, boxOf, doubledSide, doubledCentre, boxLine, finish, Fit}
 use Rattle.cif.specs.Faults.{Stands, NoBox}
 use Rattle.cif.specs.declared.numeral.Pair.{Pair}
 use Rattle.cif.specs.declared.numeral.Pair.the-variants as pair
@@ -30,15 +30,6 @@ use Rattle.cif.specs.declared.boxes.Boxed.{Boxed}
 use Rattle.cif.specs.declared.boxes.Boxed.the-variants as boxed
 use Rattle.cif.specs.Steps.{Apart, NoDigit, Found, Two, PairTold, Four, LineTold, Small, Same, Between, SpanTold, BoxAt, BoxTold, Boxes, BoxesTold}
 use Rattle.cif.proofs.Numerals.{stands-within, number-only, spaced-found, two-found}
-
--- the ends of a doubled side about a doubled centre
-
-pub between-even : (side centre low high : ℕ) → Between side centre low high → (centre - side / 2) % 2 ≡ 0
-between-even side centre low high b =
-    let p = b .rising in
-    let h : side / 2 ≡ high - low = omega (arith, b .sides) in
-    let t : centre - side / 2 ≡ 2 * low = omega (arith, b .middle) in
-    omega arith
 
 -- a box line
 
@@ -175,7 +166,7 @@ line-there s at a b x y small there =
 -- the box of a shot
 
 numbers-small : (b : Shot) → Fit b
-    → Small (2 * (b .xhigh - b .xlow)) (2 * (b .yhigh - b .ylow)) (b .xlow + b .xhigh) (b .ylow + b .yhigh)
+    → Small (doubledSide (b .xlow) (b .xhigh)) (doubledSide (b .ylow) (b .yhigh)) (doubledCentre (b .xlow) (b .xhigh)) (doubledCentre (b .ylow) (b .yhigh))
 numbers-small b f =
     let p = f .wide in
     let q = f .high in
@@ -309,6 +300,15 @@ module _ (s : List ℕ) (from : ℕ) where
     pub walked-end : NoBox s next → BoxesTold s from n next
     walked-end h =
         record { shots = w .shots; boxes = w .boxes; count = w .count; past = w .past; within = w .within; last = h }
+
+-- the ends of a doubled side about a doubled centre
+
+pub between-even : (side centre low high : ℕ) → Between side centre low high → (centre - side / 2) % 2 ≡ 0
+between-even side centre low high b =
+    let p = b .rising in
+    let h : side / 2 ≡ high - low = omega (arith, b .sides) in
+    let t : centre - side / 2 ≡ 2 * low = omega (arith, b .middle) in
+    omega arith
 
 -- what each case of an answer tells
 

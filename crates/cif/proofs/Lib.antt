@@ -1,3 +1,4 @@
+pub mod Worked
 pub mod Decimal
 pub mod Numerals
 pub mod Boxing
@@ -8,4 +9,3 @@ pub mod Settled
 pub mod Exactly
 pub mod Beyond
 pub mod Room
-pub mod Worked

@@ -27,7 +27,7 @@ use lib.Seq.{sets}
 use Rattle.sum.specs.Sum.{join, All}
 use Rattle.shot.specs.Shot.{Shot, numbers, shotsIn}
 use Rattle.shot.specs.Bad.{shotOf}
-use Rattle.cif.specs.Text.{decimal, field, boxOf, boxLine, cifText, symbol, layer, finish, call, end, Fit}
+use Rattle.cif.specs.Text.{decimal, field, boxOf, doubledSide, doubledCentre, boxLine, cifText, symbol, layer, finish, call, end, Fit}
 use Rattle.cif.specs.Faults.{Stands, NoBox, Stops, Extra, FaultAt}
 use Rattle.cif.specs.declared.numeral.Numeral.{Numeral}
 use Rattle.cif.specs.declared.numeral.Numeral.the-variants as numeral
@@ -122,8 +122,8 @@ LineTold s at fields.Missing = (a b x y : ℕ) → Small a b x y → Stands s at
 pub record Between (side centre low high : ℕ) : Type 0 where
   pub rising : low < high
   pub most : high ≤ 65535
-  pub sides : side ≡ 2 * (high - low)
-  pub middle : centre ≡ low + high
+  pub sides : side ≡ doubledSide low high
+  pub middle : centre ≡ doubledCentre low high
 
 abbrev pub SpanTold : ℕ → ℕ → Span → Type 0
 SpanTold side centre (span.Between low high) = Between side centre low high
