@@ -1,4 +1,4 @@
-pub mod Worked
+pub mod Agreed
 pub mod Decimal
 pub mod Numerals
 pub mod Boxing
