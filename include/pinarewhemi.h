@@ -29,7 +29,8 @@
  *     PW_BYTES_LEFT from a reading call is, in the bytes lent, the byte at fault: the length of the
  *     bytes lent (PW_BYTES_END), the zero byte (PW_NOT_SHORTEST), the last byte read
  *     (PW_OUT_OF_RANGE), the first byte too many (PW_BYTES_LEFT); offset beside PW_BYTES_END from
- *     pw_gdsii_read and pw_gdsii_fracture is where the record that is cut short starts.
+ *     pw_gdsii_read and pw_gdsii_fracture is where the record that is cut short starts; offset beside
+ *     PW_TEXT is where the first line at fault starts, the length of the text where lines are lacking.
  *
  * All places are whole nanometres, 0 to 65535, but for those in a GDSII element, which are signed and of
  * 32 bits.
@@ -70,6 +71,8 @@ enum pw_refusal {
   PW_LARGEST = 19,      /* largest side below 200, below twice the threshold, or above 65535 */
   PW_SHOT_LIST = 21,    /* a shot list whose length is no multiple of four, or a shot whose high x or y is not
                            above its low one */
+  PW_TEXT = 22,         /* text not of CIF's form as pw_cif_write writes it, or a shot in it that is empty, off the
+                           whole nanometres or outside 0 to 65535 */
   PW_NO_EDGE = 23       /* edge asked for, not below the number of corners */
 };
 
@@ -84,7 +87,8 @@ enum pw_room {
   PW_JOB_BYTES = 4096,
   PW_CUTS_MOST = 134400,     /* 16 lines each way */
   PW_EDGE_NUMBERS = 60,      /* 15 runs of 4 numbers: enough for the list of any fracture without a largest side */
-  PW_DIVIDED_NUMBERS = 467856 /* 116964 shots of 4 numbers: enough for every figure and every largest side */
+  PW_DIVIDED_NUMBERS = 467856, /* 116964 shots of 4 numbers: enough for every figure and every largest side */
+  PW_CIF_BYTES = 6553,       /* 28, and 29 for each of 225 shots: enough for the text of any fracture without a largest side */
 };
 
 /* The rule of a preset, 0 to 3. Refuses: PW_NO_PRESET. */
@@ -210,6 +214,18 @@ uint32_t pw_join(const uint16_t *list, size_t list_len, struct pw_joined *table,
  * Refuses: PW_LENGTH to PW_EMPTY, PW_SHOT_LIST (an empty list passes), PW_NO_EDGE, PW_BUFFER_SHORT. */
 uint32_t pw_edge(const uint16_t *corners, size_t corners_len, const uint16_t *rings, size_t rings_len, size_t edge,
                  const uint16_t *shots, size_t shots_len, size_t *runs, size_t runs_len, size_t *count);
+
+/* Writes a shot list (4 numbers each) as a CIF 2.0 text, for the viewers: one symbol in half nanometres. Each on
+ * a line of its own that ends in one line feed: `DS 1 1 20;`, `L NM;`, one `B length width x y;` a shot with
+ * doubled sides (length along x) and doubled centre, `DF;`, `C 1;`, `E`. Afterwards the front of out holds the
+ * text, with no 0 behind it; written is its length: 28 bytes and at most 29 for each shot. An empty list has a
+ * text too. Refuses: PW_SHOT_LIST, then PW_BUFFER_SHORT. */
+uint32_t pw_cif_write(const uint16_t *list, size_t list_len, uint8_t *out, size_t out_len, size_t *written);
+
+/* Reads such a text back: 4 numbers for each shot at the front of list, shots is their count. Only the form that
+ * pw_cif_write writes is read, so one list has one text; bytes after the last line are a fault too.
+ * Refuses: PW_TEXT with the offset of the first line at fault, then PW_BUFFER_SHORT. */
+uint32_t pw_cif_read(const uint8_t *text, size_t len, uint16_t *list, size_t list_len, size_t *shots, size_t *offset);
 
 #ifdef __cplusplus
 }

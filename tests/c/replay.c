@@ -296,6 +296,25 @@ static void join(void) {
   expect("pairs", hash_pairs(table_len));
 }
 
+static void write_text(void) {
+  size_t list_len = size(), out_len = size(), written = 77;
+  uint32_t mark = word();
+  for (size_t i = 0; i < list_len; i++) corners[i] = (uint16_t)word();
+  expect("write CIF", pw_cif_write(corners, list_len, lend_out(out_len, mark), out_len, &written));
+  expect("written", written);
+  expect("out", hash_out(out_len));
+}
+
+static void read_text(void) {
+  size_t len = size(), list_len = size(), shots = 77, offset = 77;
+  uint32_t mark = word();
+  read_bytes(len);
+  expect("read CIF", pw_cif_read(bytes, len, lend_list(list_len, mark), list_len, &shots, &offset));
+  expect("shots", shots);
+  expect("offset", offset);
+  expect("list", hash_list(list_len));
+}
+
 int main(void) {
   int over = 0;
   while (!over) {
@@ -318,6 +337,8 @@ int main(void) {
     case 32: fracture(PINWHEEL); break;
     case 50: divided(NAMED); break;
     case 51: divided(PINWHEEL); break;
+    case 45: write_text(); break;
+    case 46: read_text(); break;
     default:
       say("replay: the record is not whole\n");
       return 2;

@@ -37,6 +37,7 @@ ghost use Rattle.capi.specs.Lent.{presetLent, cutsLent, numberLent, numb
 
 mod divided;
 mod edges;
+mod texts;
 
 // The rule of a preset, or 15.
 #[no_mangle]

@@ -1,4 +1,4 @@
--- Texts and their lists are each other's inverse, and both calls are settled. Assumes nothing.
+-- Texts and their lists are each other's inverse, and reading has one outcome. Assumes nothing.
 --
 --   text-one         == no two lists of shots have the same text
 --   fault-one        == a text has one first line at fault
@@ -6,8 +6,8 @@
 --   read-one         == whatever reading a text may tell is one
 --   cif-back         == the text of a list that passes 21 is read back to that list
 --   cif-only         == a text that is read is the one text of the list that it gives
---   line-exactly, room-exactly, shots-exactly == 22 with its offset, 14 and 0, each exactly when its condition holds
---   write-settled, read-settled == two outcomes that keep the promise of a call are equal
+--   one-text         == two texts that are read to the same shots are the same
+--   fits             == a list that passes 21, each of its numbers of 16 bits, is one of shots that fit
 use Prim.Native.Nat.{ℕ, suc, _+_, _*_, _/_, _%_, _<_, _≤_}
 use mathlib.Core.Path.{_≡_, _∙_, refl, sym, ap, ap₂, subst}
 use mathlib.Core.Bool.{Bool, true, false, not, _||_, true≢false}
@@ -153,13 +153,13 @@ read-done s list after n l fit e k h stored =
 
 -- a list that passes 21, each of its numbers of 16 bits, is one of shots that fit
 
-fits : (l : List ℕ) → anyEmpty (shotsIn l) ≡ false → ((i : ℕ) → getD l i 0 ≤ 65535) → All Fit (shotsIn l)
+fits-by : (l : List ℕ) → anyEmpty (shotsIn l) ≡ false → ((i : ℕ) → getD l i 0 ≤ 65535) → All Fit (shotsIn l)
 unfolding anyEmpty shotsIn
-fits [] e w = tt
-fits (a ∷ []) e w = tt
-fits (a ∷ b ∷ []) e w = tt
-fits (a ∷ b ∷ c ∷ []) e w = tt
-fits (a ∷ b ∷ c ∷ d ∷ l) e w = go (empty (shotOf a b c d)) refl e (λ q. fits l q (λ i. w (suc (suc (suc (suc i))))))
+fits-by [] e w = tt
+fits-by (a ∷ []) e w = tt
+fits-by (a ∷ b ∷ []) e w = tt
+fits-by (a ∷ b ∷ c ∷ []) e w = tt
+fits-by (a ∷ b ∷ c ∷ d ∷ l) e w = go (empty (shotOf a b c d)) refl e (λ q. fits-by l q (λ i. w (suc (suc (suc (suc i))))))
   where
     go : (t : Bool) → empty (shotOf a b c d) ≡ t → (t || anyEmpty (shotsIn l)) ≡ false → (anyEmpty (shotsIn l) ≡ false → All Fit (shotsIn l))
         → Fit (shotOf a b c d) × All Fit (shotsIn l)
@@ -175,12 +175,15 @@ none-empty l e = go (not (eqb (length l % 4) 0)) e
     go true q = absurd (true≢false q)
     go false q = q
 
+pub fits : (l : List ℕ) → badShots l ≡ false → ((i : ℕ) → getD l i 0 ≤ 65535) → All Fit (shotsIn l)
+fits l good w = fits-by l (none-empty l good) w
+
 -- written texts are read back, and a text that is read is the text of its list
 
 pub cif-back : (l list : List ℕ) (t : ReadSaid) → badShots l ≡ false → ((i : ℕ) → getD l i 0 ≤ 65535) → length l ≤ length list
     → ReadSays (cifBytes l) list t → t ≡ said 0 (length l / 4) 0 (l ++ drop (length l) list)
 cif-back l list t good w h r =
-    let fit = fits l (none-empty l good) w in
+    let fit = fits l good w in
     let same = numbers-shots l (good-shots l good .fours) in
     let size : 4 * length (shotsIn l) ≡ length l = sym (numbers-length (shotsIn l)) ∙ ap length same in
     let k : length l / 4 ≡ length (shotsIn l) = omega arith in
@@ -196,26 +199,6 @@ cif-only s list t (shots {n} {u} l f e h k v) z =
 cif-only s list t (room l f e h v) z = absurd (omega arith)
 cif-only s list t (line o f v) z = absurd (omega arith)
 
--- each number exactly when its condition holds
-
-module _ (s list : List ℕ) (t : ReadSaid) (r : ReadSays s list t) where
-  pub line-told : (o : ℕ) → FaultAt s o → t ≡ said 22 0 o list
-  line-told o f = read-one s list t (said 22 0 o list) r (line o f refl)
-
-  pub room-told : (l : List Shot) → All Fit l → s ≡ cifText l → length list < 4 * length l → t ≡ said 14 0 0 list
-  room-told l f e h = read-one s list t (said 14 0 0 list) r (room l f e h refl)
-
-  pub shots-told : (l : List Shot) → All Fit l → s ≡ cifText l → 4 * length l ≤ length list
-      → t ≡ said 0 (length l) 0 (numbers l ++ drop (4 * length l) list)
-  shots-told l f e h = read-one s list t _ r (shots l f e h refl refl)
-
-pub line-only : (s list : List ℕ) (t : ReadSaid) → ReadSays s list t → t .number ≡ 22 → FaultAt s (t .offset)
-line-only s list t (shots l f e h k v) z = absurd (omega arith)
-line-only s list t (room l f e h v) z = absurd (omega arith)
-line-only s list t (line o f v) z = f
-
-pub room-only : (s list : List ℕ) (t : ReadSaid) → ReadSays s list t → t .number ≡ 14
-    → (l : List Shot) × All Fit l × (s ≡ cifText l) × (length list < 4 * length l)
-room-only s list t (shots l f e h k v) z = absurd (omega arith)
-room-only s list t (room l f e h v) z = (l, f, e, h)
-room-only s list t (line o f v) z = absurd (omega arith)
+pub one-text : (s r list before : List ℕ) (t u : ReadSaid) → ReadSays s list t → ReadSays r before u → t .number ≡ 0 → u .number ≡ 0
+    → take (4 * t .shots) (t .list) ≡ take (4 * u .shots) (u .list) → s ≡ r
+one-text s r list before t u a b e f same = cif-only s list t a e ∙ ap cifBytes same ∙ sym (cif-only r before u b f)

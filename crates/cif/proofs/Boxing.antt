@@ -1,12 +1,12 @@
 -- Box lines: what stands at a place and nothing else does. Assumes nothing.
 --
---   between-even, between-one == the ends of a doubled side about a doubled centre
 --   line-..          == the ways of reading a box line
 --   box-..           == the ways of reading the box of a shot
 --   box-one          == no two shots have their boxes at one place
 --   box-not-finish   == where `DF;` stands there is no box
 --   boxes-one        == as many boxes as there are at a place: no other shots have theirs there
---   boxes-..         == the loop over boxes
+--   walked-..        == the loop over boxes
+--   between-even     == the ends of a doubled side about a doubled centre
 use Prim.Native.Nat.{ℕ, zero, suc, _+_, _-_, _*_, _/_, _%_, _<_, _≤_}
 use mathlib.Core.Path.{_≡_, _∙_, refl, sym, ap, ap₂, subst}
 use mathlib.Core.Logic.{inl, inr}
@@ -18,7 +18,7 @@ use Rattle.sum.proofs.Lists.{All-append, join-append}
 use Rattle.shot.specs.Shot.{Shot}
 use Rattle.shot.specs.Bad.{shotOf}
 use Rattle.number.proofs.Bytes.{stands-at, stands-first, stands-room, stands-join, stands-front, stands-back}
-use Rattle.cif.specs.Text.{decimal, field, boxOf, boxLine, finish, Fit}
+use Rattle.cif.specs.Text.{decimal, field, boxOf, doubledSide, doubledCentre, boxLine, finish, Fit}
 use Rattle.cif.specs.Faults.{Stands, NoBox}
 use Rattle.cif.specs.declared.numeral.Pair.{Pair}
 use Rattle.cif.specs.declared.numeral.Pair.the-variants as pair
@@ -30,15 +30,6 @@ use Rattle.cif.specs.declared.boxes.Boxed.{Boxed}
 use Rattle.cif.specs.declared.boxes.Boxed.the-variants as boxed
 use Rattle.cif.specs.Steps.{Apart, NoDigit, Found, Two, PairTold, Four, LineTold, Small, Same, Between, SpanTold, BoxAt, BoxTold, Boxes, BoxesTold}
 use Rattle.cif.proofs.Numerals.{stands-within, number-only, spaced-found, two-found}
-
--- the ends of a doubled side about a doubled centre
-
-pub between-even : (side centre low high : ℕ) → Between side centre low high → (centre - side / 2) % 2 ≡ 0
-between-even side centre low high b =
-    let p = b .rising in
-    let h : side / 2 ≡ high - low = omega (arith, b .sides) in
-    let t : centre - side / 2 ≡ 2 * low = omega (arith, b .middle) in
-    omega arith
 
 -- a box line
 
@@ -175,7 +166,7 @@ line-there s at a b x y small there =
 -- the box of a shot
 
 numbers-small : (b : Shot) → Fit b
-    → Small (2 * (b .xhigh - b .xlow)) (2 * (b .yhigh - b .ylow)) (b .xlow + b .xhigh) (b .ylow + b .yhigh)
+    → Small (doubledSide (b .xlow) (b .xhigh)) (doubledSide (b .ylow) (b .yhigh)) (doubledCentre (b .xlow) (b .xhigh)) (doubledCentre (b .ylow) (b .yhigh))
 numbers-small b f =
     let p = f .wide in
     let q = f .high in
@@ -185,6 +176,26 @@ numbers-small b f =
 
 box-same : {a b x y a′ b′ x′ y′ : ℕ} → a ≡ a′ → b ≡ b′ → x ≡ x′ → y ≡ y′ → boxOf a b x y ≡ boxOf a′ b′ x′ y′
 box-same e f g h = cc
+
+-- sides and centre give back both ends: no two shots have their boxes at one place
+module _ (s : List ℕ) (at : ℕ) where
+  pub box-one : (p q : Shot) → Fit p → Fit q → Stands s at (boxLine p) → Stands s at (boxLine q) → p ≡ q
+  unfolding boxLine
+  box-one p q fp fq sp sq =
+      let n = line-there s at _ _ _ _ (numbers-small p fp) sp in
+      let e = n .1 .only _ _ _ _ (numbers-small q fq) sq in
+      let a = fp .wide in
+      let b = fq .wide in
+      let c = fp .high in
+      let d = fq .high in
+      let xl : p .xlow ≡ q .xlow = omega (arith, e .one, e .three) in
+      let xh : p .xhigh ≡ q .xhigh = omega (arith, e .one, e .three) in
+      let yl : p .ylow ≡ q .ylow = omega (arith, e .two, e .four) in
+      let yh : p .yhigh ≡ q .yhigh = omega (arith, e .two, e .four) in
+      shot-same xl yl xh yh
+    where
+      shot-same : {a b c d a′ b′ c′ d′ : ℕ} → a ≡ a′ → b ≡ b′ → c ≡ c′ → d ≡ d′ → shotOf a b c d ≡ shotOf a′ b′ c′ d′
+      shot-same e f g h = cc
 
 pub box-some : (b : Shot) → 0 < length (boxLine b)
 unfolding boxLine boxOf
@@ -220,24 +231,6 @@ module _ (s : List ℕ) (at : ℕ) where
           within = f .within;
           onward = omega (arith, past, box-some (shotOf xl yl xh yh));
         }
-
-  pub box-one : (p q : Shot) → Fit p → Fit q → Stands s at (boxLine p) → Stands s at (boxLine q) → p ≡ q
-  unfolding boxLine
-  box-one p q fp fq sp sq =
-      let n = line-there s at _ _ _ _ (numbers-small p fp) sp in
-      let e = n .1 .only _ _ _ _ (numbers-small q fq) sq in
-      let a = fp .wide in
-      let b = fq .wide in
-      let c = fp .high in
-      let d = fq .high in
-      let xl : p .xlow ≡ q .xlow = omega (arith, e .one, e .three) in
-      let xh : p .xhigh ≡ q .xhigh = omega (arith, e .one, e .three) in
-      let yl : p .ylow ≡ q .ylow = omega (arith, e .two, e .four) in
-      let yh : p .yhigh ≡ q .yhigh = omega (arith, e .two, e .four) in
-      shot-same xl yl xh yh
-    where
-      shot-same : {a b c d a′ b′ c′ d′ : ℕ} → a ≡ a′ → b ≡ b′ → c ≡ c′ → d ≡ d′ → shotOf a b c d ≡ shotOf a′ b′ c′ d′
-      shot-same e f g h = cc
 
   pub box-not-finish : Stands s at finish → NoBox s at
   unfolding boxLine boxOf
@@ -307,6 +300,15 @@ module _ (s : List ℕ) (from : ℕ) where
     pub walked-end : NoBox s next → BoxesTold s from n next
     walked-end h =
         record { shots = w .shots; boxes = w .boxes; count = w .count; past = w .past; within = w .within; last = h }
+
+-- the ends of a doubled side about a doubled centre
+
+pub between-even : (side centre low high : ℕ) → Between side centre low high → (centre - side / 2) % 2 ≡ 0
+between-even side centre low high b =
+    let p = b .rising in
+    let h : side / 2 ≡ high - low = omega (arith, b .sides) in
+    let t : centre - side / 2 ≡ 2 * low = omega (arith, b .middle) in
+    omega arith
 
 -- what each case of an answer tells
 

@@ -6,7 +6,7 @@
 --   decimal-one      == no two numbers have the same digits
 --   decimal-digits   == each byte is a digit
 --   decimal-first    == a number above 0 has no 0 in front
---   decimal-length, decimal-some, decimal-few == how many digits a number has
+--   decimal-length, decimal-some, decimal-few, decimal-five == how many digits a number has
 use Prim.Native.Nat.{ℕ, zero, suc, _+_, _-_, _*_, _/_, _%_, _<_, _≤_}
 use mathlib.Core.Path.{_≡_, _∙_, refl, sym, ap, ap₂}
 use mathlib.Core.Bool.{Bool, true, false, cond}
@@ -176,13 +176,19 @@ pub decimal-six : (n : ℕ) → 100000 ≤ n → n < 1000000 → length (decimal
 unfolding tens
 decimal-six n a b = sym (decimal-length 5 n (omega arith) a b)
 
-pub decimal-few : (n : ℕ) → n < 1000000 → length (decimal n) ≤ 6
-unfolding decimal tens
-decimal-few n h =
+few-digits : (k n : ℕ) → n < tens (suc k) → length (decimalIn k n) ≤ suc k
+few-digits =
     by-digits (λ k m. length (decimalIn k m) ≤ suc k)
     (λ k m q. omega (arith, ap length (one-digit k m q)))
     (λ k m q e. omega (arith, ap length (more-digits k m q), length-append (decimalIn k (m / 10)) ((48 + m % 10) ∷ [])))
-    5 n h
+
+pub decimal-few : (n : ℕ) → n < 1000000 → length (decimal n) ≤ 6
+unfolding decimal tens
+decimal-few n h = few-digits 5 n h
+
+pub decimal-five : (n : ℕ) → n < 100000 → length (decimal n) ≤ 5
+unfolding decimal tens
+decimal-five n h = omega (arith, ap length (more-room 4 n h), few-digits 4 n h)
 
 pub size-of : (j n : ℕ) → j ≤ 5 → tens j ≤ n → n < tens (suc j) → (suc j ≡ length (decimal n)) × (suc j ≤ 6)
 size-of j n h a b = (decimal-length j n h a b, omega arith)

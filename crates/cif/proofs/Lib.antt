@@ -1,3 +1,4 @@
+pub mod Agreed
 pub mod Decimal
 pub mod Numerals
 pub mod Boxing
@@ -5,3 +6,6 @@ pub mod Words
 pub mod Putting
 pub mod Back
 pub mod Settled
+pub mod Exactly
+pub mod Beyond
+pub mod Room

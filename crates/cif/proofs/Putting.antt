@@ -4,6 +4,7 @@
 --   put-field            == a number behind a space
 --   word-start, word-more, word-end == the loop that puts some bytes
 --   box-length, box-put  == the bytes of a box
+--   doubled-line, box-room, box-sized, box-written == the four numbers of a shot, and its box by them
 --   boxes-bytes, boxes-none == the boxes of a list from a place on
 --   measure-.., putting-.. == the loops over a list
 --   text-length, text-put == a whole text
@@ -29,7 +30,7 @@ use Rattle.cif.specs.Text.{decimal, field, boxOf, boxLine, symbol, layer
 use Rattle.cif.specs.Calls.{WriteSaid, unwritten, writtenTo, cifWritten}
 use Rattle.cif.specs.declared.writing.Measured.{Measured}
 use Rattle.cif.specs.declared.writing.Measured.the-variants as measured
-use Rattle.cif.specs.Steps.{boxesBytes, MeasureTold}
+use Rattle.cif.specs.Steps.{Small, Reckoned, boxesBytes, MeasureTold}
 use Rattle.cif.proofs.Decimal.{decimal-small, decimal-split}
 
 -- a number
@@ -270,24 +271,43 @@ module _ (l out : List ℕ) where
 
 -- the numbers of a shot, as they are reckoned
 
-module _ (xl yl xh yh A B X Y : ℕ) (ea : A ≡ 2 * (xh - xl)) (eb : B ≡ 2 * (yh - yl)) (ex : X ≡ xl + xh) (ey : Y ≡ yl + yh) where
-  reckoned : boxOf A B X Y ≡ boxLine (shotOf xl yl xh yh)
-  unfolding boxLine
-  reckoned = cc
+pub doubled-line : {xl yl xh yh l r b t : ℕ} → (l ≡ xl) × (l ≤ 65535) → (r ≡ xh) × (r ≤ 65535) → (b ≡ yl) × (b ≤ 65535)
+    → (t ≡ yh) × (t ≤ 65535) → Reckoned (shotOf xl yl xh yh) (2 * (r - l)) (2 * (t - b)) (l + r) (b + t)
+unfolding boxLine
+doubled-line p q u v =
+    let e = p .0 in
+    let f = q .0 in
+    let g = u .0 in
+    let h = v .0 in
+    record {
+      line = cc;
+      small =
+          record {
+            one = omega (arith, q .1);
+            two = omega (arith, v .1);
+            three = omega (arith, p .1, q .1);
+            four = omega (arith, u .1, v .1);
+          };
+    }
 
-  pub box-room : (at m : ℕ) → at + length (boxLine (shotOf xl yl xh yh)) ≤ m
-      → at + (7 + length (decimal A) + length (decimal B) + length (decimal X) + length (decimal Y)) ≤ m
-  box-room at m h = omega (arith, ap length reckoned, box-length A B X Y)
+module _ {s : Shot} {a b x y : ℕ} (n : Reckoned s a b x y) where
+  pub box-room : (at m : ℕ) → at + length (boxLine s) ≤ m
+      → at + (7 + length (decimal a) + length (decimal b) + length (decimal x) + length (decimal y)) ≤ m
+  box-room at m h = omega (arith, ap length (n .line), box-length a b x y)
 
-  pub box-sized : (a b x y : ℕ) → a ≡ length (decimal A) → b ≡ length (decimal B) → x ≡ length (decimal X) → y ≡ length (decimal Y)
-      → a ≤ 6 → b ≤ 6 → x ≤ 6 → y ≤ 6
-      → (7 + a + b + x + y ≡ length (boxLine (shotOf xl yl xh yh))) × (7 + a + b + x + y ≤ 31)
-  box-sized a b x y fa fb fx fy la lb lx ly = (omega (arith, ap length reckoned, box-length A B X Y), omega arith)
+  pub box-sized : {i j k l : ℕ} → (i ≡ length (decimal a)) × (i ≤ 6) → (j ≡ length (decimal b)) × (j ≤ 6)
+      → (k ≡ length (decimal x)) × (k ≤ 6) → (l ≡ length (decimal y)) × (l ≤ 6)
+      → (7 + i + j + k + l ≡ length (boxLine s)) × (7 + i + j + k + l ≤ 31)
+  box-sized p q u v = (
+    omega (arith, ap length (n .line), box-length a b x y, p .0, q .0, u .0, v .0),
+    omega (arith, p .1, q .1, u .1, v .1),
+  )
 
-  pub box-written : (out : List ℕ) (at last : ℕ) (after : List ℕ) → (last ≡ at + length (boxOf A B X Y)) × (after ≡ sets out at (boxOf A B X Y))
-      → (last ≡ at + length (boxLine (shotOf xl yl xh yh))) × (after ≡ sets out at (boxLine (shotOf xl yl xh yh)))
+  pub box-written : (out : List ℕ) (at last : ℕ) (after : List ℕ)
+      → (last ≡ at + length (boxOf a b x y)) × (after ≡ sets out at (boxOf a b x y))
+      → (last ≡ at + length (boxLine s)) × (after ≡ sets out at (boxLine s))
   box-written out at last after e =
-      (e .0 ∙ ap (λ (l : List ℕ). at + length l) reckoned, e .1 ∙ ap (sets out at) reckoned)
+      (e .0 ∙ ap (λ (l : List ℕ). at + length l) (n .line), e .1 ∙ ap (sets out at) (n .line))
 
 -- what each case of measuring tells
 

@@ -25,12 +25,8 @@ use Rattle.cif.specs.Text.{cifText, cifBytes, Fit}
 use Rattle.cif.specs.Faults.{FaultAt}
 use Rattle.cif.specs.declared.Written.{Written}
 use Rattle.cif.specs.declared.Written.the-variants as write
-use Rattle.cif.specs.declared.Unwritten.{Unwritten}
-use Rattle.cif.specs.declared.Unwritten.the-variants as unwrit
 use Rattle.cif.specs.declared.Listed.{Listed}
 use Rattle.cif.specs.declared.Listed.the-variants as list
-use Rattle.cif.specs.declared.Unread.{Unread}
-use Rattle.cif.specs.declared.Unread.the-variants as unread
 
 -- write
 
@@ -51,13 +47,9 @@ writtenTo out b =
 unfoldable pub cifWritten : List ℕ → List ℕ → WriteSaid
 cifWritten l out = cond (badShots l) (unwritten (refusalNo because.Shots) out) (writtenTo out (cifBytes l))
 
-abbrev pub unwrittenNo : Unwritten → ℕ
-unwrittenNo unwrit.Shots = refusalNo because.Shots
-unwrittenNo unwrit.Room = refusalNo because.Room
-
 abbrev pub writeTold : Written → List ℕ → WriteSaid
 writeTold (write.Bytes n) out = record { number = 0; bytes = n; out = out }
-writeTold (write.Refused why) out = unwritten (unwrittenNo why) out
+writeTold (write.Refused why) out = unwritten (refusalNo why) out
 
 -- read
 
@@ -80,10 +72,6 @@ pub data ReadSays (s list : List ℕ) : ReadSaid → Type 0 where
   -- a line at fault
   line : {u : List ℕ} (o : ℕ) → FaultAt s o → u ≡ list → ReadSays s list (said (refusalNo because.Text) 0 o u)
 
-abbrev pub unreadTold : Unread → List ℕ → ReadSaid
-unreadTold (unread.Line o) u = said (refusalNo because.Text) 0 o u
-unreadTold unread.Room u = said (refusalNo because.Room) 0 0 u
-
 abbrev pub readTold : Listed → List ℕ → ReadSaid
 readTold (list.Shots n) u = said 0 n 0 u
-readTold (list.Refused why) u = unreadTold why u
+readTold (list.Refused why o) u = said (refusalNo why) 0 o u

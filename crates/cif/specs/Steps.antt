@@ -15,6 +15,7 @@
 --   OpeningTold s r, ClosingTold s at r == past the lines before and after the boxes, or the first of them that does not stand
 --   ScanTold s r         == the number of shots whose text s is, or the first line at fault
 --   Stored s at n list after == the numbers of the n shots whose boxes stand at the place are at the front of the list
+--   Reckoned s a b x y   == these are the four numbers of the box of the shot s, of six digits at most
 --   boxesBytes l         == the box lines of a list of numbers
 --   MeasureTold l room r == how many bytes these are, or that they are more than the room
 use Prim.Native.Nat.{ℕ, _+_, _-_, _*_, _<_, _≤_}
@@ -26,7 +27,7 @@ use lib.Seq.{sets}
 use Rattle.sum.specs.Sum.{join, All}
 use Rattle.shot.specs.Shot.{Shot, numbers, shotsIn}
 use Rattle.shot.specs.Bad.{shotOf}
-use Rattle.cif.specs.Text.{decimal, field, boxOf, boxLine, cifText, symbol, layer, finish, call, end, Fit}
+use Rattle.cif.specs.Text.{decimal, field, boxOf, doubledSide, doubledCentre, boxLine, cifText, symbol, layer, finish, call, end, Fit}
 use Rattle.cif.specs.Faults.{Stands, NoBox, Stops, Extra, FaultAt}
 use Rattle.cif.specs.declared.numeral.Numeral.{Numeral}
 use Rattle.cif.specs.declared.numeral.Numeral.the-variants as numeral
@@ -121,8 +122,8 @@ LineTold s at fields.Missing = (a b x y : ℕ) → Small a b x y → Stands s at
 pub record Between (side centre low high : ℕ) : Type 0 where
   pub rising : low < high
   pub most : high ≤ 65535
-  pub sides : side ≡ 2 * (high - low)
-  pub middle : centre ≡ low + high
+  pub sides : side ≡ doubledSide low high
+  pub middle : centre ≡ doubledCentre low high
 
 abbrev pub SpanTold : ℕ → ℕ → Span → Type 0
 SpanTold side centre (span.Between low high) = Between side centre low high
@@ -169,6 +170,10 @@ unfoldable pub Stored : List ℕ → ℕ → ℕ → List ℕ → List ℕ → T
 Stored s at n list after = (l : List Shot) → Boxes s at l → n ≡ length l → after ≡ sets list 0 (numbers l)
 
 -- writing
+
+pub record Reckoned (s : Shot) (a b x y : ℕ) : Type 0 where
+  pub line : boxOf a b x y ≡ boxLine s
+  pub small : Small a b x y
 
 unfoldable pub boxesBytes : List ℕ → List ℕ
 boxesBytes l = join boxLine (shotsIn l)

@@ -3,6 +3,7 @@
 --   decimalIn k n    == the digits of n as bytes, k + 1 of them at most; decimal n == at most six; a number above 0 has no 0 in front
 --   field n          == a number behind one space
 --   boxOf a b x y    == `B a b x y;` and its line feed
+--   doubledSide low high, doubledCentre low high == of a stretch, in half nanometres
 --   boxLine s        == the box of a shot: doubled sides, length and width, and doubled centre, x and y
 --   symbol, layer    == the lines `DS 1 1 20;` and `L NM;`
 --   finish, call, end == the lines `DF;`, `C 1;` and `E`
@@ -29,8 +30,16 @@ field n = 32 ∷ decimal n
 unfoldable pub boxOf : ℕ → ℕ → ℕ → ℕ → List ℕ
 boxOf a b x y = (66 ∷ []) ++ (field a ++ (field b ++ (field x ++ (field y ++ (59 ∷ 10 ∷ [])))))
 
+abbrev pub doubledSide : ℕ → ℕ → ℕ
+doubledSide low high = 2 * (high - low)
+
+abbrev pub doubledCentre : ℕ → ℕ → ℕ
+doubledCentre low high = low + high
+
 unfoldable pub boxLine : Shot → List ℕ
-boxLine s = boxOf (2 * (s .xhigh - s .xlow)) (2 * (s .yhigh - s .ylow)) (s .xlow + s .xhigh) (s .ylow + s .yhigh)
+boxLine s =
+    boxOf (doubledSide (s .xlow) (s .xhigh)) (doubledSide (s .ylow) (s .yhigh)) (doubledCentre (s .xlow) (s .xhigh))
+    (doubledCentre (s .ylow) (s .yhigh))
 
 abbrev pub symbol : List ℕ
 symbol = 68 ∷ 83 ∷ 32 ∷ 49 ∷ 32 ∷ 49 ∷ 32 ∷ 50 ∷ 48 ∷ 59 ∷ 10 ∷ []

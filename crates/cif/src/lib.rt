@@ -2,6 +2,7 @@
 use reading::Scanned;
 use reading::scan;
 use reading::store;
+use refusal::Refusal;
 use shot::bad_shots;
 use writing::Measured;
 use writing::measure;
@@ -14,28 +15,17 @@ mod numeral;
 mod reading;
 mod writing;
 
-// How many bytes stand at the front of the buffer, or why none do.
+// How many bytes stand at the front of the buffer, or why none do: 21, the list is no shot list; 14, the buffer is too short.
 pub enum Written {
     Bytes(usize),
-    Refused(Unwritten),
+    Refused(Refusal),
 }
 
-// 21, the list is no shot list; 14, the buffer is too short.
-pub enum Unwritten {
-    Shots,
-    Room,
-}
-
-// How many shots stand at the front of the list, or why none do.
+// How many shots stand at the front of the list, or why none do: 22 with the offset of the first line at fault; 14 with 0, the list is
+// too short.
 pub enum Listed {
     Shots(usize),
-    Refused(Unread),
-}
-
-// 22, with the offset of the first line at fault; 14, the list is too short.
-pub enum Unread {
-    Line(usize),
-    Room,
+    Refused(Refusal, usize),
 }
 
 // The bytes of the lines before the boxes and after them.
@@ -46,14 +36,14 @@ pub fn write(list: &[u16], out: &mut [u8]) -> Written
     ensures { λ r. ⌜ writeTold r (now (out .exit)) ≡ cifWritten (now (list .entry)) (now (out .entry)) ⌝ }
 {
     if bad_shots(list) {
-        return Written::Refused(Unwritten::Shots);
+        return Written::Refused(Refusal::Shots);
     }
     let room = out.len();
     if room < FRAME_BYTES {
-        return Written::Refused(Unwritten::Room);
+        return Written::Refused(Refusal::Room);
     }
     match measure(list, room - FRAME_BYTES) {
-        Measured::Short => Written::Refused(Unwritten::Room),
+        Measured::Short => Written::Refused(Refusal::Room),
         Measured::Fits(n) => {
             put_text(list, out);
             Written::Bytes(n + FRAME_BYTES)
@@ -66,10 +56,10 @@ pub fn read(text: &[u8], list: &mut [u16]) -> Listed
     ensures { λ r. ⌜ ReadSays (now (text .entry)) (now (list .entry)) (readTold r (now (list .exit))) ⌝ }
 {
     match scan(text) {
-        Scanned::Wrong(o) => Listed::Refused(Unread::Line(o)),
+        Scanned::Wrong(o) => Listed::Refused(Refusal::Text, o),
         Scanned::Shots(n) => {
             if list.len() / 4 < n {
-                return Listed::Refused(Unread::Room);
+                return Listed::Refused(Refusal::Room, 0);
             }
             store(text, list, n);
             Listed::Shots(n)

@@ -8,12 +8,20 @@ ghost use lib.ListN.{length};
 ghost use lib.Seq.{sets};
 ghost use Rattle.shot.specs.Bad.{badShots, shotOf};
 ghost use Rattle.cif.specs.Text.{boxLine, cifBytes};
-ghost use Rattle.cif.specs.Steps.{MeasureTold, boxesBytes};
+ghost use Rattle.cif.specs.Steps.{MeasureTold, Reckoned, boxesBytes};
 
 // How many bytes the boxes have, or that they do not fit.
 pub enum Measured {
     Fits(usize),
     Short,
+}
+
+// The four numbers of a box line.
+pub struct Numbers {
+    pub length: u32,
+    pub width: u32,
+    pub x: u32,
+    pub y: u32,
 }
 
 // A place, to reckon with.
@@ -23,15 +31,37 @@ fn wide(place: u16) -> u32
     place as u32
 }
 
+// The numbers of the box of a shot: both sides and the centre are doubled, so that every centre is whole.
+fn doubled(x_low: u16, y_low: u16, x_high: u16, y_high: u16) -> Numbers
+    requires { ⌜ («x_low» ≤ «x_high») × («y_low» ≤ «y_high») ⌝ }
+    ensures { λ r. ⌜ Reckoned (shotOf «x_low» «y_low» «x_high» «y_high») (r .length) (r .width) (r .x) (r .y) ⌝ }
+{
+    let left = wide(x_low);
+    let right = wide(x_high);
+    let bottom = wide(y_low);
+    let top = wide(y_high);
+    let length = 2 * (right - left);
+    let width = 2 * (top - bottom);
+    let x = left + right;
+    let y = bottom + top;
+    Numbers {
+        length,
+        width,
+        x,
+        y,
+    }
+}
+
 // How many bytes the box of a shot has.
 fn box_size(x_low: u16, y_low: u16, x_high: u16, y_high: u16) -> usize
     requires { ⌜ («x_low» ≤ «x_high») × («y_low» ≤ «y_high») ⌝ }
     ensures { λ r. ⌜ (r ≡ length (boxLine (shotOf «x_low» «y_low» «x_high» «y_high»))) × (r ≤ 31) ⌝ }
 {
-    let length = size(2 * (wide(x_high) - wide(x_low)));
-    let width = size(2 * (wide(y_high) - wide(y_low)));
-    let x = size(wide(x_low) + wide(x_high));
-    let y = size(wide(y_low) + wide(y_high));
+    let n = doubled(x_low, y_low, x_high, y_high);
+    let length = size(n.length);
+    let width = size(n.width);
+    let x = size(n.x);
+    let y = size(n.y);
     7 + length + width + x + y
 }
 
@@ -73,15 +103,12 @@ fn put_box(out: &mut [u8], at: usize, x_low: u16, y_low: u16, x_high: u16, y_hig
     ensures { λ r. ⌜ r ≡ at + length (boxLine (shotOf «x_low» «y_low» «x_high» «y_high»)) ⌝ }
     ensures { λ _. ⌜ now (out .exit) ≡ sets (now (out .entry)) at (boxLine (shotOf «x_low» «y_low» «x_high» «y_high»)) ⌝ }
 {
-    let length = 2 * (wide(x_high) - wide(x_low));
-    let width = 2 * (wide(y_high) - wide(y_low));
-    let x = wide(x_low) + wide(x_high);
-    let y = wide(y_low) + wide(y_high);
+    let n = doubled(x_low, y_low, x_high, y_high);
     let sides = put_word(out, at, b"B");
-    let second = put_spaced(out, sides, length);
-    let centre = put_spaced(out, second, width);
-    let fourth = put_spaced(out, centre, x);
-    let last = put_spaced(out, fourth, y);
+    let second = put_spaced(out, sides, n.length);
+    let centre = put_spaced(out, second, n.width);
+    let fourth = put_spaced(out, centre, n.x);
+    let last = put_spaced(out, fourth, n.y);
     put_word(out, last, b";\n")
 }
 

@@ -16,6 +16,7 @@ mod progress;
 mod record;
 mod room;
 mod same;
+mod texts;
 
 use law::Calls;
 use progress::Progress;
@@ -97,6 +98,10 @@ fn main() {
     divisions::sides(&plan, &progress);
     divisions::full_square(&plan, &progress);
     divisions::drawings(&plan, &progress);
+    texts::rows(&plan, &progress);
+    texts::every_byte(&plan, &progress);
+    texts::longest(&plan, &progress);
+    texts::lists(&plan, &progress);
     if let Some(file) = &plan.record {
         record::write(file, plan.seed, &progress);
     }

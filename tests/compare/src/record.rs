@@ -7,14 +7,15 @@
 //! numbers, a hash over each lent buffer with 16 elements before and beyond it. Calls: 1 preset,
 //! 2 fracture, 3 fracture by the default rule, 4 number, 5 job check, 6 job outline, 7 unpack, 8 write
 //! header, 9 write outline, 10 read a boundary, 11 fracture one, 12 the end, 23 the runs of an edge, 30 join,
-//! 31 cuts ahead, 32 fracture by pinwheels, 50 and 51 the same as 2 and 32 with a largest side. A shift has its sign.
+//! 31 cuts ahead, 32 fracture by pinwheels, 50 and 51 the same as 2 and 32 with a largest side,
+//! 45 write a CIF text, 46 read one. A shift has its sign.
 //! An entry of a table of pairs is hashed field by field, its partner as two words.
 
 use crate::edges::shot_list;
 use crate::progress::Progress;
 use drawings::jobs::{damaged, outline, sound, DAMAGES};
 use drawings::seeded::Seeded;
-use drawings::{elements, figures, outlines, shots};
+use drawings::{elements, figures, outlines, shots, texts};
 use law::figure::figure;
 use law::joining::Joined;
 use law::{Calls, Drawing, Law, Told};
@@ -27,6 +28,7 @@ const ELEMENTS: u64 = 6_000;
 const LISTS: u64 = 6_000;
 const EDGES: u64 = 6_000;
 const DIVIDED: u64 = 4_000;
+const TEXTS: u64 = 6_000;
 
 struct Record {
     words: Vec<u32>,
@@ -224,6 +226,28 @@ impl Record {
         self.outcome(told, 1, &[hash(runs.into_iter().map(|run| run as u32))]);
     }
 
+    fn cif_write(&mut self, list: &[u16], room: usize, mark: u32) {
+        self.words.push(45);
+        self.size(list.len());
+        self.size(room);
+        self.words.push(mark);
+        self.words.extend(list.iter().map(|&number| number as u32));
+        let mut out = lend(room, mark, 8, |x| x as u8);
+        let told = Law.cif_write(list, &mut out[MARGIN..MARGIN + room]);
+        self.outcome(told, 1, &[hash(out.into_iter().map(u32::from))]);
+    }
+
+    fn cif_read(&mut self, text: &[u8], numbers: usize, mark: u32) {
+        self.words.push(46);
+        self.size(text.len());
+        self.size(numbers);
+        self.words.push(mark);
+        self.bytes(text);
+        let mut list = lend(numbers, mark, 16, |x| x as u16);
+        let told = Law.cif_read(text, &mut list[MARGIN..MARGIN + numbers]);
+        self.outcome(told, 2, &[hash(list.into_iter().map(u32::from))]);
+    }
+
     fn writers(&mut self, s: &mut Seeded) {
         let pick = |s: &mut Seeded| s.pick(&[0, 127, 128, 255, 256, 1000, 1001, u32::MAX]);
         let (threshold, weight, outlines) = (pick(s), pick(s), pick(s));
@@ -353,6 +377,23 @@ pub fn write(file: &str, seed: u64, progress: &Progress) {
         let numbers = s.pick(&[900, 2_000, 20_000, few]);
         let wheels = pieces <= 1300 && s.once_in(2);
         record.divided(wheels, &drawing, rule, largest, (pieces, numbers), turn as u32);
+    }
+    for turn in 0..TEXTS {
+        let mut s = Seeded::new(seed << 32 | 0xc1f1 << 16 | turn);
+        let list = shots::any(&mut s);
+        let bytes = if law::cif::bad_shots(&list) { 50 } else { law::cif::text(&list).len() };
+        let few = s.within(0, bytes);
+        let room = s.pick(&[bytes, bytes + 5, bytes - 1, few]);
+        record.cif_write(&list, room, turn as u32);
+        let mut text = texts::sound(&mut s);
+        let shots = text.iter().filter(|&&byte| byte == b'B').count();
+        if turn % 3 > 0 {
+            let way = s.below(texts::DAMAGES);
+            text = texts::damaged(&mut s, &text, way);
+        }
+        let few = s.within(0, 4 * shots);
+        let numbers = s.pick(&[4 * shots, 4 * shots + 9, few]);
+        record.cif_read(&text, numbers, turn as u32);
     }
     record.words.push(12);
     let bytes: Vec<u8> = record.words.iter().flat_map(|word| word.to_le_bytes()).collect();

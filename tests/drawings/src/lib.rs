@@ -9,6 +9,7 @@
 //! | `jobs` | jobs, sound and damaged |
 //! | `elements` | boundary elements of GDSII streams, sound and damaged |
 //! | `shots` | lists of shots to join, sound and bad |
+//! | `texts` | CIF texts of shot lists, sound and damaged |
 //! | `document` | the drawings of document 01, and those of windows, with their outcomes |
 
 pub mod document;
@@ -18,3 +19,4 @@ pub mod jobs;
 pub mod outlines;
 pub mod seeded;
 pub mod shots;
+pub mod texts;

@@ -1,6 +1,8 @@
 //! A shot list as a CIF text and back (document 02, Item 12). A line is read by splitting it and
 //! printing its numbers anew, so that only the one form passes.
 
+use crate::Told;
+
 /// 21: no shot list.
 pub fn bad_shots(list: &[u16]) -> bool {
     list.len() % 4 != 0 || list.chunks(4).any(|s| s[2] <= s[0] || s[3] <= s[1])
@@ -16,17 +18,17 @@ pub fn text(list: &[u16]) -> String {
     out + "DF;\nC 1;\nE\n"
 }
 
-/// Writing: number, bytes written, and the buffer afterwards.
-pub fn write(list: &[u16], out: &mut [u8]) -> (u32, usize) {
+/// Writing: the bytes written, and the buffer afterwards.
+pub fn told_write(list: &[u16], out: &mut [u8]) -> Told {
     if bad_shots(list) {
-        return (21, 0);
+        return Told::refused(21);
     }
     let bytes = text(list).into_bytes();
     if out.len() < bytes.len() {
-        return (14, 0);
+        return Told::refused(14);
     }
     out[..bytes.len()].copy_from_slice(&bytes);
-    (0, bytes.len())
+    Told::done(&[bytes.len() as u64])
 }
 
 /// One direction of a box: low and high end.
@@ -73,14 +75,14 @@ pub fn shots(text: &[u8]) -> Result<Vec<u16>, usize> {
     if at < text.len() { Err(at) } else { Ok(list) }
 }
 
-/// Reading: number, shots, offset, and the list afterwards.
-pub fn read(text: &[u8], list: &mut [u16]) -> (u32, usize, usize) {
+/// Reading: shots and offset, and the list afterwards.
+pub fn told_read(text: &[u8], list: &mut [u16]) -> Told {
     match shots(text) {
-        Err(at) => (22, 0, at),
-        Ok(found) if list.len() < found.len() => (14, 0, 0),
+        Err(at) => Told::of(22, &[0, at as u64]),
+        Ok(found) if list.len() < found.len() => Told::refused(14),
         Ok(found) => {
             list[..found.len()].copy_from_slice(&found);
-            (0, found.len() / 4, 0)
+            Told::done(&[found.len() as u64 / 4])
         }
     }
 }

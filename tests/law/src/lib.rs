@@ -83,6 +83,8 @@ pub trait Calls {
     fn fracture_divided(
         &self, pinwheels: bool, drawing: &Drawing, threshold: u32, weight: u32, largest: u32, table: &mut [u32], list: &mut [u16],
     ) -> Told;
+    fn cif_write(&self, list: &[u16], out: &mut [u8]) -> Told;
+    fn cif_read(&self, text: &[u8], list: &mut [u16]) -> Told;
 }
 
 /// The documents themselves.
@@ -138,5 +140,12 @@ impl Calls for Law {
         &self, pinwheels: bool, drawing: &Drawing, threshold: u32, weight: u32, largest: u32, table: &mut [u32], list: &mut [u16],
     ) -> Told {
         division::fracture_divided(pinwheels, drawing, threshold, weight, largest, table, list)
+    }
+
+    fn cif_write(&self, list: &[u16], out: &mut [u8]) -> Told {
+        cif::told_write(list, out)
+    }
+    fn cif_read(&self, text: &[u8], list: &mut [u16]) -> Told {
+        cif::told_read(text, list)
     }
 }

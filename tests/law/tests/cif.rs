@@ -1,5 +1,6 @@
 //! The worked texts of Item 12, against the law itself.
-use law::cif::{bad_shots, read, shots, text, write};
+use law::cif::{bad_shots, shots, text, told_read, told_write};
+use law::Told;
 
 const L: [u16; 8] = [0, 0, 60, 80, 60, 0, 100, 20];
 
@@ -16,10 +17,10 @@ fn written() {
     let bad: [&[u16]; 4] = [&[1, 2, 3], &[0, 0, 0, 10], &[10, 0, 0, 10], &[0, 0, 10, 10, 5, 5, 5, 6]];
     for list in bad {
         assert!(bad_shots(list));
-        assert_eq!(write(list, &mut []), (21, 0));
+        assert_eq!(told_write(list, &mut []), Told::refused(21));
     }
-    assert_eq!(write(&L, &mut [0; 60]), (14, 0));
-    assert_eq!(write(&L, &mut [0; 61]), (0, 61));
+    assert_eq!(told_write(&L, &mut [0; 60]), Told::refused(14));
+    assert_eq!(told_write(&L, &mut [0; 61]), Told::done(&[61]));
 }
 
 #[test]
@@ -45,6 +46,7 @@ fn faults() {
     }
     assert_eq!(with("C 1;\n", ""), Err(54));
     assert_eq!(shots(b"DS 1 1 20;\nL NM;\nB 80 40 131030 20;\nDF;\nC 1;\nE\n"), Ok(vec![65495, 0, 65535, 20]));
-    assert_eq!(read(whole.as_bytes(), &mut [0; 7]), (14, 0, 0));
-    assert_eq!(read(whole.as_bytes(), &mut [0; 8]), (0, 2, 0));
+    assert_eq!(told_read(whole.as_bytes(), &mut [0; 7]), Told::refused(14));
+    assert_eq!(told_read(whole.as_bytes(), &mut [0; 8]), Told::done(&[2]));
+    assert_eq!(told_read(b"E\n", &mut []), Told::of(22, &[0, 0]));
 }

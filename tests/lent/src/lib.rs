@@ -101,6 +101,10 @@ mod pw {
             corners: *const u16, corners_len: usize, rings: *const u16, rings_len: usize, edge: usize,
             shots: *const u16, shots_len: usize, runs: *mut usize, runs_len: usize, count: *mut usize,
         ) -> u32;
+        pub fn pw_cif_write(list: *const u16, list_len: usize, out: *mut u8, out_len: usize, written: *mut usize) -> u32;
+        pub fn pw_cif_read(
+            text: *const u8, len: usize, list: *mut u16, list_len: usize, shots: *mut usize, offset: *mut usize,
+        ) -> u32;
     }
 }
 
@@ -327,5 +331,19 @@ impl Calls for Library {
             )
         };
         Told::of(number, &[shots as u64, cost as u64, sliver as u64, cuts as u64])
+    }
+
+    fn cif_write(&self, list: &[u16], out: &mut [u8]) -> Told {
+        let mut written = MARK_SIZE;
+        let number = unsafe { pw::pw_cif_write(list.as_ptr(), list.len(), out.as_mut_ptr(), out.len(), &mut written) };
+        Told::of(number, &[written as u64])
+    }
+
+    fn cif_read(&self, text: &[u8], list: &mut [u16]) -> Told {
+        let (mut shots, mut offset) = (MARK_SIZE, MARK_SIZE);
+        let number = unsafe {
+            pw::pw_cif_read(text.as_ptr(), text.len(), list.as_mut_ptr(), list.len(), &mut shots, &mut offset)
+        };
+        Told::of(number, &[shots as u64, offset as u64])
     }
 }

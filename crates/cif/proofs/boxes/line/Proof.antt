@@ -14,7 +14,10 @@ stands-requires : tie.Need-stands-requires
 stands-requires c κs = search needs
 
 returns : tie.Need-returns
-returns c = let a = c .before .before .before .before .args in let s = a .text .now in line-other s (a .at) (c .before .stands .ensures .no (not-true _ (c .if1 .taken)))
+returns c =
+    let a = c .before .before .before .before .args in
+    let s = a .text .now in
+    line-other s (a .at) (c .before .stands .ensures .no (not-true _ (c .if1 .taken)))
 
 add-from : tie.Need-add-from
 add-from c = search needs
@@ -41,22 +44,58 @@ slice-aggregate-stands-2 : tie.Need-slice-aggregate-stands-2
 slice-aggregate-stands-2 c = search needs
 
 stands-requires-2 : tie.Need-stands-requires-2
-stands-requires-2 c κs = let a = c .before .before .before .before .before .before .before .before .before .before .before .before .before .args in let s = a .text .now in let w = c .before .before in omega (arith, two-as s _ (w .x .given .1) (w .before .before .two2 .ensures) .within)
+stands-requires-2 c κs =
+    let a = c .before .before .before .before .before .before .before .before .before .before .before .before .before .args in
+    let s = a .text .now in
+    let w = c .before .before in
+    omega (arith, two-as s _ (w .x .given .1) (w .before .before .two2 .ensures) .within)
 
 add-past : tie.Need-add-past
-add-past c = let a = c .before .before .before .before .before .before .before .before .before .before .before .before .before .before .before .args in let s = a .text .now in let w = c .before .before .before .before in let v = c .before .before .before .before .before .before .before .before in let o = c .before .before .before .before .before .before .before .before .before .before .before .before in let f = two-as s (a .at + 1) (v .a .given .1) (v .before .before .two .ensures) in let g = two-as s _ (w .x .given .1) (w .before .before .two2 .ensures) in let h = line-found s (a .at) _ _ _ f _ _ _ g (o .stands .ensures .yes (not-false _ (c .before .before .before .before .before .before .before .before .before .before .before .if1 .left))) (c .before .stands2 .ensures .yes (c .if2 .taken)) in omega (arith, h .within)
+add-past c =
+    let a = c .before .before .before .before .before .before .before .before .before .before .before .before .before .before .before .args in
+    let s = a .text .now in
+    let w = c .before .before .before .before in
+    let v = c .before .before .before .before .before .before .before .before in
+    let o = c .before .before .before .before .before .before .before .before .before .before .before .before in
+    let f = two-as s (a .at + 1) (v .a .given .1) (v .before .before .two .ensures) in
+    let g = two-as s _ (w .x .given .1) (w .before .before .two2 .ensures) in
+    let h = line-found s (a .at) _ _ _ f _ _ _ g (o .stands .ensures .yes (not-false _ (c .before .before .before .before .before .before .before .before .before .before .before .if1 .left))) (c .before .stands2 .ensures .yes (c .if2 .taken)) in
+    omega (arith, h .within)
 
 returns-2 : tie.Need-returns-2
-returns-2 c = let a = c .before .before .before .before .before .before .before .before .before .before .before .before .before .before .before .args in let s = a .text .now in let w = c .before .before .before .before in let v = c .before .before .before .before .before .before .before .before in let o = c .before .before .before .before .before .before .before .before .before .before .before .before in let f = two-as s (a .at + 1) (v .a .given .1) (v .before .before .two .ensures) in let g = two-as s _ (w .x .given .1) (w .before .before .two2 .ensures) in line-found s (a .at) _ _ _ f _ _ _ g (o .stands .ensures .yes (not-false _ (c .before .before .before .before .before .before .before .before .before .before .before .if1 .left))) (c .before .stands2 .ensures .yes (c .if2 .taken))
+returns-2 c =
+    let a = c .before .before .before .before .before .before .before .before .before .before .before .before .before .before .before .args in
+    let s = a .text .now in
+    let w = c .before .before .before .before in
+    let v = c .before .before .before .before .before .before .before .before in
+    let o = c .before .before .before .before .before .before .before .before .before .before .before .before in
+    let f = two-as s (a .at + 1) (v .a .given .1) (v .before .before .two .ensures) in
+    let g = two-as s _ (w .x .given .1) (w .before .before .two2 .ensures) in
+    line-found s (a .at) _ _ _ f _ _ _ g (o .stands .ensures .yes (not-false _ (c .before .before .before .before .before .before .before .before .before .before .before .if1 .left))) (c .before .stands2 .ensures .yes (c .if2 .taken))
 
 returns-3 : tie.Need-returns-3
-returns-3 c = let a = c .before .before .before .before .before .before .before .args in let s = a .text .now in line-none s (a .at) (untwo-as s (a .at + 1) (c .enum-told .given .1) (c .before .before .two .ensures))
+returns-3 c =
+    let a = c .before .before .before .before .before .before .before .args in
+    let s = a .text .now in
+    line-none s (a .at) (untwo-as s (a .at + 1) (c .enum-told .given .1) (c .before .before .two .ensures))
 
 returns-4 : tie.Need-returns-4
-returns-4 c = let a = c .before .before .before .before .before .before .before .before .before .before .before .args in let s = a .text .now in let v = c .before .before .before .before in let f = two-as s (a .at + 1) (v .a .given .1) (v .before .before .two .ensures) in line-half s (a .at) _ _ _ f (untwo-as s _ (c .enum-told2 .given .1) (c .before .before .two2 .ensures))
+returns-4 c =
+    let a = c .before .before .before .before .before .before .before .before .before .before .before .args in
+    let s = a .text .now in
+    let v = c .before .before .before .before in
+    let f = two-as s (a .at + 1) (v .a .given .1) (v .before .before .two .ensures) in
+    line-half s (a .at) _ _ _ f (untwo-as s _ (c .enum-told2 .given .1) (c .before .before .two2 .ensures))
 
 returns-5 : tie.Need-returns-5
-returns-5 c = let a = c .before .before .before .before .before .before .before .before .before .before .before .before .before .before .before .args in let s = a .text .now in let w = c .before .before .before .before in let v = c .before .before .before .before .before .before .before .before in let f = two-as s (a .at + 1) (v .a .given .1) (v .before .before .two .ensures) in let g = two-as s _ (w .x .given .1) (w .before .before .two2 .ensures) in line-open s (a .at) _ _ _ f _ _ _ g (c .before .stands2 .ensures .no (c .if2 .left))
+returns-5 c =
+    let a = c .before .before .before .before .before .before .before .before .before .before .before .before .before .before .before .args in
+    let s = a .text .now in
+    let w = c .before .before .before .before in
+    let v = c .before .before .before .before .before .before .before .before in
+    let f = two-as s (a .at + 1) (v .a .given .1) (v .before .before .two .ensures) in
+    let g = two-as s _ (w .x .given .1) (w .before .before .two2 .ensures) in
+    line-open s (a .at) _ _ _ f _ _ _ g (c .before .stands2 .ensures .no (c .if2 .left))
 
 pub line-spec : {M : Type 1} → statement M
 line-spec =

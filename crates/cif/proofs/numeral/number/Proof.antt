@@ -20,7 +20,11 @@ returns : tie.Need-returns Inv-loop μ-loop
 returns c = number-missing _ _ _ (c .before .digit .ensures) (c .if1 .taken)
 
 add-next : tie.Need-add-next Inv-loop μ-loop
-add-next c = let d = c .before .digit .ensures in let f = d .few in let k = d .here (omega arith) in omega arith
+add-next c =
+    let d = c .before .digit .ensures in
+    let f = d .few in
+    let k = d .here (omega arith) in
+    omega arith
 
 returns-2 : tie.Need-returns-2 Inv-loop μ-loop
 returns-2 c = number-zero _ _ _ (c .before .before .digit .ensures) (c .if2 .taken)
@@ -44,7 +48,11 @@ add-next-2 : tie.Need-add-next-2 Inv-loop μ-loop
 add-next-2 c = search needs
 
 loop-less : tie.Need-loop-less Inv-loop μ-loop
-loop-less c = let d = c .before .digit2 .ensures in let f = d .few in let k = d .here (omega arith) in omega arith
+loop-less c =
+    let d = c .before .digit2 .ensures in
+    let f = d .few in
+    let k = d .here (omega arith) in
+    omega arith
 
 loop-again : tie.Need-loop-again Inv-loop μ-loop
 loop-again c = number-more _ _ _ _ (c .before .before .before .loop .inv) _ (omega arith) (c .before .digit2 .ensures) (c .if3 .left)

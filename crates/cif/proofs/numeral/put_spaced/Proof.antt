@@ -21,7 +21,9 @@ same-length : tie.Need-same-length
 same-length c = ap length (c .before .before .put-number .ensures .1) ∙ simp (length-sets, length-set)
 
 returns : tie.Need-returns
-returns c = let a = c .before .before .before .before .before .args in put-field (a .out .now) (a .at) (a .n) _ _ (c .before .before .put-number .ensures .0) (c .before .before .put-number .ensures .1)
+returns c =
+    let a = c .before .before .before .before .before .args in
+    put-field (a .out .now) (a .at) (a .n) _ _ (c .before .before .put-number .ensures .0) (c .before .before .put-number .ensures .1)
 
 pub put-spaced-spec : {M : Type 1} → statement M
 put-spaced-spec =

@@ -24,13 +24,24 @@ enum-known-w : tie.Need-enum-known-w
 enum-known-w c = search needs
 
 returns : tie.Need-returns
-returns c = let a = c .before .before .before .before .args in two-none (a .text .now) (a .at) (missing-as field (a .text .now) (a .at) (c .enum-told .given .1) (c .before .before .spaced .ensures))
+returns c =
+    let a = c .before .before .before .before .args in
+    two-none (a .text .now) (a .at) (missing-as field (a .text .now) (a .at) (c .enum-told .given .1) (c .before .before .spaced .ensures))
 
 returns-2 : tie.Need-returns-2
-returns-2 c = let a = c .before .before .before .before .before .before .before .before .args in let v = c .before .before .before .before in let f = found-as field (a .text .now) (a .at) (v .v .given .1) (v .before .before .spaced .ensures) in two-one (a .text .now) (a .at) _ _ f (missing-as field (a .text .now) _ (c .enum-told2 .given .1) (c .before .before .spaced2 .ensures))
+returns-2 c =
+    let a = c .before .before .before .before .before .before .before .before .args in
+    let v = c .before .before .before .before in
+    let f = found-as field (a .text .now) (a .at) (v .v .given .1) (v .before .before .spaced .ensures) in
+    two-one (a .text .now) (a .at) _ _ f (missing-as field (a .text .now) _ (c .enum-told2 .given .1) (c .before .before .spaced2 .ensures))
 
 returns-3 : tie.Need-returns-3
-returns-3 c = let a = c .before .before .before .before .before .before .before .before .before .args in let v = c .before .before .before .before .before in let w = c .before in let f = found-as field (a .text .now) (a .at) (v .v .given .1) (v .before .before .spaced .ensures) in two-found (a .text .now) (a .at) _ _ f _ _ (found-as field (a .text .now) _ (w .w .given .1) (w .before .before .spaced2 .ensures))
+returns-3 c =
+    let a = c .before .before .before .before .before .before .before .before .before .args in
+    let v = c .before .before .before .before .before in
+    let w = c .before in
+    let f = found-as field (a .text .now) (a .at) (v .v .given .1) (v .before .before .spaced .ensures) in
+    two-found (a .text .now) (a .at) _ _ f _ _ (found-as field (a .text .now) _ (w .w .given .1) (w .before .before .spaced2 .ensures))
 
 pub two-spec : {M : Type 1} → statement M
 two-spec =

@@ -23,19 +23,32 @@ enum-told : tie.Need-enum-told Inv-loop μ-loop
 enum-told c = search needs
 
 returns : tie.Need-returns Inv-loop μ-loop
-returns c = let l = c .before .before .before in walked-end _ _ _ _ (l .loop .inv) (unbox-as (l .before .before .args .text .now) _ (c .enum-told .given .1) (c .before .before .box-at .ensures))
+returns c =
+    let l = c .before .before .before in
+    walked-end _ _ _ _ (l .loop .inv) (unbox-as (l .before .before .args .text .now) _ (c .enum-told .given .1) (c .before .before .box-at .ensures))
 
 enum-known-past : tie.Need-enum-known-past Inv-loop μ-loop
 enum-known-past c = search needs
 
 add-count : tie.Need-add-count Inv-loop μ-loop
-add-count c = let l = c .before .before .before .before in let s = l .before .before .args .text .now in let b = box-as s _ (c .before .past .given .1) (c .before .before .before .box-at .ensures) in omega (arith, l .loop .inv .few, b .onward, b .within)
+add-count c =
+    let l = c .before .before .before .before in
+    let s = l .before .before .args .text .now in
+    let b = box-as s _ (c .before .past .given .1) (c .before .before .before .box-at .ensures) in
+    omega (arith, l .loop .inv .few, b .onward, b .within)
 
 loop-less : tie.Need-loop-less Inv-loop μ-loop
-loop-less c = let l = c .before .before .before .before in let s = l .before .before .args .text .now in let b = box-as s _ (c .before .past .given .1) (c .before .before .before .box-at .ensures) in omega (arith, b .onward, b .within)
+loop-less c =
+    let l = c .before .before .before .before in
+    let s = l .before .before .args .text .now in
+    let b = box-as s _ (c .before .past .given .1) (c .before .before .before .box-at .ensures) in
+    omega (arith, b .onward, b .within)
 
 loop-again : tie.Need-loop-again Inv-loop μ-loop
-loop-again c = let l = c .before .before .before .before in let s = l .before .before .args .text .now in walked-more _ _ _ _ (l .loop .inv) _ _ (box-as s _ (c .before .past .given .1) (c .before .before .before .box-at .ensures))
+loop-again c =
+    let l = c .before .before .before .before in
+    let s = l .before .before .args .text .now in
+    walked-more _ _ _ _ (l .loop .inv) _ _ (box-as s _ (c .before .past .given .1) (c .before .before .before .box-at .ensures))
 
 pub boxes-spec : {M : Type 1} → statement M
 boxes-spec =

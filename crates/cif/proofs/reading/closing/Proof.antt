@@ -16,40 +16,88 @@ stands-requires : tie.Need-stands-requires
 stands-requires c κs = search needs
 
 returns : tie.Need-returns
-returns c = let a = c .before .before .before .before .args in let s = a .text .now in closing-finish s (a .at) (c .before .stands .ensures .no (not-true _ (c .if1 .taken)))
+returns c =
+    let a = c .before .before .before .before .args in
+    let s = a .text .now in
+    closing-finish s (a .at) (c .before .stands .ensures .no (not-true _ (c .if1 .taken)))
 
 add-call : tie.Need-add-call
-add-call c = let a = c .before .before .before .before .args in let s = a .text .now in let f = c in omega (arith, stands-room s (a .at) finish (f .before .stands .ensures .yes (not-false _ (f .if1 .left))))
+add-call c =
+    let a = c .before .before .before .before .args in
+    let s = a .text .now in
+    let f = c in
+    omega (arith, stands-room s (a .at) finish (f .before .stands .ensures .yes (not-false _ (f .if1 .left))))
 
 slice-aggregate-stands-2 : tie.Need-slice-aggregate-stands-2
 slice-aggregate-stands-2 c = search needs
 
 stands-requires-2 : tie.Need-stands-requires-2
-stands-requires-2 c κs = let a = c .before .before .before .before .before .args in let s = a .text .now in let f = c .before in omega (arith, stands-room s (a .at) finish (f .before .stands .ensures .yes (not-false _ (f .if1 .left))))
+stands-requires-2 c κs =
+    let a = c .before .before .before .before .before .args in
+    let s = a .text .now in
+    let f = c .before in
+    omega (arith, stands-room s (a .at) finish (f .before .stands .ensures .yes (not-false _ (f .if1 .left))))
 
 returns-2 : tie.Need-returns-2
-returns-2 c = let a = c .before .before .before .before .before .before .before .args in let s = a .text .now in let f = c .before .before .before in closing-call s (a .at) (f .before .stands .ensures .yes (not-false _ (f .if1 .left))) (c .before .stands2 .ensures .no (not-true _ (c .if2 .taken)))
+returns-2 c =
+    let a = c .before .before .before .before .before .before .before .args in
+    let s = a .text .now in
+    let f = c .before .before .before in
+    closing-call s (a .at) (f .before .stands .ensures .yes (not-false _ (f .if1 .left))) (c .before .stands2 .ensures .no (not-true _ (c .if2 .taken)))
 
 add-end : tie.Need-add-end
-add-end c = let a = c .before .before .before .before .before .before .before .args in let s = a .text .now in let f = c .before .before .before in let g = c in omega (arith, stands-room s (a .at) finish (f .before .stands .ensures .yes (not-false _ (f .if1 .left))), stands-room s (a .at + 4) call (g .before .stands2 .ensures .yes (not-false _ (g .if2 .left))))
+add-end c =
+    let a = c .before .before .before .before .before .before .before .args in
+    let s = a .text .now in
+    let f = c .before .before .before in
+    let g = c in
+    omega (arith, stands-room s (a .at) finish (f .before .stands .ensures .yes (not-false _ (f .if1 .left))), stands-room s (a .at + 4) call (g .before .stands2 .ensures .yes (not-false _ (g .if2 .left))))
 
 slice-aggregate-stands-3 : tie.Need-slice-aggregate-stands-3
 slice-aggregate-stands-3 c = search needs
 
 stands-requires-3 : tie.Need-stands-requires-3
-stands-requires-3 c κs = let a = c .before .before .before .before .before .before .before .before .args in let s = a .text .now in let f = c .before .before .before .before in let g = c .before in omega (arith, stands-room s (a .at) finish (f .before .stands .ensures .yes (not-false _ (f .if1 .left))), stands-room s (a .at + 4) call (g .before .stands2 .ensures .yes (not-false _ (g .if2 .left))))
+stands-requires-3 c κs =
+    let a = c .before .before .before .before .before .before .before .before .args in
+    let s = a .text .now in
+    let f = c .before .before .before .before in
+    let g = c .before in
+    omega (arith, stands-room s (a .at) finish (f .before .stands .ensures .yes (not-false _ (f .if1 .left))), stands-room s (a .at + 4) call (g .before .stands2 .ensures .yes (not-false _ (g .if2 .left))))
 
 returns-3 : tie.Need-returns-3
-returns-3 c = let a = c .before .before .before .before .before .before .before .before .before .before .args in let s = a .text .now in let f = c .before .before .before .before .before .before in let g = c .before .before .before in closing-end s (a .at) (f .before .stands .ensures .yes (not-false _ (f .if1 .left))) (g .before .stands2 .ensures .yes (not-false _ (g .if2 .left))) (c .before .stands3 .ensures .no (not-true _ (c .if3 .taken)))
+returns-3 c =
+    let a = c .before .before .before .before .before .before .before .before .before .before .args in
+    let s = a .text .now in
+    let f = c .before .before .before .before .before .before in
+    let g = c .before .before .before in
+    closing-end s (a .at) (f .before .stands .ensures .yes (not-false _ (f .if1 .left))) (g .before .stands2 .ensures .yes (not-false _ (g .if2 .left))) (c .before .stands3 .ensures .no (not-true _ (c .if3 .taken)))
 
 add-past : tie.Need-add-past
-add-past c = let a = c .before .before .before .before .before .before .before .before .before .before .args in let s = a .text .now in let f = c .before .before .before .before .before .before in let g = c .before .before .before in let h = c in omega (arith, stands-room s (a .at) finish (f .before .stands .ensures .yes (not-false _ (f .if1 .left))), stands-room s (a .at + 4) call (g .before .stands2 .ensures .yes (not-false _ (g .if2 .left))), stands-room s (a .at + 9) end (h .before .stands3 .ensures .yes (not-false _ (h .if3 .left))))
+add-past c =
+    let a = c .before .before .before .before .before .before .before .before .before .before .args in
+    let s = a .text .now in
+    let f = c .before .before .before .before .before .before in
+    let g = c .before .before .before in
+    let h = c in
+    omega (arith, stands-room s (a .at) finish (f .before .stands .ensures .yes (not-false _ (f .if1 .left))), stands-room s (a .at + 4) call (g .before .stands2 .ensures .yes (not-false _ (g .if2 .left))), stands-room s (a .at + 9) end (h .before .stands3 .ensures .yes (not-false _ (h .if3 .left))))
 
 returns-4 : tie.Need-returns-4
-returns-4 c = let a = c .before .before .before .before .before .before .before .before .before .before .before .args in let s = a .text .now in let f = c .before .before .before .before .before .before .before in let g = c .before .before .before .before in let h = c .before in closing-extra s (a .at) (f .before .stands .ensures .yes (not-false _ (f .if1 .left))) (g .before .stands2 .ensures .yes (not-false _ (g .if2 .left))) (h .before .stands3 .ensures .yes (not-false _ (h .if3 .left))) (omega arith)
+returns-4 c =
+    let a = c .before .before .before .before .before .before .before .before .before .before .before .args in
+    let s = a .text .now in
+    let f = c .before .before .before .before .before .before .before in
+    let g = c .before .before .before .before in
+    let h = c .before in
+    closing-extra s (a .at) (f .before .stands .ensures .yes (not-false _ (f .if1 .left))) (g .before .stands2 .ensures .yes (not-false _ (g .if2 .left))) (h .before .stands3 .ensures .yes (not-false _ (h .if3 .left))) (omega arith)
 
 returns-5 : tie.Need-returns-5
-returns-5 c = let a = c .before .before .before .before .before .before .before .before .before .before .before .args in let s = a .text .now in let f = c .before .before .before .before .before .before .before in let g = c .before .before .before .before in let h = c .before in closing-done s (a .at) (f .before .stands .ensures .yes (not-false _ (f .if1 .left))) (g .before .stands2 .ensures .yes (not-false _ (g .if2 .left))) (h .before .stands3 .ensures .yes (not-false _ (h .if3 .left))) (omega arith)
+returns-5 c =
+    let a = c .before .before .before .before .before .before .before .before .before .before .before .args in
+    let s = a .text .now in
+    let f = c .before .before .before .before .before .before .before in
+    let g = c .before .before .before .before in
+    let h = c .before in
+    closing-done s (a .at) (f .before .stands .ensures .yes (not-false _ (f .if1 .left))) (g .before .stands2 .ensures .yes (not-false _ (g .if2 .left))) (h .before .stands3 .ensures .yes (not-false _ (h .if3 .left))) (omega arith)
 
 pub closing-spec : {M : Type 1} → statement M
 closing-spec =

@@ -43,7 +43,9 @@ same-length : tie.Need-same-length
 same-length c = search needs
 
 returns : tie.Need-returns
-returns c = let a = c .args in shot-put (a .list .now) (a .at) (a .x-low) (a .y-low) (a .x-high) (a .y-high)
+returns c =
+    let a = c .args in
+    shot-put (a .list .now) (a .at) (a .x-low) (a .y-low) (a .x-high) (a .y-high)
 
 pub put-shot-spec : {M : Type 1} → statement M
 put-shot-spec =

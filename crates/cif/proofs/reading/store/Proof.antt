@@ -29,7 +29,10 @@ same-length : tie.Need-same-length Inv-loop μ-loop
 same-length c = search needs
 
 returns : tie.Need-returns Inv-loop μ-loop
-returns c = let l = c .before .before .before .before in let s = l .before .before .before .args .text .now in store-none s _ _ _ _ _ (l .loop .inv .3) (omega arith) (unbox-as s _ (c .enum-told .given .1) (c .before .before .box-at .ensures))
+returns c =
+    let l = c .before .before .before .before in
+    let s = l .before .before .before .args .text .now in
+    store-none s _ _ _ _ _ (l .loop .inv .3) (omega arith) (unbox-as s _ (c .enum-told .given .1) (c .before .before .box-at .ensures))
 
 enum-known-x-low : tie.Need-enum-known-x-low Inv-loop μ-loop
 enum-known-x-low c = search needs
@@ -38,7 +41,9 @@ mul-put-shot : tie.Need-mul-put-shot Inv-loop μ-loop
 mul-put-shot c = search needs
 
 put-shot-requires : tie.Need-put-shot-requires Inv-loop μ-loop
-put-shot-requires c κs = let l = c .before .before .before .before .before .before in omega (arith, l .loop .inv .1)
+put-shot-requires c κs =
+    let l = c .before .before .before .before .before .before in
+    omega (arith, l .loop .inv .1)
 
 add-i : tie.Need-add-i Inv-loop μ-loop
 add-i c = search needs
@@ -47,13 +52,20 @@ loop-less : tie.Need-loop-less Inv-loop μ-loop
 loop-less c = search needs
 
 loop-again : tie.Need-loop-again Inv-loop μ-loop
-loop-again c = let m = c .before .before .before .before .before in let l = m .before .before .before .before in let s = l .before .before .before .args .text .now in let b = box-as s _ (m .x-low .given .1) (m .before .before .box-at .ensures) in (b .within, ap length (c .before .before .put-shot .ensures) ∙ simp length-sets (l .loop .inv .1), omega arith, store-more s _ _ _ _ _ (l .loop .inv .3) (omega arith) _ _ b _ (c .before .before .put-shot .ensures))
+loop-again c =
+    let m = c .before .before .before .before .before in
+    let l = m .before .before .before .before in
+    let s = l .before .before .before .args .text .now in
+    let b = box-as s _ (m .x-low .given .1) (m .before .before .box-at .ensures) in
+    (b .within, ap length (c .before .before .put-shot .ensures) ∙ simp length-sets (l .loop .inv .1), omega arith, store-more s _ _ _ _ _ (l .loop .inv .3) (omega arith) _ _ b _ (c .before .before .put-shot .ensures))
 
 same-length-2 : tie.Need-same-length-2 Inv-loop μ-loop
 same-length-2 c = search needs
 
 returns-2 : tie.Need-returns-2 Inv-loop μ-loop
-returns-2 c = let l = c .before in store-end (l .before .before .before .args .text .now) _ _ _ _ _ (l .loop .inv .3) (omega arith)
+returns-2 c =
+    let l = c .before in
+    store-end (l .before .before .before .args .text .now) _ _ _ _ _ (l .loop .inv .3) (omega arith)
 
 pub store-spec : {M : Type 1} → statement M
 store-spec =

@@ -20,7 +20,10 @@ mul-put-box : tie.Need-mul-put-box Inv-loop μ-loop
 mul-put-box c = search needs
 
 shared-slice-read-put-box : tie.Need-shared-slice-read-put-box Inv-loop μ-loop
-shared-slice-read-put-box c = let l = c .before .before .before in let u = upright _ _ (l .before .before .before .pre .0) (l .loop .inv .fours) (omega arith) in omega (arith, u .room)
+shared-slice-read-put-box c =
+    let l = c .before .before .before in
+    let u = upright _ _ (l .before .before .before .pre .0) (l .loop .inv .fours) (omega arith) in
+    omega (arith, u .room)
 
 add-put-box : tie.Need-add-put-box Inv-loop μ-loop
 add-put-box c = search needs
@@ -29,37 +32,61 @@ mul-put-box-2 : tie.Need-mul-put-box-2 Inv-loop μ-loop
 mul-put-box-2 c = search needs
 
 shared-slice-read-put-box-2 : tie.Need-shared-slice-read-put-box-2 Inv-loop μ-loop
-shared-slice-read-put-box-2 c = let l = c .before .before .before .before in let u = upright _ _ (l .before .before .before .pre .0) (l .loop .inv .fours) (omega arith) in omega (arith, u .room)
+shared-slice-read-put-box-2 c =
+    let l = c .before .before .before .before in
+    let u = upright _ _ (l .before .before .before .pre .0) (l .loop .inv .fours) (omega arith) in
+    omega (arith, u .room)
 
 add-put-box-2 : tie.Need-add-put-box-2 Inv-loop μ-loop
-add-put-box-2 c = let l = c .before .before .before .before in let u = upright _ _ (l .before .before .before .pre .0) (l .loop .inv .fours) (omega arith) in omega (arith, u .room)
+add-put-box-2 c =
+    let l = c .before .before .before .before in
+    let u = upright _ _ (l .before .before .before .pre .0) (l .loop .inv .fours) (omega arith) in
+    omega (arith, u .room)
 
 mul-put-box-3 : tie.Need-mul-put-box-3 Inv-loop μ-loop
 mul-put-box-3 c = search needs
 
 shared-slice-read-put-box-3 : tie.Need-shared-slice-read-put-box-3 Inv-loop μ-loop
-shared-slice-read-put-box-3 c = let l = c .before .before .before .before .before in let u = upright _ _ (l .before .before .before .pre .0) (l .loop .inv .fours) (omega arith) in omega (arith, u .room)
+shared-slice-read-put-box-3 c =
+    let l = c .before .before .before .before .before in
+    let u = upright _ _ (l .before .before .before .pre .0) (l .loop .inv .fours) (omega arith) in
+    omega (arith, u .room)
 
 add-put-box-3 : tie.Need-add-put-box-3 Inv-loop μ-loop
-add-put-box-3 c = let l = c .before .before .before .before .before in let u = upright _ _ (l .before .before .before .pre .0) (l .loop .inv .fours) (omega arith) in omega (arith, u .room)
+add-put-box-3 c =
+    let l = c .before .before .before .before .before in
+    let u = upright _ _ (l .before .before .before .pre .0) (l .loop .inv .fours) (omega arith) in
+    omega (arith, u .room)
 
 mul-put-box-4 : tie.Need-mul-put-box-4 Inv-loop μ-loop
 mul-put-box-4 c = search needs
 
 shared-slice-read-put-box-4 : tie.Need-shared-slice-read-put-box-4 Inv-loop μ-loop
-shared-slice-read-put-box-4 c = let l = c .before .before .before .before .before .before in let u = upright _ _ (l .before .before .before .pre .0) (l .loop .inv .fours) (omega arith) in omega (arith, u .room)
+shared-slice-read-put-box-4 c =
+    let l = c .before .before .before .before .before .before in
+    let u = upright _ _ (l .before .before .before .pre .0) (l .loop .inv .fours) (omega arith) in
+    omega (arith, u .room)
 
 put-box-requires : tie.Need-put-box-requires Inv-loop μ-loop
-put-box-requires c κs = let l = c .before .before .before .before .before .before in let u = upright _ _ (l .before .before .before .pre .0) (l .loop .inv .fours) (omega arith) in ((u .wide, u .high), boxing-room _ _ _ _ _ _ (l .loop .inv) (u .room) (l .before .before .before .pre .1))
+put-box-requires c κs =
+    let l = c .before .before .before .before .before .before in
+    let u = upright _ _ (l .before .before .before .pre .0) (l .loop .inv .fours) (omega arith) in
+    ((u .wide, u .high), boxing-room _ _ _ _ _ _ (l .loop .inv) (u .room) (l .before .before .before .pre .1))
 
 add-at : tie.Need-add-at Inv-loop μ-loop
-add-at c = let l = c .before .before .before .before .before .before .before .before .before in let u = upright _ _ (l .before .before .before .pre .0) (l .loop .inv .fours) (omega arith) in omega (arith, u .room)
+add-at c =
+    let l = c .before .before .before .before .before .before .before .before .before in
+    let u = upright _ _ (l .before .before .before .pre .0) (l .loop .inv .fours) (omega arith) in
+    omega (arith, u .room)
 
 loop-less : tie.Need-loop-less Inv-loop μ-loop
 loop-less c = search needs
 
 loop-again : tie.Need-loop-again Inv-loop μ-loop
-loop-again c = let l = c .before .before .before .before .before .before .before .before .before in let u = upright _ _ (l .before .before .before .pre .0) (l .loop .inv .fours) (omega arith) in boxing-more _ _ _ _ _ _ (l .loop .inv) (u .room) _ _ (c .before .before .put-box .ensures .0) (c .before .before .put-box .ensures .1)
+loop-again c =
+    let l = c .before .before .before .before .before .before .before .before .before in
+    let u = upright _ _ (l .before .before .before .pre .0) (l .loop .inv .fours) (omega arith) in
+    boxing-more _ _ _ _ _ _ (l .loop .inv) (u .room) _ _ (c .before .before .put-box .ensures .0) (c .before .before .put-box .ensures .1)
 
 same-length : tie.Need-same-length Inv-loop μ-loop
 same-length c = search needs

@@ -23,7 +23,9 @@ same-length : tie.Need-same-length
 same-length c = search needs
 
 returns : tie.Need-returns
-returns c = let a = c .before .before .before .before .before .before .before .before .before .before .before .before .before .before .before .before .args in text-put (a .list .now) (a .out .now) _ _ _ _ _ (c .before .before .before .before .before .before .before .before .before .before .before .put-word .ensures .0) (c .before .before .before .before .before .before .before .before .before .before .before .put-word .ensures .1) (c .before .before .before .before .before .before .before .put-boxes .ensures .0) (c .before .before .before .before .before .before .before .put-boxes .ensures .1) (c .before .before .put-word2 .ensures .1)
+returns c =
+    let a = c .before .before .before .before .before .before .before .before .before .before .before .before .before .before .before .before .args in
+    text-put (a .list .now) (a .out .now) _ _ _ _ _ (c .before .before .before .before .before .before .before .before .before .before .before .put-word .ensures .0) (c .before .before .before .before .before .before .before .before .before .before .before .put-word .ensures .1) (c .before .before .before .before .before .before .before .put-boxes .ensures .0) (c .before .before .before .before .before .before .before .put-boxes .ensures .1) (c .before .before .put-word2 .ensures .1)
 
 pub put-text-spec : {M : Type 1} → statement M
 put-text-spec =
