@@ -1,8 +1,8 @@
 -- The loop passes each turn once. Assumes nothing.
 use Prim.Native.Nat.{_≤_, _-_}
 use borrow.Author.Needs.{needs}
-use Rattle.walk.proofs.numbers.Statement.{statement}
-use Rattle.walk.proofs.numbers.Tie as tie
+use Rattle.walk.proofs.block.numbers.Statement.{statement}
+use Rattle.walk.proofs.block.numbers.Tie as tie
 
 abbrev Inv-loop : tie.InvT-loop
 Inv-loop list n i₀ i = i ≤ n

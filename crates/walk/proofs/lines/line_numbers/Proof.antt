@@ -1,26 +1,23 @@
 -- The loop passes each turn once. Assumes nothing.
-use Prim.Native.Nat.{_≤_, _-_}
+use Prim.Native.Nat.{_-_}
 use borrow.Author.Needs.{needs}
-use Rattle.walk.proofs.row.Statement.{statement}
-use Rattle.walk.proofs.row.Tie as tie
+use Rattle.walk.proofs.lines.line_numbers.Statement.{statement}
+use Rattle.walk.proofs.lines.line_numbers.Tie as tie
 
 abbrev Inv-loop : tie.InvT-loop
-Inv-loop cells columns j i₀ i = i ≤ columns
+Inv-loop last line₀ line = Unit {0}
 
 abbrev μ-loop : tie.MeasureT-loop
-μ-loop cells columns j i₀ i = columns - i
-
-row-name-requires : tie.Need-row-name-requires Inv-loop μ-loop
-row-name-requires c κs = search needs
+μ-loop last line₀ line = 16 - line
 
 loop-holds : tie.Need-loop-holds Inv-loop μ-loop
 loop-holds c = search needs
 
-cell-requires : tie.Need-cell-requires Inv-loop μ-loop
-cell-requires c κs = search needs
+padded-requires : tie.Need-padded-requires Inv-loop μ-loop
+padded-requires c κs = search needs
 
-add-i : tie.Need-add-i Inv-loop μ-loop
-add-i c = search needs
+add-line : tie.Need-add-line Inv-loop μ-loop
+add-line c = search needs
 
 loop-less : tie.Need-loop-less Inv-loop μ-loop
 loop-less c = search needs
@@ -34,16 +31,15 @@ line-end-requires c κs = search needs
 returns : tie.Need-returns Inv-loop μ-loop
 returns c = search needs
 
-pub row-spec : {M : Type 1} → statement M
-row-spec =
+pub line-numbers-spec : {M : Type 1} → statement M
+line-numbers-spec =
     tie.close
     (tie.spec
     Inv-loop
     μ-loop
-    row-name-requires
     loop-holds
-    cell-requires
-    add-i
+    padded-requires
+    add-line
     loop-less
     loop-again
     line-end-requires

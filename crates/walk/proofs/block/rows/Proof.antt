@@ -1,8 +1,8 @@
 -- The loop passes each turn once. Assumes nothing.
 use Prim.Native.Nat.{_≤_, _-_}
 use borrow.Author.Needs.{needs}
-use Rattle.walk.proofs.rows.Statement.{statement}
-use Rattle.walk.proofs.rows.Tie as tie
+use Rattle.walk.proofs.block.rows.Statement.{statement}
+use Rattle.walk.proofs.block.rows.Tie as tie
 
 abbrev Inv-loop : tie.InvT-loop
 Inv-loop cells columns count j₀ j = j ≤ count

@@ -1,8 +1,8 @@
 -- The loop passes each turn once. Assumes nothing.
 use Prim.Native.Nat.{_≤_, _-_}
 use borrow.Author.Needs.{needs}
-use Rattle.walk.proofs.shots.Statement.{statement}
-use Rattle.walk.proofs.shots.Tie as tie
+use Rattle.walk.proofs.block.shots.Statement.{statement}
+use Rattle.walk.proofs.block.shots.Tie as tie
 
 abbrev Inv-loop : tie.InvT-loop
 Inv-loop list count at₀ i₀ at i = i ≤ count

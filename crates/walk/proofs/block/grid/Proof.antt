@@ -3,8 +3,8 @@ use mathlib.Core.Path.{sym}
 use borrow.Author.Needs.{needs}
 use Rattle.outline.specs.Promise.{sheet}
 use Rattle.outline.proofs.Memory.{drawing-lengths}
-use Rattle.walk.proofs.grid.Statement.{statement}
-use Rattle.walk.proofs.grid.Tie as tie
+use Rattle.walk.proofs.block.grid.Statement.{statement}
+use Rattle.walk.proofs.block.grid.Tie as tie
 
 slice-aggregate-text : tie.Need-slice-aggregate-text
 slice-aggregate-text c = search needs
