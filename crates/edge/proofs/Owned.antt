@@ -76,7 +76,7 @@ numbered-none t f h = none (numbered f) (numbered-sum (λ e. only (t e) 1) f ∙
     flat [] h = refl
     flat (e ∷ l) h = omega (arith, ap (λ b. only b 1) (h .0), flat l (h .1))
 
-numbered-all : (f : Figure) → All (λ r. slanted r ≡ false) (rings f) → All (λ e. both e ≡ false) (numbered f)
+pub numbered-all : (f : Figure) → All (λ r. slanted r ≡ false) (rings f) → All (λ e. both e ≡ false) (numbered f)
 unfolding slanted
 numbered-all f h =
     numbered-none both f (All-join (λ e. both e ≡ false) edges (rings f) (All-imp (λ r k. any-all both (edges r) k) (rings f) h))
@@ -167,7 +167,7 @@ module _ (e : Link Corner) (flat : both e ≡ false) where
       go true p false q h a z = subst (λ a. changes a e ≡ false) z q
       go false p t q h a z = subst (λ a. changes a e ≡ false) z p
 
-  drawn-is : (a : Axis) (p k : ℕ) → across e ≡ a → drawnOver a p k e ≡ (eqb (standsAt e) p && (leb (low e) k && ltb k (high e)))
+  pub drawn-is : (a : Axis) (p k : ℕ) → across e ≡ a → drawnOver a p k e ≡ (eqb (standsAt e) p && (leb (low e) k && ltb k (high e)))
   unfolding drawnOver standsAt low high
   drawn-is a p k z =
       ap (λ t. not t && (eqb (coordinate a (e .to)) p && (leb (lowAlong (other a) e) k && leb (suc k) (highAlong (other a) e)))) (still a z)

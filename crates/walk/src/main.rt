@@ -1,314 +1,484 @@
-// The newcomers' walk over drawing B, in numbers: its lines and cells, its shots, every piece with its entry and cost, and the
-// cuts of the frame as they are weighed; then two squares that touch, and a frame with a window. docs/WALK.md tells the walk; each
-// number in it is printed here.
-use fracture::Fractured;
-ghost use Prim.Native.Nat.{_≤_};
+// The newcomers' walk: one edge of a drawing, from the bytes of its job to the shots that it ends up on. docs/WALK.md tells it.
+//   walk                the walk over drawing B, by three rules, in numbers
+//   walk JOB K EDGE     the walk of edge number EDGE of figure K of a job, step by step
+mod arguments;
+mod block;
+mod corners;
+mod cuts;
+mod ends;
+mod lines;
+mod pieces;
+mod words;
 
-// Drawing B of document 01: a block of 200 by 200 with a nose of 10 by 100 on its right.
-const B: [u16; 16] = [
-    0,
-    0,
-    200,
-    0,
-    200,
-    50,
-    210,
-    50,
-    210,
-    150,
-    200,
-    150,
-    200,
-    200,
-    0,
-    200,
-];
+use arguments::BAD;
+use arguments::NO_NUMBER;
+use arguments::complain;
+use arguments::complain_of;
+use arguments::number_argument;
+use arguments::read_job;
+use block::walk_block;
+use corners::Bytes;
+use corners::Edge;
+use corners::Header;
+use corners::edge_of;
+use corners::print_bytes;
+use corners::print_corners;
+use cuts::print_cuts;
+use edge::Walked;
+use edge::edge_shots;
+use ends::outcome_of;
+use ends::print_runs;
+use ends::print_shots;
+use figure::MOST_CORNERS;
+use figure::MOST_RINGS;
+use fracture::fracture;
+use job::MOST_BYTES;
+use job::read::Head;
+use job::read::Located;
+use job::read::locate;
+use job::read::whole;
+use job::unpack::Unpacked;
+use job::unpack::unpack;
+use libc::STDOUT_FILENO;
+use lines::Grid;
+use lines::lies_of;
+use lines::print_exposure;
+use lines::print_grid;
+use number::Cursor;
+use outline::Answer;
+use outline::MOST_CELLS;
+use outline::MOST_LINES;
+use outline::draw;
+use pieces::Charge;
+use pieces::print_pieces;
+use refusal::Refusal;
+use refusal::refusal_no;
 
-// Two squares of document 01 that touch in a corner, drawn as one outline.
-const TOUCHING: [u16; 12] = [0, 0, 10, 0, 10, 20, 20, 20, 20, 10, 0, 10];
-
-// The one ring of B has 8 corners, that of the two squares 6.
-const B_RINGS: [u16; 1] = [8];
-
-const TOUCHING_RINGS: [u16; 1] = [6];
-
-// A frame of 100 by 100 with a window of 40 by 40 in its middle: two rings of 4 corners.
-const FRAME: [u16; 16] = [
-    0,
-    0,
-    100,
-    0,
-    100,
-    100,
-    0,
-    100,
-    30,
-    30,
-    70,
-    30,
-    70,
-    70,
-    30,
-    70,
-];
-
-const FRAME_RINGS: [u16; 2] = [4, 4];
-
-fn text(words: &[u8]) {
-    io::write_all(1, words);
+// How many corners, as numbers, and rings were unpacked of a figure.
+struct Shape {
+    numbers: usize,
+    rings: usize,
 }
 
-fn decimal(n: u64) {
-    io::print_decimal(1, n);
-}
-
-fn spaced(n: u64) {
-    text(b" ");
-    decimal(n);
-}
-
-fn wide(n: u16) -> u64 {
-    n as u64
-}
-
-fn byte(n: u8) -> u64 {
-    n as u64
-}
-
-fn cost(n: u32) -> u64
-    ensures { λ r. ⌜ r ≤ 4294967295 ⌝ }
-{
-    n as u64
-}
-
-// The first n numbers of a list, on one line.
-fn numbers(list: &[u16], n: usize) {
-    let mut i = 0;
-    while i < n {
-        if i < list.len() {
-            spaced(wide(list[i]));
-        }
-        i += 1;
+// The last of the output, and closing it: where one of them fails, so did what was written before, or is lost, and that is told.
+fn ended(last: &[u8]) -> u32 {
+    let written = io::write_all(STDOUT_FILENO, last);
+    let closed = libc::close(STDOUT_FILENO);
+    if written && closed == 0 {
+        return 0;
     }
-    line_end();
+    complain(b"walk: writing failed\n")
 }
 
-fn row_name(j: u64) {
-    text(b"cells of row");
-    spaced(j);
-    text(b":");
-}
-
-// One row of cells, from left to right: 1 for inside.
-fn row(cells: &[u8], columns: usize, j: usize) {
-    row_name(j as u64);
-    let mut i = 0;
-    while i < columns {
-        cell(cells, i, j);
-        i += 1;
+// The bytes of figure k of a job that was read; none where there is no such figure.
+fn bytes_of(job: &[u8], header: Header, k: usize) -> Bytes {
+    let first = header.first;
+    match locate(job, Cursor { at: first }, k) {
+        Located::Fault(_, _) => Bytes { start: 0, end: 0 },
+        Located::Part(start, end) => Bytes { start, end },
     }
-    line_end();
 }
 
-fn line_end() {
-    text(b"\n");
+// Unpacks a figure to the front of two lists.
+fn unpack_part(part: &[u8], corners: &mut [u16], lengths: &mut [u16]) -> Shape {
+    match unpack(part, corners, lengths) {
+        Unpacked::Refused(_, _) => Shape {
+            numbers: 0,
+            rings: 0,
+        },
+        Unpacked::Figure {
+            corners: v,
+            rings: r,
+        } => shape_of(v, r),
+    }
 }
 
-fn cell(cells: &[u8], i: usize, j: usize) {
-    if i < 16 {
-        if j < 16 {
-            let at = 16 * i + j;
-            if at < cells.len() {
-                spaced(byte(cells[at]));
-            }
+// So many corners and rings; none where they are more than any figure has.
+fn shape_of(v: u32, r: u32) -> Shape {
+    if v <= 32 && r <= 8 {
+        return Shape {
+            numbers: 2 * (v as usize),
+            rings: r as usize,
+        };
+    }
+    Shape {
+        numbers: 0,
+        rings: 0,
+    }
+}
+
+// The same of the bytes from an offset to another.
+fn unpack_bytes(job: &[u8], at: Bytes, corners: &mut [u16], lengths: &mut [u16]) -> Shape {
+    let start = at.start;
+    let end = at.end;
+    if start <= end {
+        if end <= job.len() {
+            return unpack_part(&job[start..end], corners, lengths);
         }
     }
-}
-
-// The rows of cells, the highest first, as one sees the drawing.
-fn rows(cells: &[u8], columns: usize, count: usize) {
-    let mut j = count;
-    while 0 < j {
-        j -= 1;
-        row(cells, columns, j);
+    Shape {
+        numbers: 0,
+        rings: 0,
     }
 }
 
-// The rings, lines and cells of a drawing of 8 corners.
-fn grid(corners: &[u16], lengths: &[u16]) {
-    text(b"corners");
-    numbers(corners, 16);
-    text(b"corners of each ring");
-    numbers(lengths, 2);
-    let mut xs = [0u16; 16];
-    let mut ys = [0u16; 16];
-    let mut cells = [0u8; 256];
-    let drawing = outline::draw(corners, lengths, &mut xs, &mut ys, &mut cells);
-    if drawing.columns < 16 {
-        text(b"x lines");
-        numbers(&xs, drawing.columns + 1);
-    }
-    if drawing.rows < 16 {
-        text(b"y lines");
-        numbers(&ys, drawing.rows + 1);
-    }
-    rows(&cells, drawing.columns, drawing.rows);
-}
-
-fn shot(list: &[u16]) {
-    text(b"shot");
-    numbers(list, 4);
-}
-
-// The shots of a list, one to a line.
-fn shots(list: &[u16], count: u32) {
-    let mut at: usize = 0;
-    let mut i = 0;
-    while i < count {
-        if at < list.len() {
-            if 4 <= list.len() - at {
-                let end = at + 4;
-                shot(&list[at..end]);
-                at = end;
-            }
+// How many entries the table of a grid has.
+fn entries_of(columns: usize, rows: usize) -> usize {
+    if columns <= 15 {
+        if rows <= 15 {
+            return table::numbering::entries(columns, rows);
         }
-        i += 1;
     }
+    0
 }
 
-// Fractures a drawing by a rule, and prints what the call answers.
-fn answer(
+// Fractures a figure whose grid has no fewer entries than another: whether that was done.
+fn fill_earlier(
     corners: &[u16],
     lengths: &[u16],
-    threshold: u32,
-    weight: u32,
+    header: Header,
+    entries: usize,
     table: &mut [u32],
     list: &mut [u16],
+) -> bool {
+    let mut xs = [0u16; MOST_LINES];
+    let mut ys = [0u16; MOST_LINES];
+    let mut cells = [0u8; MOST_CELLS];
+    let drawing = draw(corners, lengths, &mut xs, &mut ys, &mut cells);
+    if entries_of(drawing.columns, drawing.rows) < entries {
+        return false;
+    }
+    let done = outcome_of(fracture(
+        corners,
+        lengths,
+        header.threshold,
+        header.weight,
+        table,
+        list,
+    ));
+    0 < done.shots
+}
+
+// The front parts of two lists, fractured so.
+fn fill_front(
+    corners: &[u16],
+    lengths: &[u16],
+    size: Shape,
+    header: Header,
+    entries: usize,
+    table: &mut [u32],
+    list: &mut [u16],
+) -> bool {
+    let front = 0;
+    let n = size.numbers;
+    let r = size.rings;
+    if corners.len() < n {
+        return false;
+    }
+    if lengths.len() < r {
+        return false;
+    }
+    fill_earlier(
+        &corners[front..n],
+        &lengths[front..r],
+        header,
+        entries,
+        table,
+        list,
+    )
+}
+
+// Leaves the costs of the figure before figure k in the table, where there is one and its grid is no smaller.
+fn earlier_costs(
+    job: &[u8],
+    header: Header,
+    k: usize,
+    entries: usize,
+    table: &mut [u32],
+    list: &mut [u16],
+) -> bool {
+    if k == 0 {
+        return false;
+    }
+    let mut corners = [0u16; 2 * MOST_CORNERS];
+    let mut lengths = [0u16; MOST_RINGS];
+    let size = unpack_bytes(
+        job,
+        bytes_of(job, header, k - 1),
+        &mut corners,
+        &mut lengths,
+    );
+    fill_front(&corners, &lengths, size, header, entries, table, list)
+}
+
+// The runs of the edge on the shots at the front of a list, and how many they are.
+fn runs_of(
+    corners: &[u16],
+    lengths: &[u16],
+    edge: usize,
+    list: &[u16],
+    shots: u32,
+    runs: &mut [usize],
+) -> usize {
+    if 225 < shots {
+        return 0;
+    }
+    let front = 0;
+    let n = 4 * (shots as usize);
+    if list.len() < n {
+        return 0;
+    }
+    match edge_shots(corners, lengths, edge, &list[front..n], runs) {
+        Walked::Runs(count) => count,
+        Walked::Refused(_) => 0,
+    }
+}
+
+// Steps 5 to 8: the figure is fractured, and the edge followed from the frame to its shots.
+fn walk_down(
+    job: &[u8],
+    header: Header,
+    k: usize,
+    corners: &[u16],
+    lengths: &[u16],
+    edge: Edge,
+    xs: &[u16; 16],
+    ys: &[u16; 16],
+    cells: &[u8; 256],
+    grid: Grid,
 ) {
-    text(b"rule");
-    spaced(threshold as u64);
-    spaced(weight as u64);
-    match fracture::fracture(corners, lengths, threshold, weight, table, list) {
-        Fractured::Done {
-            shots: count,
-            cost,
-            sliver,
-            cuts: _,
+    let mut table = [0u32; 14400];
+    let mut found = [0u32; 14400];
+    let mut list = [0u16; 900];
+    let mut runs = [0usize; 60];
+    let threshold = header.threshold;
+    let weight = header.weight;
+    let rule = Charge {
+        threshold: threshold as u64,
+        weight: weight as u64,
+    };
+    let lies = lies_of(edge, xs, ys);
+    let fewest = outcome_of(fracture(corners, lengths, threshold, 0, &mut found, &mut list));
+    let entries = entries_of(grid.columns, grid.rows);
+    let earlier = earlier_costs(job, header, k, entries, &mut found, &mut list);
+    let done = outcome_of(fracture(corners, lengths, threshold, weight, &mut table, &mut list));
+    let count = runs_of(corners, lengths, edge.start, &list, done.shots, &mut runs);
+    print_pieces(&table, grid, xs, ys, cells, lies, rule);
+    print_cuts(&table, &found, grid, xs, ys, cells, lies, rule, earlier);
+    print_shots(&list, k, done, fewest, rule);
+    print_runs(&list, &runs, count);
+}
+
+// A figure with nothing to walk, in one line on standard error.
+fn refuse_figure(k: usize, why: Refusal) -> u32 {
+    complain_of(
+        b"walk: figure ",
+        k as u64,
+        b" is refused by ",
+        refusal_no(why) as u64,
+        b"\n",
+    )
+}
+
+// The walk of one edge of a figure that was drawn.
+fn walk_drawn(
+    job: &[u8],
+    header: Header,
+    at: Bytes,
+    k: usize,
+    corners: &[u16],
+    lengths: &[u16],
+    number: usize,
+    xs: &[u16; 16],
+    ys: &[u16; 16],
+    cells: &[u8; 256],
+    grid: Grid,
+) -> u32 {
+    let count = corners.len() / 2;
+    if number == NO_NUMBER {
+        return complain(b"walk: the number of an edge is wanted, from 0\n");
+    }
+    if count <= number {
+        return complain_of(
+            b"walk: no edge ",
+            number as u64,
+            b": the figure has ",
+            count as u64,
+            b", numbered from 0\n",
+        );
+    }
+    let edge = edge_of(corners, lengths, number);
+    let lies = lies_of(edge, xs, ys);
+    print_bytes(job, header, at, k);
+    print_corners(corners, lengths, edge);
+    print_grid(xs, ys, cells, grid, lies);
+    print_exposure(xs, ys, cells, lies);
+    walk_down(job, header, k, corners, lengths, edge, xs, ys, cells, grid);
+    ended(b"\n")
+}
+
+// The walk of one edge of a figure.
+fn walk_edge(
+    job: &[u8],
+    header: Header,
+    at: Bytes,
+    k: usize,
+    corners: &[u16],
+    lengths: &[u16],
+    number: usize,
+) -> u32 {
+    let mut xs = [0u16; MOST_LINES];
+    let mut ys = [0u16; MOST_LINES];
+    let mut cells = [0u8; MOST_CELLS];
+    let drawing = draw(corners, lengths, &mut xs, &mut ys, &mut cells);
+    let grid = Grid {
+        columns: drawing.columns,
+        rows: drawing.rows,
+    };
+    let answer = drawing.answer;
+    match answer {
+        Answer::Refused(why) => refuse_figure(k, why),
+        Answer::Accepted => walk_drawn(
+            job,
+            header,
+            at,
+            k,
+            corners,
+            lengths,
+            number,
+            &xs,
+            &ys,
+            &cells,
+            grid,
+        ),
+    }
+}
+
+// The same by the front parts of two lists.
+fn walk_front(
+    job: &[u8],
+    header: Header,
+    at: Bytes,
+    k: usize,
+    corners: &[u16],
+    lengths: &[u16],
+    size: Shape,
+    number: usize,
+) -> u32 {
+    let front = 0;
+    let n = size.numbers;
+    let r = size.rings;
+    if corners.len() < n {
+        return BAD;
+    }
+    if lengths.len() < r {
+        return BAD;
+    }
+    walk_edge(
+        job,
+        header,
+        at,
+        k,
+        &corners[front..n],
+        &lengths[front..r],
+        number,
+    )
+}
+
+// The walk of one edge of figure k of a job that was read.
+fn walk_figure(job: &[u8], header: Header, k: usize, number: usize) -> u32 {
+    let figures = header.figures;
+    if k == NO_NUMBER {
+        return complain(b"walk: the number of a figure is wanted, from 0\n");
+    }
+    if figures as usize <= k {
+        return complain_of(
+            b"walk: no figure ",
+            k as u64,
+            b": the job has ",
+            figures as u64,
+            b", numbered from 0\n",
+        );
+    }
+    let mut corners = [0u16; 2 * MOST_CORNERS];
+    let mut lengths = [0u16; MOST_RINGS];
+    let at = bytes_of(job, header, k);
+    let size = unpack_bytes(job, at, &mut corners, &mut lengths);
+    walk_front(job, header, at, k, &corners, &lengths, size, number)
+}
+
+// A job that is refused, in one line on standard error.
+fn refuse_job(why: Refusal, at: usize) -> u32 {
+    complain_of(
+        b"walk: the job is refused by ",
+        refusal_no(why) as u64,
+        b" at byte ",
+        at as u64,
+        b"\n",
+    )
+}
+
+// The walk of one edge of figure k of a job.
+fn walk_job(job: &[u8], k: usize, number: usize) -> u32 {
+    match whole(job) {
+        Head::Fault(why, at) => refuse_job(why, at),
+        Head::Header {
+            threshold,
+            weight,
+            outlines,
+            next,
         } => {
-            text(b": shots");
-            spaced(count as u64);
-            text(b" cost");
-            spaced(cost as u64);
-            text(b" sliver");
-            spaced(sliver as u64);
-            text(b"\n");
-            shots(list, count);
-        }
-        Fractured::Refused(_, _) => {
-            text(b": refused\n");
+            let first = next.at;
+            let header = Header {
+                threshold,
+                weight,
+                figures: outlines,
+                first,
+            };
+            walk_figure(job, header, k, number)
         }
     }
 }
 
-// One piece of the table: its lines, its entry and its cost.
-fn piece(table: &[u32], entry: usize, a: u64, c: u64, b: u64, d: u64) {
-    if entry < table.len() {
-        text(b"piece x lines");
-        spaced(a);
-        spaced(c);
-        text(b" y lines");
-        spaced(b);
-        spaced(d);
-        text(b": entry");
-        spaced(entry as u64);
-        text(b" cost");
-        spaced(cost(table[entry]));
-        text(b"\n");
+// The walk that three words ask for. One byte more than the longest job is read, so that a longer one shows.
+fn walk_asked() -> u32 {
+    let mut job = [0u8; MOST_BYTES + 1];
+    let got = read_job(&mut job);
+    let failed = got.failed;
+    if failed {
+        return BAD;
     }
+    let n = got.bytes;
+    walk_read(&job, n, number_argument(2), number_argument(3))
 }
 
-// The pieces of one pair of x lines of B, whose pairs of y lines are six: their entries follow one another.
-fn strip(table: &[u32], first: usize, a: u64, c: u64) {
-    if first < 100 {
-        piece(table, first, a, c, 0, 1);
-        piece(table, first + 1, a, c, 0, 2);
-        piece(table, first + 2, a, c, 0, 3);
-        piece(table, first + 3, a, c, 1, 2);
-        piece(table, first + 4, a, c, 1, 3);
-        piece(table, first + 5, a, c, 2, 3);
+// The same by so many bytes at the front of a buffer.
+fn walk_read(job: &[u8], n: usize, k: usize, number: usize) -> u32 {
+    let front = 0;
+    if job.len() < n {
+        return BAD;
     }
+    walk_job(&job[front..n], k, number)
 }
 
-// Every piece of B: the pairs of x lines are (0, 1), (0, 2), (1, 2).
-fn pieces(table: &[u32]) {
-    strip(table, 0, 0, 1);
-    strip(table, 6, 0, 2);
-    strip(table, 12, 1, 2);
-}
-
-// One cut of the frame: the costs of its two parts, and together.
-fn cut(name: &[u8], table: &[u32], low: usize, high: usize) {
-    if low < table.len() {
-        if high < table.len() {
-            let first = cost(table[low]);
-            let second = cost(table[high]);
-            text(name);
-            spaced(first);
-            text(b" +");
-            spaced(second);
-            text(b" =");
-            spaced(first + second);
-            text(b"\n");
-        }
+// The whole run, with its status, for a start that can end with one (crates/walk/c/main.c): 0, or 2 where the words ask for nothing that
+// can be shown, or reading or writing failed.
+#[no_mangle]
+pub extern "C" fn pw_walk() -> u32 {
+    let words = os::arg_count();
+    if words <= 1 {
+        walk_block();
+        return ended(b"");
     }
+    if words != 4 {
+        return complain(
+            b"walk: a job, the number of a figure and the number of an edge are wanted, or nothing\n",
+        );
+    }
+    walk_asked()
 }
 
-// The cuts of the frame of B in the tie order.
-fn cuts(table: &[u32]) {
-    cut(b"cut of the frame at x line 1:", table, 2, 14);
-    cut(b"cut of the frame at y line 1:", table, 6, 10);
-    cut(b"cut of the frame at y line 2:", table, 7, 11);
-}
-
-// Those of the frame with a window, which has 4 by 4 lines.
-fn window_cuts(table: &[u32]) {
-    cut(b"cut of the frame at x line 1:", table, 2, 26);
-    cut(b"cut of the frame at x line 2:", table, 8, 32);
-    cut(b"cut of the frame at y line 1:", table, 12, 16);
-    cut(b"cut of the frame at y line 2:", table, 13, 17);
-}
-
-// The block, by three rules.
-fn block(table: &mut [u32], list: &mut [u16]) {
-    let corners = B;
-    let lengths = B_RINGS;
-    grid(&corners, &lengths);
-    answer(&corners, &lengths, 25, 40, table, list);
-    pieces(table);
-    cuts(table);
-    answer(&corners, &lengths, 25, 10, table, list);
-    cuts(table);
-    answer(&corners, &lengths, 25, 9, table, list);
-    cuts(table);
-}
-
-// The frame with a window, by two rules.
-fn window(table: &mut [u32], list: &mut [u16]) {
-    let corners = FRAME;
-    let lengths = FRAME_RINGS;
-    grid(&corners, &lengths);
-    answer(&corners, &lengths, 25, 40, table, list);
-    window_cuts(table);
-    answer(&corners, &lengths, 40, 40, table, list);
-    window_cuts(table);
-}
-
+// A program of the kit gives no status back.
 fn main() {
-    let mut table = [0u32; 36];
-    let mut list = [0u16; 24];
-    let squares = TOUCHING;
-    let ring = TOUCHING_RINGS;
-    block(&mut table, &mut list);
-    answer(&squares, &ring, 0, 40, &mut table, &mut list);
-    window(&mut table, &mut list);
+    pw_walk();
 }

@@ -29,9 +29,10 @@ fn ask(library: Library, drawing: &Drawing, edge: usize, shots: &[u16], length: 
 /// Room for the list of any fracture without a largest side.
 const AMPLE: usize = 60;
 
-/// A figure, a shot list, and of some edges the runs.
+/// A figure, the rule whose fracture gives the shot list, where one does, the list, and of some edges the runs.
 struct Row {
     rings: Vec<Vec<u16>>,
+    rule: Option<(u32, u32)>,
     shots: Vec<u16>,
     edges: Vec<(usize, Vec<Run>)>,
 }
@@ -60,9 +61,14 @@ fn rows15() -> Vec<u16> {
     corners
 }
 
-fn one(rings: &[Vec<u16>], shots: &[u16], edges: &[(usize, &[Run])]) -> Row {
+/// The scope's rule, and the one by which nothing is a sliver.
+const SCOPE: Option<(u32, u32)> = Some((25, 40));
+const PLAIN: Option<(u32, u32)> = Some((0, 40));
+
+fn one(rings: &[Vec<u16>], rule: Option<(u32, u32)>, shots: &[u16], edges: &[(usize, &[Run])]) -> Row {
     Row {
         rings: rings.to_vec(),
+        rule,
         shots: shots.to_vec(),
         edges: edges.iter().map(|(k, runs)| (*k, runs.to_vec())).collect(),
     }
@@ -73,47 +79,47 @@ fn table() -> Vec<Row> {
     let left: Vec<Run> = (0..15).map(|k| [30 * k, 30 * k + 30, k + 1, 1]).collect();
     let row_shots: Vec<u16> = (0..15u16).flat_map(|k| [0, 30 * k, if k % 2 == 0 { 200 } else { 210 }, 30 * k + 30]).collect();
     vec![
-        one(&[l()], &own, &[
+        one(&[l()], SCOPE, &own, &[
             (0, &[[0, 60, 1, 3], [60, 100, 2, 3]]), (1, &[[0, 20, 2, 2]]), (2, &[[60, 100, 2, 4]]), (3, &[[20, 80, 1, 2]]),
             (4, &[[0, 60, 1, 4]]), (5, &[[0, 80, 1, 1]]),
         ]),
-        one(&[b()], &[0, 0, 200, 50, 0, 50, 210, 150, 0, 150, 200, 200], &[
+        one(&[b()], SCOPE, &[0, 0, 200, 50, 0, 50, 210, 150, 0, 150, 200, 200], &[
             (0, &[[0, 200, 1, 3]]), (1, &[[0, 50, 1, 2]]), (2, &[[200, 210, 2, 3]]), (3, &[[50, 150, 2, 2]]), (4, &[[200, 210, 2, 4]]),
             (5, &[[150, 200, 3, 2]]), (6, &[[0, 200, 3, 4]]), (7, &[[0, 50, 1, 1], [50, 150, 2, 1], [150, 200, 3, 1]]),
         ]),
-        one(&[b()], &[0, 0, 200, 200, 200, 50, 210, 150], &[(3, &[[50, 150, 2, 2]]), (7, &[[0, 200, 1, 1]])]),
-        one(&[b()], &[0, 0, 200, 50, 0, 50, 105, 150, 105, 50, 210, 150, 0, 150, 200, 200], &[
+        one(&[b()], Some((25, 9)), &[0, 0, 200, 200, 200, 50, 210, 150], &[(3, &[[50, 150, 2, 2]]), (7, &[[0, 200, 1, 1]])]),
+        one(&[b()], None, &[0, 0, 200, 50, 0, 50, 105, 150, 105, 50, 210, 150, 0, 150, 200, 200], &[
             (2, &[[200, 210, 3, 3]]), (3, &[[50, 150, 3, 2]]), (7, &[[0, 50, 1, 1], [50, 150, 2, 1], [150, 200, 4, 1]]),
         ]),
-        one(&[square(0, 0, 100, 100), square(30, 30, 70, 70)], &[0, 0, 30, 100, 30, 0, 70, 30, 30, 70, 70, 100, 70, 0, 100, 100], &[
+        one(&[square(0, 0, 100, 100), square(30, 30, 70, 70)], SCOPE, &[0, 0, 30, 100, 30, 0, 70, 30, 30, 70, 70, 100, 70, 0, 100, 100], &[
             (0, &[[0, 30, 1, 3], [30, 70, 2, 3], [70, 100, 4, 3]]), (1, &[[0, 100, 4, 2]]),
             (2, &[[0, 30, 1, 4], [30, 70, 3, 4], [70, 100, 4, 4]]), (3, &[[0, 100, 1, 1]]),
             (4, &[[30, 70, 2, 4]]), (5, &[[30, 70, 4, 1]]), (6, &[[30, 70, 3, 3]]), (7, &[[30, 70, 1, 2]]),
         ]),
-        one(&[square(0, 0, 10, 10), square(10, 0, 20, 10)], &[0, 0, 20, 10], &[
+        one(&[square(0, 0, 10, 10), square(10, 0, 20, 10)], PLAIN, &[0, 0, 20, 10], &[
             (1, &[[0, 10, 0, 0]]), (7, &[[0, 10, 0, 0]]), (0, &[[0, 10, 1, 3]]), (4, &[[10, 20, 1, 3]]), (5, &[[0, 10, 1, 2]]),
         ]),
-        one(&[square(0, 0, 20, 20), square(20, 5, 30, 15)], &[0, 0, 20, 20, 20, 5, 30, 15], &[
+        one(&[square(0, 0, 20, 20), square(20, 5, 30, 15)], PLAIN, &[0, 0, 20, 20, 20, 5, 30, 15], &[
             (1, &[[0, 5, 1, 2], [5, 15, 0, 0], [15, 20, 1, 2]]), (7, &[[5, 15, 0, 0]]), (4, &[[20, 30, 2, 3]]),
         ]),
-        one(&[square(0, 0, 10, 10), square(0, 0, 10, 10), square(0, 0, 10, 10)], &[0, 0, 10, 10], &[
+        one(&[square(0, 0, 10, 10), square(0, 0, 10, 10), square(0, 0, 10, 10)], PLAIN, &[0, 0, 10, 10], &[
             (0, &[[0, 10, 1, 3]]), (4, &[[0, 10, 1, 3]]), (8, &[[0, 10, 1, 3]]), (1, &[[0, 10, 1, 2]]), (5, &[[0, 10, 1, 2]]),
             (9, &[[0, 10, 1, 2]]), (3, &[[0, 10, 1, 1]]), (7, &[[0, 10, 1, 1]]), (11, &[[0, 10, 1, 1]]),
         ]),
-        one(&[vec![0, 0, 10, 0, 10, 20, 20, 20, 20, 10, 0, 10]], &[0, 0, 10, 10, 10, 10, 20, 20], &[
+        one(&[vec![0, 0, 10, 0, 10, 20, 20, 20, 20, 10, 0, 10]], PLAIN, &[0, 0, 10, 10, 10, 10, 20, 20], &[
             (1, &[[0, 10, 1, 2], [10, 20, 2, 1]]), (4, &[[0, 10, 1, 4], [10, 20, 2, 3]]), (0, &[[0, 10, 1, 3]]), (2, &[[10, 20, 2, 4]]),
         ]),
-        one(&[square(0, 0, 20, 20), square(10, 10, 30, 30)], &[0, 0, 10, 20, 10, 0, 20, 10, 10, 20, 20, 30, 20, 10, 30, 30], &[
+        one(&[square(0, 0, 20, 20), square(10, 10, 30, 30)], PLAIN, &[0, 0, 10, 20, 10, 0, 20, 10, 10, 20, 20, 30, 20, 10, 30, 30], &[
             (1, &[[0, 10, 2, 2], [10, 20, 4, 1]]), (2, &[[0, 10, 1, 4], [10, 20, 3, 3]]),
             (4, &[[10, 20, 2, 4], [20, 30, 4, 3]]), (7, &[[10, 20, 1, 2], [20, 30, 3, 1]]),
         ]),
-        one(&[rows15()], &row_shots, &[(31, &left)]),
-        one(&[l()], &[0, 0, 100, 80], &[(0, &[[0, 100, 1, 3]]), (2, &[[60, 100, 0, 4]]), (3, &[[20, 80, 0, 2]])]),
-        one(&[l()], &[0, 0, 100, 80, 0, 0, 60, 80], &[(3, &[[20, 80, 2, 2]]), (5, &[[0, 80, 1, 1]])]),
-        one(&[l()], &[0, 0, 60, 40, 0, 30, 60, 80, 60, 0, 100, 20], &[
+        one(&[rows15()], SCOPE, &row_shots, &[(31, &left)]),
+        one(&[l()], None, &[0, 0, 100, 80], &[(0, &[[0, 100, 1, 3]]), (2, &[[60, 100, 0, 4]]), (3, &[[20, 80, 0, 2]])]),
+        one(&[l()], None, &[0, 0, 100, 80, 0, 0, 60, 80], &[(3, &[[20, 80, 2, 2]]), (5, &[[0, 80, 1, 1]])]),
+        one(&[l()], None, &[0, 0, 60, 40, 0, 30, 60, 80, 60, 0, 100, 20], &[
             (3, &[[20, 40, 1, 2], [40, 80, 2, 2]]), (5, &[[0, 40, 1, 1], [40, 80, 2, 1]]),
         ]),
-        one(&[l()], &[], &[(0, &[[0, 100, 0, 3]])]),
+        one(&[l()], None, &[], &[(0, &[[0, 100, 0, 3]])]),
     ]
 }
 
@@ -123,6 +129,11 @@ pub fn rows(plan: &Plan, progress: &Progress) {
     let Some(library) = plan.library else { return };
     for row in table() {
         let drawing = Drawing::of(&row.rings);
+        if let Some((threshold, weight)) = row.rule {
+            let (mut costs, mut list) = (vec![0; 14_400], vec![0; 900]);
+            let told = library.fracture(&drawing, threshold, weight, &mut costs, &mut list);
+            assert_eq!((told.number, &list[..4 * told.numbers[0] as usize]), (0, &row.shots[..]), "the shots of {drawing:?}");
+        }
         for (edge, runs) in row.edges {
             let (told, found) = ask(library, &drawing, edge, &row.shots, AMPLE, progress);
             assert_eq!((told, &found), (Told::done(&[runs.len() as u64]), &runs), "edge {edge} of {drawing:?}");
@@ -229,10 +240,17 @@ fn theorems(drawing: &Drawing, shots: &[u16]) {
                         exposed[i + 1][wall] += 1;
                     }
                 }
-                // the edge on top has the stretch
-                if drawn > 0 && wall > 0 {
-                    had[shot][wall] += 1;
-                }
+            }
+        }
+    }
+    // edge by edge: of edges drawn over each other the last has the stretch
+    for (number, edge) in all.iter().enumerate() {
+        let (at, low, high) = edge.lies();
+        for k in low..high {
+            let over = |e: &edge::Edge| e.upright() == edge.upright() && e.lies().0 == at && e.lies().1 <= k && k < e.lies().2;
+            let (shot, wall) = landing(&figure, shots, edge.upright(), at, k);
+            if wall > 0 && !all[number + 1..].iter().any(over) {
+                had[shot][wall] += 1;
             }
         }
     }
