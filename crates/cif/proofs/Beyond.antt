@@ -4,25 +4,20 @@
 --                       beside a refusal, and its length
 --   written-beyond   == that holds of the buffer of `write`, behind the bytes written
 --   read-beyond      == and of the list of `read`, behind four numbers for each shot
---   fault-within     == a line at fault starts within the text, or where the text ends
 --   written-read     == what `write` left at the front of its buffer is read back to the list that it was handed
-use Prim.Native.Nat.{ℕ, _+_, _-_, _*_, _/_, _<_, _≤_}
-use mathlib.Core.Path.{_≡_, _∙_, refl, sym, ap, ap₂, subst}
-use mathlib.Core.Logic.{inl, inr}
-use mathlib.Core.List.{List, [], _∷_, _++_}
+use Prim.Native.Nat.{ℕ, _+_, _-_, _*_, _/_, _≤_}
+use mathlib.Core.Path.{_≡_, _∙_, refl, sym, ap, subst}
+use mathlib.Core.List.{List, _++_}
 use native.Mathlib.Omega.{arith}
 use lib.ListN.{length, getD, take, drop, length-append, length-drop}
 use lib.Seq.{getD-append-add, getD-drop, take-at}
-use Rattle.sum.specs.Sum.{join}
-use Rattle.shot.specs.Shot.{Shot, numbers}
+use Rattle.shot.specs.Shot.{numbers}
 use Rattle.shot.proofs.Shot.{numbers-length}
 use Rattle.shot.proofs.Bad.{shots-good}
-use Rattle.number.proofs.Bytes.{stands-room}
-use Rattle.cif.specs.Text.{boxLine, symbol, layer, finish, call, end, cifBytes}
-use Rattle.cif.specs.Faults.{Stands, Stops, Extra, Closing, FaultAt}
-use Rattle.cif.specs.Calls.{WriteSaid, unwritten, cifWritten, ReadSaid, said, ReadSays, shots, room, line}
+use Rattle.cif.specs.Text.{cifBytes}
+use Rattle.cif.specs.Calls.{WriteSaid, cifWritten, ReadSaid, said, ReadSays, shots, room, line}
 use Rattle.cif.proofs.Back.{cif-back}
-use Rattle.cif.proofs.Exactly.{fronted, Write, bad, short, fits, write-cases}
+use Rattle.cif.proofs.Exactly.{Write, bad, short, fits, write-cases}
 
 pub record Kept (before after : List ℕ) (number count : ℕ) : Type 0 where
   pub beyond : (i d : ℕ) → count ≤ i → getD after i d ≡ getD before i d
@@ -73,26 +68,6 @@ read-beyond s list t (shots {n} {u} l f e h k v) =
     (subst (λ (w : List ℕ). Kept list w 0 (length (numbers l))) same (front-kept (numbers l) list (omega (arith, h, size))))
 read-beyond s list t (room {u} l f e h v) = subst (λ (w : List ℕ). Kept list w 14 0) (sym v) (untouched list 14 0)
 read-beyond s list t (line {u} o f v) = subst (λ (w : List ℕ). Kept list w 22 0) (sym v) (untouched list 22 0)
-
--- where a line at fault starts
-
-stops-within : (s : List ℕ) (o : ℕ) (R : ℕ → Type 0) → ((at : ℕ) → at ≤ length s → R at → o ≤ length s) → (ls : List (List ℕ)) (at : ℕ)
-    → at ≤ length s → Stops s o ls R at → o ≤ length s
-stops-within s o R rest [] at h a = rest at h a
-stops-within s o R rest (l ∷ ls) at h (inl a) = omega (arith, h, a .1)
-stops-within s o R rest (l ∷ ls) at h (inr a) =
-    stops-within s o R rest ls (at + length l) (omega (arith, h, stands-room s at l (a .0))) (a .1)
-
-pub fault-within : (s : List ℕ) (o : ℕ) → FaultAt s o → o ≤ length s
-fault-within s o = stops-within s o (Closing s o) closing (symbol ∷ layer ∷ []) 0 (omega arith)
-  where
-    extra : (at : ℕ) → at ≤ length s → Extra s o at → o ≤ length s
-    extra at h a = omega (arith, h, a .1)
-
-    closing : (at : ℕ) → at ≤ length s → Closing s o at → o ≤ length s
-    closing at h c =
-        stops-within s o (Extra s o) extra (finish ∷ call ∷ end ∷ []) (at + length (join boxLine (c .shots)))
-        (omega (arith, h, stands-room s at (join boxLine (c .shots)) (c .stand))) (c .stops)
 
 -- what was written is read back
 

@@ -8,4 +8,5 @@ pub mod Back
 pub mod Settled
 pub mod Exactly
 pub mod Beyond
+pub mod Lines
 pub mod Room

@@ -3,20 +3,18 @@
 --   box-most         == the box line of a shot has at most 29 bytes
 --   text-most        == the text of n shots has at most 28 + 29 n bytes
 --   ample            == 6,553 bytes are enough for the text of any good list of up to 225 shots
-use Prim.Native.Nat.{ℕ, _+_, _-_, _*_, _<_, _≤_}
+use Prim.Native.Nat.{ℕ, _+_, _*_, _<_, _≤_}
 use mathlib.Core.Path.{_≡_, _∙_, sym, ap}
-use mathlib.Core.Bool.{false}
 use mathlib.Core.Logic.{_⊎_, inl, inr}
 use mathlib.Core.List.{List, [], _∷_, _++_}
 use native.Mathlib.Omega.{arith}
 use lib.ListN.{length, getD, length-append}
 use Rattle.sum.specs.Sum.{join, All}
 use Rattle.sum.proofs.Sum.{le-or}
-use Rattle.shot.specs.Shot.{Shot, numbers, shotsIn}
-use Rattle.shot.specs.Bad.{badShots}
+use Rattle.shot.specs.Shot.{Shot, shotsIn}
 use Rattle.shot.proofs.Shot.{numbers-length}
-use Rattle.shot.proofs.Bad.{Good, good-shots, shots-good, numbers-shots}
-use Rattle.cif.specs.Text.{decimal, boxOf, boxLine, finish, call, end, cifText, cifBytes, Fit}
+use Rattle.shot.proofs.Bad.{Good, shots-good, numbers-shots}
+use Rattle.cif.specs.Text.{decimal, doubledSide, doubledCentre, boxLine, finish, call, end, cifText, Fit}
 use Rattle.cif.specs.Calls.{cifWritten}
 use Rattle.cif.proofs.Decimal.{decimal-few, decimal-five}
 use Rattle.cif.proofs.Putting.{box-length}
@@ -24,20 +22,21 @@ use Rattle.cif.proofs.Back.{fits}
 use Rattle.cif.proofs.Exactly.{written-exactly}
 
 -- a doubled side and its doubled centre have eleven digits at most: of a side from 50,000 nm on the centre has five
-side-most : (low high : ℕ) → low < high → high ≤ 65535 → length (decimal (2 * (high - low))) + length (decimal (low + high)) ≤ 11
-side-most low high h k = by (le-or 100000 (2 * (high - low)))
+side-most : (low high : ℕ) → low < high → high ≤ 65535
+    → length (decimal (doubledSide low high)) + length (decimal (doubledCentre low high)) ≤ 11
+side-most low high h k = by (le-or 100000 (doubledSide low high))
   where
-    by : (100000 ≤ 2 * (high - low)) ⊎ (2 * (high - low) < 100000)
-        → length (decimal (2 * (high - low))) + length (decimal (low + high)) ≤ 11
-    by (inl w) = omega (arith, decimal-few (2 * (high - low)) (omega arith), decimal-five (low + high) (omega arith))
-    by (inr w) = omega (arith, decimal-five (2 * (high - low)) w, decimal-few (low + high) (omega arith))
+    by : (100000 ≤ doubledSide low high) ⊎ (doubledSide low high < 100000)
+        → length (decimal (doubledSide low high)) + length (decimal (doubledCentre low high)) ≤ 11
+    by (inl w) = omega (arith, decimal-few (doubledSide low high) (omega arith), decimal-five (doubledCentre low high) (omega arith))
+    by (inr w) = omega (arith, decimal-five (doubledSide low high) w, decimal-few (doubledCentre low high) (omega arith))
 
 pub box-most : (b : Shot) → Fit b → length (boxLine b) ≤ 29
 unfolding boxLine
 box-most b f =
     omega (
       arith,
-      box-length (2 * (b .xhigh - b .xlow)) (2 * (b .yhigh - b .ylow)) (b .xlow + b .xhigh) (b .ylow + b .yhigh),
+      box-length (doubledSide (b .xlow) (b .xhigh)) (doubledSide (b .ylow) (b .yhigh)) (doubledCentre (b .xlow) (b .xhigh)) (doubledCentre (b .ylow) (b .yhigh)),
       side-most (b .xlow) (b .xhigh) (f .wide) (f .right),
       side-most (b .ylow) (b .yhigh) (f .high) (f .top),
     )
