@@ -88,7 +88,7 @@ enum pw_room {
   PW_CUTS_MOST = 134400,     /* 16 lines each way */
   PW_EDGE_NUMBERS = 60,      /* 15 runs of 4 numbers: enough for the list of any fracture without a largest side */
   PW_DIVIDED_NUMBERS = 467856, /* 116964 shots of 4 numbers: enough for every figure and every largest side */
-  PW_CIF_BYTES = 6553,       /* 28, and 29 for each of 225 shots: enough for the text of any fracture without a largest side */
+  PW_CIF_BYTES = 6553        /* 28, and 29 for each of 225 shots: enough for the text of any fracture without a largest side */
 };
 
 /* The rule of a preset, 0 to 3. Refuses: PW_NO_PRESET. */
