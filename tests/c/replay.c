@@ -270,6 +270,53 @@ static void join(void) {
   expect("pairs", hash_pairs(table_len));
 }
 
+static void index_open(void) {
+  size_t len = size(), index_len = size(), offset = 77;
+  uint32_t outlines = 777, mark = word();
+  read_bytes(len);
+  expect("index open", pw_index_open(bytes, len, lend_lengths(index_len, mark), index_len, &outlines, &offset));
+  expect("outlines", outlines);
+  expect("offset", offset);
+  expect("index", hash_lengths(index_len));
+}
+
+static void index_change(int append) {
+  size_t len = size(), corners_len = 0, rings_len = 0, k = 0, written = 77, offset = 77;
+  uint32_t outlines = 777;
+  if (append) {
+    corners_len = size();
+    rings_len = size();
+  } else {
+    k = size();
+  }
+  size_t index_len = size(), out_len = size();
+  uint32_t mark = word();
+  read_bytes(len);
+  if (append) read_drawing(corners_len, rings_len);
+  uint16_t *index = lend_lengths(index_len, mark);
+  uint8_t *out = lend_out(out_len, mark);
+  if (append)
+    expect("index append", pw_index_append(bytes, len, corners, corners_len, rings, rings_len, index, index_len, out,
+                                           out_len, &written, &outlines, &offset));
+  else
+    expect("index remove", pw_index_remove(bytes, len, k, index, index_len, out, out_len, &written, &outlines, &offset));
+  expect("written", written);
+  expect("outlines", outlines);
+  expect("offset", offset);
+  expect("index", hash_lengths(index_len));
+  expect("out", hash_out(out_len));
+}
+
+static void index_pick(void) {
+  size_t len = size(), index_len = size(), count = size(), k = size(), start = 77, length = 77, offset = 77;
+  read_bytes(len);
+  for (size_t i = 0; i < index_len; i++) rings[i] = (uint16_t)word();
+  expect("index pick", pw_index_pick(bytes, len, rings, index_len, count, k, &start, &length, &offset));
+  expect("start", start);
+  expect("length", length);
+  expect("offset", offset);
+}
+
 int main(void) {
   int over = 0;
   while (!over) {
@@ -289,6 +336,10 @@ int main(void) {
     case 30: join(); break;
     case 31: cuts_ahead(); break;
     case 23: edge_runs(); break;
+    case 40: index_open(); break;
+    case 41: index_change(1); break;
+    case 42: index_change(0); break;
+    case 43: index_pick(); break;
     default:
       say("replay: the record is not whole\n");
       return 2;

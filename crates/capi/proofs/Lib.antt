@@ -1,3 +1,4 @@
 pub mod Lent
 pub mod Unique
 pub mod EdgeUnique
+pub mod IndexUnique

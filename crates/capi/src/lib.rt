@@ -36,6 +36,7 @@ ghost use Rattle.join.specs.Join.{joinLent, Promise};
 ghost use Rattle.capi.specs.Lent.{presetLent, cutsLent, numberLent, numberSaid, checkLent, outlineLent, outlineSaid, unpackLent, writeLent, fractureLent, boundaryLent, plateLent, flashesOf, pairingNo};
 
 mod edges;
+mod indexes;
 
 // The rule of a preset, or 15.
 #[no_mangle]

@@ -9,6 +9,7 @@
 mod edges;
 mod fractures;
 mod gdsii;
+mod indexes;
 mod jobs;
 mod joins;
 mod progress;
@@ -90,6 +91,8 @@ fn main() {
     joins::lists(&plan, &progress);
     edges::rows(&plan, &progress);
     edges::figures(&plan, &progress);
+    indexes::rows(&plan, &progress);
+    indexes::histories(&plan, &progress);
     if let Some(file) = &plan.record {
         record::write(file, plan.seed, &progress);
     }

@@ -17,6 +17,7 @@
 //! | `joining` | shots joined in pairs |
 //! | `edge` | one edge and the shots that it ends up on |
 //! | `cif` | a shot list as a CIF text, and back |
+//! | `index` | an index beside a job |
 //! | `program` | what the job program prints |
 //! | `nano` | the same costs once more, nanometre by nanometre, for small figures |
 //! | `every` | every cutting of a small figure, with its price |
@@ -30,6 +31,7 @@ pub mod edge;
 pub mod every;
 pub mod figure;
 pub mod gdsii;
+pub mod index;
 pub mod joining;
 pub mod nano;
 pub mod program;
@@ -76,6 +78,10 @@ pub trait Calls {
     fn gdsii_fracture(&self, element: &[u8], table: &mut [u32], list: &mut [u16]) -> Told;
     fn join(&self, list: &[u16], table: &mut [joining::Joined]) -> Told;
     fn edge(&self, drawing: &Drawing, edge: usize, shots: &[u16], runs: &mut [usize]) -> Told;
+    fn index_open(&self, job: &[u8], index: &mut [u16]) -> Told;
+    fn index_append(&self, job: &[u8], drawing: &Drawing, index: &mut [u16], out: &mut [u8]) -> Told;
+    fn index_remove(&self, job: &[u8], k: usize, index: &mut [u16], out: &mut [u8]) -> Told;
+    fn index_pick(&self, job: &[u8], index: &[u16], count: usize, k: usize) -> Told;
 }
 
 /// The documents themselves.
@@ -124,5 +130,18 @@ impl Calls for Law {
 
     fn edge(&self, drawing: &Drawing, edge: usize, shots: &[u16], runs: &mut [usize]) -> Told {
         edge::told_edge(drawing, edge, shots, runs)
+    }
+
+    fn index_open(&self, job: &[u8], index: &mut [u16]) -> Told {
+        index::told_open(job, index)
+    }
+    fn index_append(&self, job: &[u8], drawing: &Drawing, index: &mut [u16], out: &mut [u8]) -> Told {
+        index::told_append(job, drawing, index, out)
+    }
+    fn index_remove(&self, job: &[u8], k: usize, index: &mut [u16], out: &mut [u8]) -> Told {
+        index::told_remove(job, k, index, out)
+    }
+    fn index_pick(&self, job: &[u8], index: &[u16], count: usize, k: usize) -> Told {
+        index::told_pick(job, index, count, k)
     }
 }
