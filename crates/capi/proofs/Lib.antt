@@ -1,4 +1,5 @@
 pub mod Lent
 pub mod Unique
 pub mod EdgeUnique
+pub mod IndexLent
 pub mod IndexUnique

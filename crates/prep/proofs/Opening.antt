@@ -4,6 +4,7 @@
 --   begin-index      == beside a job that is opened stands its true index
 --   begin-never      == and its header is no fault
 --   begin-accepted   == and its check tells the rule that the header says, and as many outlines
+--   indexed-true     == the same, said of the answer
 --   picked-taken     == by that index a pick is what taking the outline gives
 use Prim.Native.Nat.{ℕ, _≤_}
 use mathlib.Core.Path.{_≡_, _∙_, refl, sym, ap, ap₂, subst}
@@ -17,6 +18,7 @@ use Rattle.refusal.proofs.Refusals.{refusal-one, refusal-some}
 use Rattle.number.specs.Reading.{Reading, read, fault}
 use Rattle.number.proofs.Number.{apart}
 use Rattle.number.proofs.Bytes.{AllBytes}
+use Rattle.job.specs.declared.read.Checked.{Checked}
 use Rattle.job.specs.declared.read.Checked.the-variants as check
 use Rattle.job.specs.Job.{Header, header, Job, job}
 use Rattle.job.specs.Calls.{CheckSaid, jobSaid, checked, checkTold, TakeSaid, told, taken}
@@ -27,6 +29,7 @@ use Rattle.index.specs.declared.opening.Opened.{Opened}
 use Rattle.index.specs.declared.opening.Opened.the-variants as opens
 use Rattle.index.specs.Index.{TrueIndex, OpenSaid, unopened, openedBy, opened, openTold, picked}
 use Rattle.index.proofs.Always.{opened-true, pick-true}
+use Rattle.prep.specs.Outlines.{Indexed}
 
 module _ (s index after : List ℕ) (bytes : AllBytes s) (room : 255 ≤ length index) (u : Opened) (opening : openTold u after ≡ opened s index) where
   pub begin-refused : {r : Refusal} {at : ℕ} → u ≡ opens.Refused r at → checkTold (check.Refused r at) ≡ checked s
@@ -59,6 +62,9 @@ module _ (s index after : List ℕ) (bytes : AllBytes s) (room : 255 ≤ length 
         let d = job-said s (t .accepted) (sym f) in
         let says : ℕ → ℕ → ℕ → CheckSaid = λ x y k. checkTold (check.Job x y k) in
         ap₂ (λ x y. says x y n) (sym (d .0)) (sym (d .1)) ∙ ap (says (t .says .threshold) (t .says .weight)) (t .count) ∙ sym (ap jobSaid (t .accepted))
+
+pub indexed-true : (a : Checked) {t w k : ℕ} {s index : List ℕ} → a ≡ check.Job t w k → Indexed a s index → TrueIndex s index k
+indexed-true a {t} {w} {k} {s} {index} e h = subst (λ (b : Checked). Indexed b s index) e h
 
 pub picked-taken : (s index : List ℕ) (n k : ℕ) → TrueIndex s index n → {m at : ℕ} {p : List ℕ} → told m at p ≡ picked s index n k → told m at p ≡ taken s k
 picked-taken s index n k t e = e ∙ pick-true s index n k t
