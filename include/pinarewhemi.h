@@ -210,6 +210,16 @@ uint32_t pw_index_remove(const uint8_t *job, size_t len, size_t k, uint16_t *ind
 uint32_t pw_index_pick(const uint8_t *job, size_t len, const uint16_t *index, size_t index_len, size_t count, size_t k,
                        size_t *start, size_t *length, size_t *offset);
 
+/* Saves what is left of a job: the outlines before the first fault. The front of out holds a sound job of
+ * them, with the same rule and the right number of outlines; written is how many bytes it has, kept how many
+ * outlines, lost how many of those declared are not among them, dropped how many bytes of the job follow the
+ * last one kept, or the header if none is. A sound job comes back byte for byte. out and the job do not
+ * overlap; PW_JOB_BYTES are always enough.
+ * Refuses: PW_JOB_LONG; PW_BYTES_END to PW_OUT_OF_RANGE of the header's three numbers, with the offset;
+ * PW_BUFFER_SHORT. */
+uint32_t pw_salvage(const uint8_t *job, size_t len, uint8_t *out, size_t out_len,
+                    size_t *written, uint32_t *kept, uint32_t *lost, size_t *dropped, size_t *offset);
+
 #ifdef __cplusplus
 }
 #endif

@@ -317,6 +317,19 @@ static void index_pick(void) {
   expect("offset", offset);
 }
 
+static void salvage(void) {
+  size_t len = size(), out_len = size(), written = 77, dropped = 77, offset = 77;
+  uint32_t kept = 777, lost = 777, mark = word();
+  read_bytes(len);
+  expect("salvage", pw_salvage(bytes, len, lend_out(out_len, mark), out_len, &written, &kept, &lost, &dropped, &offset));
+  expect("written", written);
+  expect("kept", kept);
+  expect("lost", lost);
+  expect("dropped", dropped);
+  expect("offset", offset);
+  expect("out", hash_out(out_len));
+}
+
 int main(void) {
   int over = 0;
   while (!over) {
@@ -340,6 +353,7 @@ int main(void) {
     case 41: index_change(1); break;
     case 42: index_change(0); break;
     case 43: index_pick(); break;
+    case 44: salvage(); break;
     default:
       say("replay: the record is not whole\n");
       return 2;

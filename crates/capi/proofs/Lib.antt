@@ -3,3 +3,4 @@ pub mod Unique
 pub mod EdgeUnique
 pub mod IndexLent
 pub mod IndexUnique
+pub mod SaveUnique

@@ -1,3 +1,4 @@
 pub mod Lent
 pub mod EdgeLent
 pub mod IndexLent
+pub mod SaveLent

@@ -37,6 +37,7 @@ ghost use Rattle.capi.specs.Lent.{presetLent, cutsLent, numberLent, numb
 
 mod edges;
 mod indexes;
+mod salvages;
 
 // The rule of a preset, or 15.
 #[no_mangle]

@@ -332,7 +332,7 @@ fn history(library: Library, seed: u64, progress: &Progress) -> [usize; 3] {
 /// Histories of a thousand calls each.
 pub fn histories(plan: &Plan, progress: &Progress) {
     let Some(library) = plan.library else { return };
-    let count = (plan.jobs / 1000).clamp(8, 120);
+    let count = (plan.jobs / 3000).clamp(8, 40);
     let next = AtomicUsize::new(0);
     let tally = Mutex::new([0usize; 3]);
     std::thread::scope(|scope| {

@@ -15,6 +15,7 @@ mod joins;
 mod progress;
 mod record;
 mod room;
+mod salvages;
 mod same;
 
 use law::Calls;
@@ -93,6 +94,8 @@ fn main() {
     edges::figures(&plan, &progress);
     indexes::rows(&plan, &progress);
     indexes::histories(&plan, &progress);
+    salvages::rows(&plan, &progress);
+    salvages::damaged(&plan, &progress);
     if let Some(file) = &plan.record {
         record::write(file, plan.seed, &progress);
     }

@@ -7,7 +7,7 @@
 //! numbers, a hash over each lent buffer with 16 elements before and beyond it. Calls: 1 preset,
 //! 2 fracture, 3 fracture by the default rule, 4 number, 5 job check, 6 job outline, 7 unpack, 8 write
 //! header, 9 write outline, 10 read a boundary, 11 fracture one, 12 the end, 23 the runs of an edge, 30 join,
-//! 31 cuts ahead, 40 to 43 opening, appending to, removing from and picking by an index. A shift has its sign.
+//! 31 cuts ahead, 40 to 43 opening, appending to, removing from and picking by an index, 44 salvage. A shift has its sign.
 //! An entry of a table of pairs is hashed field by field, its partner as two words.
 
 use crate::edges::shot_list;
@@ -255,6 +255,17 @@ impl Record {
         }
     }
 
+    fn salvage(&mut self, job: &[u8], room: usize, mark: u32) {
+        self.words.push(44);
+        self.size(job.len());
+        self.size(room);
+        self.words.push(mark);
+        self.bytes(job);
+        let mut out = lend(room, mark, 8, |x| x as u8);
+        let told = Law.salvage(job, &mut out[MARGIN..MARGIN + room]);
+        self.outcome(told, 5, &[hash(out.into_iter().map(u32::from))]);
+    }
+
     fn writers(&mut self, s: &mut Seeded) {
         let pick = |s: &mut Seeded| s.pick(&[0, 127, 128, 255, 256, 1000, 1001, u32::MAX]);
         let (threshold, weight, outlines) = (pick(s), pick(s), pick(s));
@@ -379,6 +390,8 @@ pub fn write(file: &str, seed: u64, progress: &Progress) {
         let (k, few, short) = (s.within(0, count), s.within(0, count), s.within(0, job.len()));
         let rooms = s.pick(&[(255, 4096), (255, 4096), (count + 1, job.len() + 10), (few, 4096), (255, short)]);
         record.index(&job, &drawing, s.pick(&[k, k, k, usize::MAX]), rooms, turn as u32);
+        let (at, way) = (s.within(0, job.len()), s.below(DAMAGES));
+        record.salvage(&damaged(&mut s, &job, at, way), s.pick(&[4096, 4096, short]), turn as u32);
     }
     record.words.push(12);
     let bytes: Vec<u8> = record.words.iter().flat_map(|word| word.to_le_bytes()).collect();

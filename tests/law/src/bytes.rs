@@ -34,7 +34,7 @@ pub fn number(bytes: &[u8], at: usize) -> Result<(u32, usize), Fault> {
 }
 
 /// A number that has to lie in a range: one outside is shown by its last byte.
-fn ranged(bytes: &[u8], at: usize, low: u32, high: u32) -> Result<(u32, usize), Fault> {
+pub(crate) fn ranged(bytes: &[u8], at: usize, low: u32, high: u32) -> Result<(u32, usize), Fault> {
     let (value, next) = number(bytes, at)?;
     if value < low || value > high {
         return Err(Fault { number: 10, at: next - 1 });

@@ -18,6 +18,7 @@
 //! | `edge` | one edge and the shots that it ends up on |
 //! | `cif` | a shot list as a CIF text, and back |
 //! | `index` | an index beside a job |
+//! | `salvage` | what is left of a broken job |
 //! | `program` | what the job program prints |
 //! | `nano` | the same costs once more, nanometre by nanometre, for small figures |
 //! | `every` | every cutting of a small figure, with its price |
@@ -35,6 +36,7 @@ pub mod index;
 pub mod joining;
 pub mod nano;
 pub mod program;
+pub mod salvage;
 
 pub use drawing::Drawing;
 
@@ -82,6 +84,7 @@ pub trait Calls {
     fn index_append(&self, job: &[u8], drawing: &Drawing, index: &mut [u16], out: &mut [u8]) -> Told;
     fn index_remove(&self, job: &[u8], k: usize, index: &mut [u16], out: &mut [u8]) -> Told;
     fn index_pick(&self, job: &[u8], index: &[u16], count: usize, k: usize) -> Told;
+    fn salvage(&self, job: &[u8], out: &mut [u8]) -> Told;
 }
 
 /// The documents themselves.
@@ -143,5 +146,8 @@ impl Calls for Law {
     }
     fn index_pick(&self, job: &[u8], index: &[u16], count: usize, k: usize) -> Told {
         index::told_pick(job, index, count, k)
+    }
+    fn salvage(&self, job: &[u8], out: &mut [u8]) -> Told {
+        salvage::told_salvage(job, out)
     }
 }

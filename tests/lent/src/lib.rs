@@ -97,6 +97,10 @@ mod pw {
             job: *const u8, len: usize, index: *const u16, index_len: usize, count: usize, k: usize,
             start: *mut usize, length: *mut usize, offset: *mut usize,
         ) -> u32;
+        pub fn pw_salvage(
+            job: *const u8, len: usize, out: *mut u8, out_len: usize,
+            written: *mut usize, kept: *mut u32, lost: *mut u32, dropped: *mut usize, offset: *mut usize,
+        ) -> u32;
     }
 }
 
@@ -331,5 +335,16 @@ impl Calls for Library {
             )
         };
         Told::of(number, &[start as u64, length as u64, offset as u64])
+    }
+
+    fn salvage(&self, job: &[u8], out: &mut [u8]) -> Told {
+        let (mut written, mut kept, mut lost, mut dropped, mut offset) = (MARK_SIZE, MARK, MARK, MARK_SIZE, MARK_SIZE);
+        let number = unsafe {
+            pw::pw_salvage(
+                job.as_ptr(), job.len(), out.as_mut_ptr(), out.len(),
+                &mut written, &mut kept, &mut lost, &mut dropped, &mut offset,
+            )
+        };
+        Told::of(number, &[written as u64, kept as u64, lost as u64, dropped as u64, offset as u64])
     }
 }
