@@ -69,6 +69,7 @@ enum pw_refusal {
   PW_NOT_CLOSED = 17,   /* last point unlike the first */
   PW_EXTENT = 18,       /* extent above 65535 */
   PW_LARGEST = 19,      /* largest side below 200, below twice the threshold, or above 65535 */
+  PW_JOB_FULL = 20,     /* an outline appended to 255 */
   PW_SHOT_LIST = 21,    /* a shot list whose length is no multiple of four, or a shot whose high x or y is not
                            above its low one */
   PW_TEXT = 22,         /* text not of CIF's form as pw_cif_write writes it, or a shot in it that is empty, off the
@@ -84,6 +85,7 @@ enum pw_room {
   PW_RING_LENGTHS = 8,       /* 8 rings */
   PW_HEADER_BYTES = 6,       /* threshold, weight and count of outlines */
   PW_OUTLINE_BYTES = 202,    /* 0, R, 8 times V, and 64 coordinates of 3 bytes */
+  PW_INDEX_ENTRIES = 255,    /* 255 outlines */
   PW_JOB_BYTES = 4096,
   PW_CUTS_MOST = 134400,     /* 16 lines each way */
   PW_EDGE_NUMBERS = 60,      /* 15 runs of 4 numbers: enough for the list of any fracture without a largest side */
@@ -226,6 +228,41 @@ uint32_t pw_cif_write(const uint16_t *list, size_t list_len, uint8_t *out, size_
  * pw_cif_write writes is read, so one list has one text; bytes after the last line are a fault too.
  * Refuses: PW_TEXT with the offset of the first line at fault, then PW_BUFFER_SHORT. */
 uint32_t pw_cif_read(const uint8_t *text, size_t len, uint16_t *list, size_t list_len, size_t *shots, size_t *offset);
+/* An index beside a job: the offset of each outline in the job's bytes, from the front of index on. Opening
+ * reads the job, fills the index and gives the number of outlines; entries behind them are not touched.
+ * Refuses as pw_job_check, then PW_BUFFER_SHORT where the index has fewer entries than there are outlines. */
+uint32_t pw_index_open(const uint8_t *job, size_t len, uint16_t *index, size_t index_len, uint32_t *outlines, size_t *offset);
+
+/* The job with the figure of corners and ring lengths as one outline more at its end: its bytes at the front
+ * of out, how many they are, and the number of outlines; the index is written anew. What the index held is not
+ * read. The job that is read and out do not overlap.
+ * Refuses as pw_job_check; then PW_LENGTH; PW_JOB_FULL; PW_JOB_LONG where the new job would pass 4096 bytes;
+ * PW_BUFFER_SHORT where out is shorter than the new job or the index than its outlines are many. */
+uint32_t pw_index_append(const uint8_t *job, size_t len, const uint16_t *corners, size_t corners_len,
+                         const uint16_t *rings, size_t rings_len, uint16_t *index, size_t index_len,
+                         uint8_t *out, size_t out_len, size_t *written, uint32_t *outlines, size_t *offset);
+
+/* The same without outline k. Refuses as pw_job_check, then PW_NO_OUTLINE, PW_BUFFER_SHORT. */
+uint32_t pw_index_remove(const uint8_t *job, size_t len, size_t k, uint16_t *index, size_t index_len,
+                         uint8_t *out, size_t out_len, size_t *written, uint32_t *outlines, size_t *offset);
+
+/* Where the outline lies that entry k of an index points at, of an index of which count entries count:
+ * job[start .. start + length). Nothing before it is read. By an index that pw_index_open, append or remove
+ * left beside this job that is outline k. By any other it is what reading an outline at that offset finds.
+ * Refuses: PW_JOB_LONG, PW_NO_OUTLINE where k reaches count or index_len, then PW_BYTES_END to PW_OUT_OF_RANGE
+ * with the offset. */
+uint32_t pw_index_pick(const uint8_t *job, size_t len, const uint16_t *index, size_t index_len, size_t count, size_t k,
+                       size_t *start, size_t *length, size_t *offset);
+
+/* Saves what is left of a job: the outlines before the first fault. The front of out holds a sound job of
+ * them, with the same rule and the right number of outlines; written is how many bytes it has, kept how many
+ * outlines, lost how many of those declared are not among them, dropped how many bytes of the job follow the
+ * last one kept, or the header if none is. A sound job comes back byte for byte. out and the job do not
+ * overlap; PW_JOB_BYTES are always enough.
+ * Refuses: PW_JOB_LONG; PW_BYTES_END to PW_OUT_OF_RANGE of the header's three numbers, with the offset;
+ * PW_BUFFER_SHORT. */
+uint32_t pw_salvage(const uint8_t *job, size_t len, uint8_t *out, size_t out_len,
+                    size_t *written, uint32_t *kept, uint32_t *lost, size_t *dropped, size_t *offset);
 
 #ifdef __cplusplus
 }

@@ -313,6 +313,64 @@ static void read_text(void) {
   expect("shots", shots);
   expect("offset", offset);
   expect("list", hash_list(list_len));
+static void index_open(void) {
+  size_t len = size(), index_len = size(), offset = 77;
+  uint32_t outlines = 777, mark = word();
+  read_bytes(len);
+  expect("index open", pw_index_open(bytes, len, lend_lengths(index_len, mark), index_len, &outlines, &offset));
+  expect("outlines", outlines);
+  expect("offset", offset);
+  expect("index", hash_lengths(index_len));
+}
+
+static void index_change(int append) {
+  size_t len = size(), corners_len = 0, rings_len = 0, k = 0, written = 77, offset = 77;
+  uint32_t outlines = 777;
+  if (append) {
+    corners_len = size();
+    rings_len = size();
+  } else {
+    k = size();
+  }
+  size_t index_len = size(), out_len = size();
+  uint32_t mark = word();
+  read_bytes(len);
+  if (append) read_drawing(corners_len, rings_len);
+  uint16_t *index = lend_lengths(index_len, mark);
+  uint8_t *out = lend_out(out_len, mark);
+  if (append)
+    expect("index append", pw_index_append(bytes, len, corners, corners_len, rings, rings_len, index, index_len, out,
+                                           out_len, &written, &outlines, &offset));
+  else
+    expect("index remove", pw_index_remove(bytes, len, k, index, index_len, out, out_len, &written, &outlines, &offset));
+  expect("written", written);
+  expect("outlines", outlines);
+  expect("offset", offset);
+  expect("index", hash_lengths(index_len));
+  expect("out", hash_out(out_len));
+}
+
+static void index_pick(void) {
+  size_t len = size(), index_len = size(), count = size(), k = size(), start = 77, length = 77, offset = 77;
+  read_bytes(len);
+  for (size_t i = 0; i < index_len; i++) rings[i] = (uint16_t)word();
+  expect("index pick", pw_index_pick(bytes, len, rings, index_len, count, k, &start, &length, &offset));
+  expect("start", start);
+  expect("length", length);
+  expect("offset", offset);
+}
+
+static void salvage(void) {
+  size_t len = size(), out_len = size(), written = 77, dropped = 77, offset = 77;
+  uint32_t kept = 777, lost = 777, mark = word();
+  read_bytes(len);
+  expect("salvage", pw_salvage(bytes, len, lend_out(out_len, mark), out_len, &written, &kept, &lost, &dropped, &offset));
+  expect("written", written);
+  expect("kept", kept);
+  expect("lost", lost);
+  expect("dropped", dropped);
+  expect("offset", offset);
+  expect("out", hash_out(out_len));
 }
 
 int main(void) {
@@ -339,6 +397,11 @@ int main(void) {
     case 51: divided(PINWHEEL); break;
     case 45: write_text(); break;
     case 46: read_text(); break;
+    case 40: index_open(); break;
+    case 41: index_change(1); break;
+    case 42: index_change(0); break;
+    case 43: index_pick(); break;
+    case 44: salvage(); break;
     default:
       say("replay: the record is not whole\n");
       return 2;

@@ -3,3 +3,6 @@ pub mod Unique
 pub mod EdgeUnique
 pub mod TextLent
 pub mod TextUnique
+pub mod IndexLent
+pub mod IndexUnique
+pub mod SaveUnique

@@ -6,3 +6,4 @@ pub mod Always
 pub mod Offsets
 pub mod Settled
 pub mod Local
+pub mod Exactly

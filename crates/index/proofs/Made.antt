@@ -5,7 +5,7 @@
 --   header-length, header-less == how long a header is
 --   parts-long, parts-at == where figures stand that are written one after another
 --   parted-written   == bytes of figures that can be written, behind a header, are a job
---   figures-drawn, parts-written, header-same, first-is, run-short == what is known of an accepted job by its bytes
+--   figures-drawn, without-drawn, parts-written, header-same, first-is, run-short == what is known of an accepted job by its bytes
 --   append-parted, append-is, remove-front, remove-back, remove-parted, remove-is == the two runs of bytes of the new job, and what is said of it
 use Prim.Native.Nat.{ℕ, zero, suc, _+_, _-_, _<_, _≤_, suc-le-suc}
 use mathlib.Core.Path.{_≡_, _∙_, refl, sym, ap, ap₂, subst}
@@ -62,7 +62,7 @@ outlines-append [] gs = refl
 outlines-append (f ∷ fs) gs =
     ap (λ (b : List ℕ). figureBytes f ++ b) (outlines-append fs gs) ∙ sym (append-assoc (figureBytes f) (outlinesBytes fs) (outlinesBytes gs))
 
-outlines-last : (fs : List (List (List ℕ))) (g : List (List ℕ)) → outlinesBytes (fs ++ (g ∷ [])) ≡ outlinesBytes fs ++ figureBytes g
+pub outlines-last : (fs : List (List (List ℕ))) (g : List (List ℕ)) → outlinesBytes (fs ++ (g ∷ [])) ≡ outlinesBytes fs ++ figureBytes g
 unfolding outlinesBytes
 outlines-last fs g = outlines-append fs (g ∷ []) ∙ ap (λ (b : List ℕ). outlinesBytes fs ++ b) (append-nil (figureBytes g))
 
@@ -167,6 +167,14 @@ module _ (s : List ℕ) (bytes : AllBytes s) {j : Job} {last : ℕ} (q : job s �
       (λ k m.
       subst (λ (ls : List (List ℕ)). Drawable (figureOf ls)) (sym (List·getD-map (λ (p : Part). p .rings) (j .parts) k noPart))
       (part-only s bytes q k (omega (arith, figures-long)) .1))
+
+  -- without one of them
+  pub without-drawn : (k : ℕ) → Writables (take k (figures j) ++ drop (suc k) (figures j))
+  without-drawn k =
+      let D : List (List ℕ) → Type 0 = λ (ls : List (List ℕ)). Drawable (figureOf ls) in
+      let x = All-parts D (take k (figures j)) (drop k (figures j)) (subst (λ (l : List (List (List ℕ))). All D l) (sym (take-append-drop k (figures j))) figures-drawn) in
+      let y = All-parts D (take (suc k) (figures j)) (drop (suc k) (figures j)) (subst (λ (l : List (List (List ℕ))). All D l) (sym (take-append-drop (suc k) (figures j))) figures-drawn) in
+      All-append D (take k (figures j)) (drop (suc k) (figures j)) (x .0) (y .1)
 
   -- no run of its bytes is longer than a job may be
   pub run-short : (n m : ℕ) → length (take n (drop m s)) ≤ mostBytes
@@ -326,18 +334,11 @@ module _ (s : List ℕ) (bytes : AllBytes s) {j : Job} {last : ℕ} (q : job s �
         less-bytes =
             ap₂ (λ (u v : List ℕ). u ++ v) (a ∙ remove-front) (b ∙ remove-back) ∙ sym (outlines-append (take k (figures j)) (drop (suc k) (figures j)))
 
-        less-drawn : Writables less
-        less-drawn =
-            let D : List (List ℕ) → Type 0 = λ (ls : List (List ℕ)). Drawable (figureOf ls) in
-            let x = All-parts D (take k (figures j)) (drop k (figures j)) (subst (λ (l : List (List (List ℕ))). All D l) (sym (take-append-drop k (figures j))) figures-drawn) in
-            let y = All-parts D (take (suc k) (figures j)) (drop (suc k) (figures j)) (subst (λ (l : List (List (List ℕ))). All D l) (sym (take-append-drop (suc k) (figures j))) figures-drawn) in
-            All-append D (take k (figures j)) (drop (suc k) (figures j)) (x .0) (y .1)
-
         pub remove-parted : Parted (h .threshold) (h .weight) (h .count - 1) (front ++ back)
         remove-parted =
             let r = accepted-range s bytes q in
             parted-written (h .threshold) (h .weight) (h .count - 1) (front ++ back) less (omega (arith, r .threshold, said .0)) (omega (arith, r .weight, said .1))
-            (omega (arith, r .count, said .2)) less-long less-bytes less-drawn
+            (omega (arith, r .count, said .2)) less-long less-bytes (without-drawn k)
 
         less-is : headerBytes (h .threshold) (h .weight) (h .count - 1) ++ (front ++ back) ≡ withoutOutline j k
         unfolding withoutOutline jobBytes

@@ -7,6 +7,7 @@
 --   noting-start, noting-fault, noting-more, noting-done == the loop's ways
 --   found-long, found-count, found-room, found-here == the ways of `found`, by what `locate` tells
 --   found-read       == an outline that is found is read where the entry points
+--   none-found, one-found == what is found, by where it stands
 --   picked-fault, picked-part, picked-within, at-fault, at-part == picking, by where it is found
 use Prim.Native.Nat.{ℕ, zero, suc, _+_, _-_, _<_, _≤_}
 use mathlib.Core.Path.{_≡_, _∙_, refl, sym, ap, ap₂, subst}
@@ -170,7 +171,7 @@ module _ (s index : List ℕ) (n k : ℕ) where
       go false false x d y f = absurd (apart (sym f))
 
   module _ {r : Refusal} {p : ℕ} (e : fault r p ≡ placeOf (found s index n k)) where
-    none-found : found s index n k ≡ fault r p
+    pub none-found : found s index n k ≡ fault r p
     unfolding placeOf
     none-found = told-fault (λ (q : Part). q .start) (found s index n k) e
 
@@ -183,7 +184,7 @@ module _ (s index : List ℕ) (n k : ℕ) where
     at-fault b o = let z : pickedAt s index n k ≡ 0 = ap startIn none-found in (refl, omega (arith, z))
 
   module _ {start end : ℕ} (e : read start end ≡ placeOf (found s index n k)) where
-    one-found : (p : Part) × (found s index n k ≡ read p end) × (p .start ≡ start) × (p .end ≡ end) × (start ≤ end) × (end ≤ length s)
+    pub one-found : (p : Part) × (found s index n k ≡ read p end) × (p .start ≡ start) × (p .end ≡ end) × (start ≤ end) × (end ≤ length s)
     unfolding placeOf
     one-found =
         let u = told-read (λ (q : Part). q .start) (found s index n k) e in

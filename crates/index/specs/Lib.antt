@@ -1,3 +1,4 @@
 pub mod Index
 pub mod Reached
+pub mod Faults
 pub mod Steps

@@ -6,7 +6,7 @@
 --   check-zeros      == and then nothing but zeros beside them
 --   check-accepted   == it tells 0 exactly when the job has no fault
 --   check-says       == and then the job's first three numbers, and the offset 0
---   job-says, says-same == what an accepted job says, and that it says one thing
+--   job-says, says-same, says-job == what an accepted job says, that it says one thing, and that it is accepted
 --   take-exactly     == taking tells the job's fault, else 13 exactly when k is not below K
 --   take-empty       == and then the part is empty
 --   take-accepted    == it tells 0 exactly when neither holds; the part is then that of `said-taken`
@@ -222,7 +222,7 @@ module _ (s : List ℕ) where
       let c = sound-same (b .1) (x .count) (y .count) in
       (a .0, b .0, c .0)
 
-  says-job : {t w k : ℕ} → JobSays s t w k → (j : Job) × (job s ≡ read j (length s)) × (length (j .parts) ≡ k)
+  pub says-job : {t w k : ℕ} → JobSays s t w k → (j : Job) × (job s ≡ read j (length s)) × (length (j .parts) ≡ k)
   says-job x =
       let e : past (job s) ≡ read tt (length s) =
       job-past s

@@ -393,7 +393,7 @@ module _ (s : List ℕ) (bytes : AllBytes s) where
   one-ring at e = outline-only at e .0
 
   -- the figures of some parts
-  Figures : ℕ → ℕ → ℕ → List Part → Type 0
+  unfoldable pub Figures : ℕ → ℕ → ℕ → List Part → Type 0
   Figures n at next ps =
       Here s at (outlinesBytes (map (λ (p : Part). p .rings) ps)) next
       × ((k : ℕ) → k < length ps
@@ -416,7 +416,7 @@ module _ (s : List ℕ) (bytes : AllBytes s) where
           (subst (λ u. Here s u (figureBytes (p .rings)) (p .end)) (sym a) here, o .1)
       each o a b (suc k) h = rest .1 k (le-of-suc-le-suc h)
 
-  outlines-only : (n at : ℕ) {ps : List Part} {next : ℕ} → outlines s n at ≡ read ps next → Figures n at next ps
+  pub outlines-only : (n at : ℕ) {ps : List Part} {next : ℕ} → outlines s n at ≡ read ps next → Figures n at next ps
   unfolding outlines outlinesBytes many Figures
   outlines-only zero at {ps} {next} e =
       let a : [] ≡ ps = cc in

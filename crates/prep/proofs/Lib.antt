@@ -1,4 +1,5 @@
 pub mod Printing
 pub mod Accepted
+pub mod Opening
 pub mod Fracturing
 pub mod Status

@@ -6,6 +6,8 @@
 --   isRefused s k        == the fracture of outline k of the job s is refused
 --   anyRefused s n       == that of one of its first n outlines is
 -- Inner
+--   Indexed a s index    == beside a job that is accepted stands its true index
+--   Ready s index h      == the job s is accepted, h is what it says before its outlines, and beside it stands its true index
 --   Fronts f v r l ns    == the figure f stands at the front of two lists: 2v numbers of the one, and r of the other
 use Prim.Native.Nat.{ℕ, zero, suc, _*_, _≤_}
 use mathlib.Core.Path.{_≡_}
@@ -18,12 +20,23 @@ use Rattle.figure.specs.Figure.{Figure}
 use Rattle.outline.specs.Promise.{refusal}
 use Rattle.job.specs.Job.{Part, Job, figureOf, job}
 use Rattle.job.specs.Calls.{noPart, checked}
+use Rattle.job.specs.declared.read.Checked.{Checked}
+use Rattle.job.specs.declared.read.Checked.the-variants as check
+use Rattle.index.specs.Index.{TrueIndex}
 use Rattle.prep.specs.declared.outlines.Header.{Header}
 
 abbrev pub Sound : List ℕ → Header → Type 0
 Sound s h =
     checked s
     ≡ record { number = 0; threshold = h .threshold; weight = h .weight; outlines = h .outlines; offset = 0 }
+
+abbrev pub Indexed : Checked → List ℕ → List ℕ → Type 0
+Indexed (check.Job t w k) s index = TrueIndex s index k
+Indexed (check.Refused r at) s index = Unit {0}
+
+pub record Ready (s index : List ℕ) (h : Header) : Type 0 where
+  pub sound : Sound s h
+  pub entries : TrueIndex s index (h .outlines)
 
 abbrev pub partsOf : Reading Job → List Part
 partsOf (read j last) = j .parts

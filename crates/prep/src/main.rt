@@ -7,12 +7,13 @@ mod waiting;
 
 use input::read_all;
 use job::MOST_BYTES;
+use job::MOST_OUTLINES;
 use job::read::Checked;
-use job::read::check;
 use libc::STDERR_FILENO;
 use lines::print_job;
 use lines::print_refused;
 use outlines::Header;
+use outlines::begin;
 use outlines::run_outlines;
 use output::Output;
 use output::finish;
@@ -48,7 +49,8 @@ fn run(job: &[u8], table: &mut [u32], list: &mut [u16]) -> u32
     ensures { λ r. ⌜ (r ≡ 2) ⊎ (r ≡ status (now (job .entry))) ⌝ }
 {
     let out = output::empty();
-    match check(job) {
+    let mut index = [0u16; MOST_OUTLINES as usize];
+    match begin(job, &mut index) {
         Checked::Refused(why, at) => ended(print_refused(out, why, at), true),
         Checked::Job {
             threshold,
@@ -60,7 +62,7 @@ fn run(job: &[u8], table: &mut [u32], list: &mut [u16]) -> u32
                 weight,
                 outlines,
             };
-            let ran = run_outlines(job, header, table, list, print_job(out, outlines));
+            let ran = run_outlines(job, &index, header, table, list, print_job(out, outlines));
             ended(ran.out, ran.refused)
         }
     }

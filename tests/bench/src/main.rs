@@ -67,6 +67,18 @@ fn read(calls: &dyn Calls, job: &[u8], list: &mut [u16], rings: &mut [u16]) -> u
     sum
 }
 
+/// Opens a job and picks each outline by the index. Gives a number that depends on all of it.
+fn pick(calls: &dyn Calls, job: &[u8], index: &mut [u16]) -> u64 {
+    let count = calls.index_open(job, index).numbers[0] as usize;
+    (0..count).map(|k| calls.index_pick(job, index, count, k).numbers[1]).sum()
+}
+
+/// A job of 255 small outlines.
+fn full_job() -> Vec<u8> {
+    let square = Drawing::outline(&[0, 0, 100, 0, 100, 100, 0, 100]);
+    [header(25, 40, 255), written_outline(&square).repeat(255)].concat()
+}
+
 /// Best ns of a call over some rounds.
 fn best(rounds: usize, mut call: impl FnMut()) -> f64 {
     let mut least = f64::MAX;
@@ -149,8 +161,13 @@ fn main() {
     by_pinwheels(calls, who, rounds);
     println!("\n| Job, by the {who} | bytes | outlines | ns |\n|---|---:|---:|---:|");
     let mut rings = [0; 8];
-    let jobs =
-        [("worked example", JOB.to_vec()), ("layout-like outlines", job()), ("frame with a window", FRAMED_JOB.to_vec())];
+    let mut index = [0; 255];
+    let jobs = [
+        ("worked example", JOB.to_vec()),
+        ("layout-like outlines", job()),
+        ("frame with a window", FRAMED_JOB.to_vec()),
+        ("255 squares", full_job()),
+    ];
     for (name, job) in &jobs {
         let count = Law.job_check(job).numbers[2];
         let checked = best(rounds, || {
@@ -160,7 +177,12 @@ fn main() {
             black_box(read(calls, black_box(job), &mut list, &mut rings));
         });
         println!("| {name}: checked | {} | {count} | {checked:.0} |", job.len());
+        let picked = best(rounds, || {
+            black_box(pick(calls, black_box(job), &mut index));
+        });
         println!("| {name}: checked, and every outline taken and unpacked | {} | {count} | {read:.0} |", job.len());
+        println!("| {name}: opened, and every outline picked by the index | {} | {count} | {picked:.0} |", job.len());
+        println!("| {name}: that over its check | | | {:.2} |", picked / checked);
     }
     println!("\n| Boundary element, by the {who} | bytes | ns to read | ns to fracture |\n|---|---:|---:|---:|");
     for (name, element) in [("L", elements::element(&elements::L)), ("32 corners", elements::element(&elements::stairs()))] {

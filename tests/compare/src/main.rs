@@ -10,11 +10,13 @@ mod edges;
 mod divisions;
 mod fractures;
 mod gdsii;
+mod indexes;
 mod jobs;
 mod joins;
 mod progress;
 mod record;
 mod room;
+mod salvages;
 mod same;
 mod texts;
 
@@ -102,6 +104,10 @@ fn main() {
     texts::every_byte(&plan, &progress);
     texts::longest(&plan, &progress);
     texts::lists(&plan, &progress);
+    indexes::rows(&plan, &progress);
+    indexes::histories(&plan, &progress);
+    salvages::rows(&plan, &progress);
+    salvages::damaged(&plan, &progress);
     if let Some(file) = &plan.record {
         record::write(file, plan.seed, &progress);
     }

@@ -8,7 +8,8 @@
 //! 2 fracture, 3 fracture by the default rule, 4 number, 5 job check, 6 job outline, 7 unpack, 8 write
 //! header, 9 write outline, 10 read a boundary, 11 fracture one, 12 the end, 23 the runs of an edge, 30 join,
 //! 31 cuts ahead, 32 fracture by pinwheels, 50 and 51 the same as 2 and 32 with a largest side,
-//! 45 write a CIF text, 46 read one. A shift has its sign.
+//! 45 write a CIF text, 46 read one,
+//! 40 to 43 opening, appending to, removing from and picking by an index, 44 salvage. A shift has its sign.
 //! An entry of a table of pairs is hashed field by field, its partner as two words.
 
 use crate::edges::shot_list;
@@ -29,6 +30,7 @@ const LISTS: u64 = 6_000;
 const EDGES: u64 = 6_000;
 const DIVIDED: u64 = 4_000;
 const TEXTS: u64 = 6_000;
+const INDEXES: u64 = 2_000;
 
 struct Record {
     words: Vec<u32>,
@@ -248,6 +250,67 @@ impl Record {
         self.outcome(told, 2, &[hash(list.into_iter().map(u32::from))]);
     }
 
+    /// All that can be asked of a job and an index of so many entries, with a buffer of so many bytes.
+    fn index(&mut self, job: &[u8], drawing: &Drawing, k: usize, (entries, room): (usize, usize), mark: u32) {
+        let lent_index = || lend(entries, mark, 16, |x| x as u16);
+        let inner = MARGIN..MARGIN + entries;
+        self.words.push(40);
+        self.size(job.len());
+        self.size(entries);
+        self.words.push(mark);
+        self.bytes(job);
+        let mut index = lent_index();
+        let told = Law.index_open(job, &mut index[inner.clone()]);
+        self.outcome(told, 2, &[hash(index.iter().map(|&entry| entry as u32))]);
+
+        for call in [41, 42] {
+            self.words.push(call);
+            self.size(job.len());
+            if call == 41 {
+                self.drawing_lengths(drawing);
+            } else {
+                self.size(k);
+            }
+            self.size(entries);
+            self.size(room);
+            self.words.push(mark);
+            self.bytes(job);
+            let mut changed = lent_index();
+            let mut out = lend(room, mark, 8, |x| x as u8);
+            let inner_out = &mut out[MARGIN..MARGIN + room];
+            let told = if call == 41 {
+                self.drawing(drawing);
+                Law.index_append(job, drawing, &mut changed[inner.clone()], inner_out)
+            } else {
+                Law.index_remove(job, k, &mut changed[inner.clone()], inner_out)
+            };
+            self.outcome(told, 3, &[hash(changed.into_iter().map(u32::from)), hash(out.into_iter().map(u32::from))]);
+        }
+
+        // by the index as it came in, and as opening left it
+        for (index, count) in [(lent_index(), entries), (index, told.numbers[0] as usize)] {
+            self.words.push(43);
+            self.size(job.len());
+            self.size(entries);
+            self.size(count);
+            self.size(k);
+            self.bytes(job);
+            self.words.extend(index[inner.clone()].iter().map(|&entry| entry as u32));
+            self.outcome(Law.index_pick(job, &index[inner.clone()], count, k), 3, &[]);
+        }
+    }
+
+    fn salvage(&mut self, job: &[u8], room: usize, mark: u32) {
+        self.words.push(44);
+        self.size(job.len());
+        self.size(room);
+        self.words.push(mark);
+        self.bytes(job);
+        let mut out = lend(room, mark, 8, |x| x as u8);
+        let told = Law.salvage(job, &mut out[MARGIN..MARGIN + room]);
+        self.outcome(told, 5, &[hash(out.into_iter().map(u32::from))]);
+    }
+
     fn writers(&mut self, s: &mut Seeded) {
         let pick = |s: &mut Seeded| s.pick(&[0, 127, 128, 255, 256, 1000, 1001, u32::MAX]);
         let (threshold, weight, outlines) = (pick(s), pick(s), pick(s));
@@ -394,6 +457,21 @@ pub fn write(file: &str, seed: u64, progress: &Progress) {
         let few = s.within(0, 4 * shots);
         let numbers = s.pick(&[4 * shots, 4 * shots + 9, few]);
         record.cif_read(&text, numbers, turn as u32);
+    }
+    for turn in 0..INDEXES {
+        let mut s = Seeded::new(seed << 32 | 0x1de7 << 16 | turn);
+        let mut job = sound(&mut s);
+        if turn % 4 == 0 {
+            let (at, way) = (s.within(0, job.len()), s.below(DAMAGES));
+            job = damaged(&mut s, &job, at, way);
+        }
+        let count = Law.job_check(&job).numbers[2] as usize;
+        let drawing = any_drawing(&mut s);
+        let (k, few, short) = (s.within(0, count), s.within(0, count), s.within(0, job.len()));
+        let rooms = s.pick(&[(255, 4096), (255, 4096), (count + 1, job.len() + 10), (few, 4096), (255, short)]);
+        record.index(&job, &drawing, s.pick(&[k, k, k, usize::MAX]), rooms, turn as u32);
+        let (at, way) = (s.within(0, job.len()), s.below(DAMAGES));
+        record.salvage(&damaged(&mut s, &job, at, way), s.pick(&[4096, 4096, short]), turn as u32);
     }
     record.words.push(12);
     let bytes: Vec<u8> = record.words.iter().flat_map(|word| word.to_le_bytes()).collect();

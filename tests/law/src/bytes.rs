@@ -34,7 +34,7 @@ pub fn number(bytes: &[u8], at: usize) -> Result<(u32, usize), Fault> {
 }
 
 /// A number that has to lie in a range: one outside is shown by its last byte.
-fn ranged(bytes: &[u8], at: usize, low: u32, high: u32) -> Result<(u32, usize), Fault> {
+pub(crate) fn ranged(bytes: &[u8], at: usize, low: u32, high: u32) -> Result<(u32, usize), Fault> {
     let (value, next) = number(bytes, at)?;
     if value < low || value > high {
         return Err(Fault { number: 10, at: next - 1 });
@@ -56,7 +56,7 @@ fn ring(bytes: &[u8], at: usize, most: u32) -> Result<(Vec<u16>, usize), Fault> 
 
 /// One outline from a place on, and the place behind it. A V of 0 announces rings: then come their
 /// number, 2 to 8, and V and corners of each; no V may take the figure past 32 corners.
-fn outline(bytes: &[u8], at: usize) -> Result<(Drawing, usize), Fault> {
+pub(crate) fn outline(bytes: &[u8], at: usize) -> Result<(Drawing, usize), Fault> {
     let (first, behind) = number(bytes, at)?;
     if first != 0 {
         let (list, next) = ring(bytes, at, 32)?;

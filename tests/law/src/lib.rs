@@ -18,6 +18,8 @@
 //! | `edge` | one edge and the shots that it ends up on |
 //! | `cif` | a shot list as a CIF text, and back |
 //! | `division` | shots divided by a largest side |
+//! | `index` | an index beside a job |
+//! | `salvage` | what is left of a broken job |
 //! | `program` | what the job program prints |
 //! | `nano` | the same costs once more, nanometre by nanometre, for small figures |
 //! | `every` | every cutting of a small figure, with its price |
@@ -32,9 +34,11 @@ pub mod edge;
 pub mod every;
 pub mod figure;
 pub mod gdsii;
+pub mod index;
 pub mod joining;
 pub mod nano;
 pub mod program;
+pub mod salvage;
 
 pub use drawing::Drawing;
 
@@ -85,6 +89,11 @@ pub trait Calls {
     ) -> Told;
     fn cif_write(&self, list: &[u16], out: &mut [u8]) -> Told;
     fn cif_read(&self, text: &[u8], list: &mut [u16]) -> Told;
+    fn index_open(&self, job: &[u8], index: &mut [u16]) -> Told;
+    fn index_append(&self, job: &[u8], drawing: &Drawing, index: &mut [u16], out: &mut [u8]) -> Told;
+    fn index_remove(&self, job: &[u8], k: usize, index: &mut [u16], out: &mut [u8]) -> Told;
+    fn index_pick(&self, job: &[u8], index: &[u16], count: usize, k: usize) -> Told;
+    fn salvage(&self, job: &[u8], out: &mut [u8]) -> Told;
 }
 
 /// The documents themselves.
@@ -147,5 +156,21 @@ impl Calls for Law {
     }
     fn cif_read(&self, text: &[u8], list: &mut [u16]) -> Told {
         cif::told_read(text, list)
+    }
+
+    fn index_open(&self, job: &[u8], index: &mut [u16]) -> Told {
+        index::told_open(job, index)
+    }
+    fn index_append(&self, job: &[u8], drawing: &Drawing, index: &mut [u16], out: &mut [u8]) -> Told {
+        index::told_append(job, drawing, index, out)
+    }
+    fn index_remove(&self, job: &[u8], k: usize, index: &mut [u16], out: &mut [u8]) -> Told {
+        index::told_remove(job, k, index, out)
+    }
+    fn index_pick(&self, job: &[u8], index: &[u16], count: usize, k: usize) -> Told {
+        index::told_pick(job, index, count, k)
+    }
+    fn salvage(&self, job: &[u8], out: &mut [u8]) -> Told {
+        salvage::told_salvage(job, out)
     }
 }

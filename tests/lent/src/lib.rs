@@ -104,6 +104,25 @@ mod pw {
         pub fn pw_cif_write(list: *const u16, list_len: usize, out: *mut u8, out_len: usize, written: *mut usize) -> u32;
         pub fn pw_cif_read(
             text: *const u8, len: usize, list: *mut u16, list_len: usize, shots: *mut usize, offset: *mut usize,
+        pub fn pw_index_open(
+            job: *const u8, len: usize, index: *mut u16, index_len: usize, outlines: *mut u32, offset: *mut usize,
+        ) -> u32;
+        pub fn pw_index_append(
+            job: *const u8, len: usize, corners: *const u16, corners_len: usize, rings: *const u16, rings_len: usize,
+            index: *mut u16, index_len: usize, out: *mut u8, out_len: usize,
+            written: *mut usize, outlines: *mut u32, offset: *mut usize,
+        ) -> u32;
+        pub fn pw_index_remove(
+            job: *const u8, len: usize, k: usize, index: *mut u16, index_len: usize, out: *mut u8, out_len: usize,
+            written: *mut usize, outlines: *mut u32, offset: *mut usize,
+        ) -> u32;
+        pub fn pw_index_pick(
+            job: *const u8, len: usize, index: *const u16, index_len: usize, count: usize, k: usize,
+            start: *mut usize, length: *mut usize, offset: *mut usize,
+        ) -> u32;
+        pub fn pw_salvage(
+            job: *const u8, len: usize, out: *mut u8, out_len: usize,
+            written: *mut usize, kept: *mut u32, lost: *mut u32, dropped: *mut usize, offset: *mut usize,
         ) -> u32;
     }
 }
@@ -345,5 +364,58 @@ impl Calls for Library {
             pw::pw_cif_read(text.as_ptr(), text.len(), list.as_mut_ptr(), list.len(), &mut shots, &mut offset)
         };
         Told::of(number, &[shots as u64, offset as u64])
+    }
+
+    fn index_open(&self, job: &[u8], index: &mut [u16]) -> Told {
+        let (mut outlines, mut offset) = (MARK, MARK_SIZE);
+        let number = unsafe {
+            pw::pw_index_open(job.as_ptr(), job.len(), index.as_mut_ptr(), index.len(), &mut outlines, &mut offset)
+        };
+        Told::of(number, &[outlines as u64, offset as u64])
+    }
+
+    fn index_append(&self, job: &[u8], drawing: &Drawing, index: &mut [u16], out: &mut [u8]) -> Told {
+        let (mut written, mut outlines, mut offset) = (MARK_SIZE, MARK, MARK_SIZE);
+        let number = unsafe {
+            pw::pw_index_append(
+                job.as_ptr(), job.len(),
+                drawing.corners.as_ptr(), drawing.corners.len(), drawing.rings.as_ptr(), drawing.rings.len(),
+                index.as_mut_ptr(), index.len(), out.as_mut_ptr(), out.len(),
+                &mut written, &mut outlines, &mut offset,
+            )
+        };
+        Told::of(number, &[written as u64, outlines as u64, offset as u64])
+    }
+
+    fn index_remove(&self, job: &[u8], k: usize, index: &mut [u16], out: &mut [u8]) -> Told {
+        let (mut written, mut outlines, mut offset) = (MARK_SIZE, MARK, MARK_SIZE);
+        let number = unsafe {
+            pw::pw_index_remove(
+                job.as_ptr(), job.len(), k, index.as_mut_ptr(), index.len(), out.as_mut_ptr(), out.len(),
+                &mut written, &mut outlines, &mut offset,
+            )
+        };
+        Told::of(number, &[written as u64, outlines as u64, offset as u64])
+    }
+
+    fn index_pick(&self, job: &[u8], index: &[u16], count: usize, k: usize) -> Told {
+        let (mut start, mut length, mut offset) = (MARK_SIZE, MARK_SIZE, MARK_SIZE);
+        let number = unsafe {
+            pw::pw_index_pick(
+                job.as_ptr(), job.len(), index.as_ptr(), index.len(), count, k, &mut start, &mut length, &mut offset,
+            )
+        };
+        Told::of(number, &[start as u64, length as u64, offset as u64])
+    }
+
+    fn salvage(&self, job: &[u8], out: &mut [u8]) -> Told {
+        let (mut written, mut kept, mut lost, mut dropped, mut offset) = (MARK_SIZE, MARK, MARK, MARK_SIZE, MARK_SIZE);
+        let number = unsafe {
+            pw::pw_salvage(
+                job.as_ptr(), job.len(), out.as_mut_ptr(), out.len(),
+                &mut written, &mut kept, &mut lost, &mut dropped, &mut offset,
+            )
+        };
+        Told::of(number, &[written as u64, kept as u64, lost as u64, dropped as u64, offset as u64])
     }
 }

@@ -33,12 +33,12 @@ unfolding isRefused
 returns c =
     let refused = c .before .before in
     let done = refused .before .before .before .before .before in
-    let known = done .before .before .before .before .before in
+    let known = done .before .before .before .before .before .before in
     let start = known .before in
     let s : List ℕ = start .args .job .now in
     let bytes : AllBytes s = λ i. omega (arith, known .shared-slice-known .given i) in
-    let words = figure-words s (start .args .header) (start .pre .0) bytes (start .args .k) (start .pre .1 .0) in
-    let range = sound-accepted s (start .args .header) (start .pre .0) .range in (
+    let words = figure-words s (start .args .header) (start .pre .0 .sound) bytes (start .args .k) (start .pre .1 .0) in
+    let range = sound-accepted s (start .args .header) (start .pre .0 .sound) .range in (
       refused .is-refused .ensures
           ∙ told-refused _ range words (start .pre .1 .1 .0) (start .pre .1 .1 .1) (done .fracture-outline .result) _ _ (done .fracture-outline .ensures),
       c .print-outline .ensures,

@@ -12,11 +12,11 @@ use Rattle.prep.proofs.outlines.run_outlines.Statement.{statement}
 use Rattle.prep.proofs.outlines.run_outlines.Tie as tie
 
 abbrev Inv-loop : tie.InvT-loop
-Inv-loop job header table₀ list₀ count next₀ refused₀ k₀ table list next refused k =
+Inv-loop job index header table₀ list₀ count next₀ refused₀ k₀ table list next refused k =
     (length table ≡ length table₀) × (length list ≡ length list₀) × (k ≤ count) × (refused ≡ anyRefused job k) × Remembers next₀ next
 
 abbrev μ-loop : tie.MeasureT-loop
-μ-loop job header table₀ list₀ count next₀ refused₀ k₀ table list next refused k = count - k
+μ-loop job index header table₀ list₀ count next₀ refused₀ k₀ table list next refused k = count - k
 
 loop-holds : tie.Need-loop-holds Inv-loop μ-loop
 unfolding anyRefused
@@ -27,7 +27,7 @@ cast-run-outline c = search needs
 
 run-outline-requires : tie.Need-run-outline-requires Inv-loop μ-loop
 run-outline-requires c κs =
-    let start = c .before .before .before .before .before .before .before in
+    let start = c .before .before .before .before .before .before .before .before in
     (start .pre .0, (search needs, (omega arith, omega arith)))
 
 either-requires : tie.Need-either-requires Inv-loop μ-loop
@@ -60,7 +60,7 @@ same-length-2 c = search needs
 returns : tie.Need-returns Inv-loop μ-loop
 returns c =
     let here = c .before in
-    let all : here .loop .k ≡ here .before .before .before .before .args .header .outlines = omega arith in
+    let all : here .loop .k ≡ here .before .before .before .before .before .args .header .outlines = omega arith in
     (inr (here .loop .inv .3 ∙ ap (anyRefused _) all), here .loop .inv .4)
 
 same-length-3 : tie.Need-same-length-3 Inv-loop μ-loop

@@ -18,11 +18,11 @@ enum-told c = search needs
 enum-known-v : tie.Need-enum-known-v
 enum-known-v c = search needs
 
-cast-t15 : tie.Need-cast-t15
-cast-t15 c = search needs
-
 cast-t16 : tie.Need-cast-t16
 cast-t16 c = search needs
+
+cast-t17 : tie.Need-cast-t17
+cast-t17 c = search needs
 
 same-length : tie.Need-same-length
 same-length c = search needs
@@ -34,10 +34,10 @@ returns : tie.Need-returns
 returns c =
     let u = c .before .before .before .before .before .before in
     let p = u .before .before .before in
-    let known = p .before .before .before in
+    let known = p .before .before .before .before in
     let start = known .before in
     let bytes : AllBytes (start .args .job .now) = λ i. omega (arith, known .shared-slice-known .given i) in
-    absurd (refused-never (start .args .job .now) (start .args .header) (start .pre .0) bytes (start .args .k) (start .pre .1 .0) (p .part-of .ensures) (u .unpack .result) _ _ _ _ (u .unpack .ensures) (start .pre .1 .1 .0) (start .pre .1 .1 .1) (c .enum-told .given .1))
+    absurd (refused-never (start .args .job .now) (start .args .header) (start .pre .0 .sound) bytes (start .args .k) (start .pre .1 .0) (p .part-of .ensures) (u .unpack .result) _ _ _ _ (u .unpack .ensures) (start .pre .1 .1 .0) (start .pre .1 .1 .1) (c .enum-told .given .1))
 
 same-length-3 : tie.Need-same-length-3
 same-length-3 c = search needs
@@ -49,10 +49,10 @@ returns-2 : tie.Need-returns-2
 returns-2 c =
     let u = c .before .before .before .before .before .before .before in
     let p = u .before .before .before in
-    let known = p .before .before .before in
+    let known = p .before .before .before .before in
     let start = known .before in
     let bytes : AllBytes (start .args .job .now) = λ i. omega (arith, known .shared-slice-known .given i) in
-    unpacked-fronts (start .args .job .now) (start .args .header) (start .pre .0) bytes (start .args .k) (start .pre .1 .0) (p .part-of .ensures) (u .unpack .result) _ _ _ _ (u .unpack .ensures) (start .pre .1 .1 .0) (start .pre .1 .1 .1) (c .before .v .given .1)
+    unpacked-fronts (start .args .job .now) (start .args .header) (start .pre .0 .sound) bytes (start .args .k) (start .pre .1 .0) (p .part-of .ensures) (u .unpack .result) _ _ _ _ (u .unpack .ensures) (start .pre .1 .1 .0) (start .pre .1 .1 .1) (c .before .v .given .1)
 
 pub unpack-outline-spec : {M : Type 1} → statement M
 unpack-outline-spec =
@@ -62,8 +62,8 @@ unpack-outline-spec =
     unpack-requires
     enum-told
     enum-known-v
-    cast-t15
     cast-t16
+    cast-t17
     same-length
     same-length-2
     returns

@@ -1,0 +1,4 @@
+pub mod Keeping
+pub mod Saves
+pub mod Sound
+pub mod Settled

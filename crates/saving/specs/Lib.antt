@@ -1,0 +1,3 @@
+pub mod Salvage
+pub mod Report
+pub mod Steps
