@@ -1,7 +1,7 @@
 // The C interface of fractures with a largest side.
+use super::lend;
 use division::fracture_divided;
 use piece::Mode;
-use super::lend;
 ghost use mathlib.Core.Path.{_≡_};
 ghost use Rattle.piece.specs.declared.Mode.the-variants.{Straight, Pinwheel};
 ghost use Rattle.demands.specs.Promise.{asked};

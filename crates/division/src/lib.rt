@@ -105,9 +105,7 @@ fn undivided(
     ensures words { λ a. ⌜ Words (figure (now (corners .entry)) (now (lengths .entry))) ⌝ }
 {
     match mode {
-        Mode::Straight => {
-            fracture::fracture(corners, lengths, threshold, weight, table, list)
-        }
+        Mode::Straight => { fracture::fracture(corners, lengths, threshold, weight, table, list) }
         Mode::Pinwheel => {
             fracture::fracture_pinwheel(corners, lengths, threshold, weight, table, list)
         }
@@ -129,15 +127,7 @@ fn divide(
     ensures { λ a. ⌜ told a (now (table .exit)) (now (list .exit)) ≡ dividedOutcome (asked mode (now (corners .entry)) (now (lengths .entry)) threshold weight (now (table .entry)) (now (list .entry))) largest ⌝ }
 {
     let mut aside = [0u16; ROOM_ASIDE];
-    let answer = undivided(
-        corners,
-        lengths,
-        threshold,
-        weight,
-        mode,
-        table,
-        &mut aside,
-    );
+    let answer = undivided(corners, lengths, threshold, weight, mode, table, &mut aside);
     match answer {
         Fractured::Done {
             shots,
