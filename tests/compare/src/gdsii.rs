@@ -51,7 +51,7 @@ const AMPLE: (usize, usize, usize) = (64, 14_400, 900);
 fn refused(library: Library, bytes: &[u8], number: u32, offset: u64, progress: &Progress) {
     let (read, made) = ask(library, bytes, AMPLE, 3, progress);
     assert_eq!(read, Told::of(number, &[0, 0, 0, offset]), "{bytes:x?}");
-    assert_eq!(made, Told::of(number, &[0, 0, 0, 0, 0, offset]), "{bytes:x?}");
+    assert_eq!(made, Told::of(number, &[0, 0, 0, 0, 0, 0, offset]), "{bytes:x?}");
 }
 
 fn signed(n: i64) -> u64 {
@@ -99,7 +99,7 @@ pub fn rows(plan: &Plan, progress: &Progress) {
     let (read, made) = ask(library, &plate, AMPLE, 1, progress);
     let shift = [signed(PLATE[0].0.into()), signed(PLATE[0].1.into())];
     assert_eq!(read, Told::done(&[4, shift[0], shift[1]]));
-    assert_eq!(made, Told::done(&[1, 1000, 0, shift[0], shift[1]]));
+    assert_eq!(made, Told::done(&[1, 1000, 0, 0, shift[0], shift[1]]));
     progress.done("GDSII: the document's rows".into());
 }
 
@@ -108,7 +108,7 @@ fn worked(library: Library, bytes: &[u8], progress: &Progress) {
     let (read, made) = ask(library, bytes, AMPLE, 9, progress);
     let shift = [signed(-50), 1000];
     assert_eq!(read, Told::done(&[6, shift[0], shift[1]]));
-    assert_eq!(made, Told::done(&[2, 5200, 80, shift[0], shift[1]]));
+    assert_eq!(made, Told::done(&[2, 5200, 80, 4, shift[0], shift[1]]));
     let (mut list, mut table, mut shots) = ([0; 12], [0; 9], [0; 8]);
     library.gdsii_read(bytes, &mut list);
     assert_eq!(list, [0, 0, 100, 0, 100, 20, 60, 20, 60, 80, 0, 80]);
