@@ -13,6 +13,7 @@
 --   short-keeps          == beside 7: the divided shots needed, zeros, the list as it came in, the table filled
 --   lengths-kept, written-beyond == buffers keep their lengths; behind what is written every number is as it came in, and every number of a
 --                           buffer that is not written
+--   divided-same         == what the buffers held before has no influence on the answer (proofs/Influence.antt)
 --   divided-unique       == two outcomes that are what was promised are equal
 -- The list
 --   reported-is          == the reported shots are those before division, each replaced by its parts, in their order (Division: parts-at,

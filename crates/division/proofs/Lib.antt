@@ -6,5 +6,6 @@ pub mod Loops
 pub mod Outcome
 pub mod Refusals
 pub mod Demands
+pub mod Influence
 pub mod Rows
 pub mod Settled
