@@ -37,9 +37,9 @@ ghost use Rattle.capi.specs.Lent.{presetLent, cutsLent, numberLent, numb
 
 mod divided;
 mod edges;
-mod texts;
 mod indexes;
 mod salvages;
+mod texts;
 
 // The rule of a preset, or 15.
 #[no_mangle]
