@@ -47,7 +47,7 @@ module _ {U : Type 0} (num off : U → ℕ) (no : ℕ → ℕ → U) (num-no : (
   number-of : (r : Refusal) (o : ℕ) → C r o → num u ≡ refusalNo r
   number-of r o h = ap num (law r o h) ∙ num-no (refusalNo r) o
 
-  exactly : (r : Refusal) (o : ℕ) → ((num u ≡ refusalNo r) × (off u ≡ o)) ↔ C r o
+  pub exactly : (r : Refusal) (o : ℕ) → ((num u ≡ refusalNo r) × (off u ≡ o)) ↔ C r o
   exactly r o = ((λ e. go cases (e .0) (e .1)), λ h. (number-of r o h, ap off (law r o h) ∙ off-no (refusalNo r) o))
     where
       go : ((r : Refusal) × (o : ℕ) × C r o) ⊎ (num u ≡ 0) → num u ≡ refusalNo r → off u ≡ o → C r o
@@ -57,14 +57,14 @@ module _ {U : Type 0} (num off : U → ℕ) (no : ℕ → ℕ → U) (num-no : (
           subst (λ m. C r m) b (subst (λ (c : Refusal). C c (h .1)) a (h .2))
       go (inr z) n p = absurd (never r (sym z ∙ n))
 
-  accepted : (num u ≡ 0) ↔ ((r : Refusal) (o : ℕ) → C r o → ⊥)
+  pub accepted : (num u ≡ 0) ↔ ((r : Refusal) (o : ℕ) → C r o → ⊥)
   accepted = ((λ z r o h. never r (sym z ∙ number-of r o h)), λ f. go cases f)
     where
       go : ((r : Refusal) × (o : ℕ) × C r o) ⊎ (num u ≡ 0) → ((r : Refusal) (o : ℕ) → C r o → ⊥) → num u ≡ 0
       go (inl h) f = absurd (f (h .0) (h .1) (h .2))
       go (inr z) f = z
 
-  keeps : (r : Refusal) → num u ≡ refusalNo r → u ≡ no (refusalNo r) (off u)
+  pub keeps : (r : Refusal) → num u ≡ refusalNo r → u ≡ no (refusalNo r) (off u)
   keeps r n = law r (off u) (exactly r (off u) .0 (n, refl))
 
 -- Opening

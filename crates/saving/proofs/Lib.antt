@@ -2,3 +2,4 @@ pub mod Keeping
 pub mod Saves
 pub mod Sound
 pub mod Settled
+pub mod Exactly

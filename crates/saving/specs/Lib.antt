@@ -1,3 +1,4 @@
 pub mod Salvage
 pub mod Report
+pub mod Faults
 pub mod Steps
