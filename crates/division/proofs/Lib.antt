@@ -6,6 +6,7 @@ pub mod Loops
 pub mod Outcome
 pub mod Refusals
 pub mod Demands
+pub mod Call
 pub mod Influence
 pub mod Rows
 pub mod Settled
