@@ -313,6 +313,8 @@ static void read_text(void) {
   expect("shots", shots);
   expect("offset", offset);
   expect("list", hash_list(list_len));
+}
+
 static void index_open(void) {
   size_t len = size(), index_len = size(), offset = 77;
   uint32_t outlines = 777, mark = word();

@@ -104,6 +104,7 @@ mod pw {
         pub fn pw_cif_write(list: *const u16, list_len: usize, out: *mut u8, out_len: usize, written: *mut usize) -> u32;
         pub fn pw_cif_read(
             text: *const u8, len: usize, list: *mut u16, list_len: usize, shots: *mut usize, offset: *mut usize,
+        ) -> u32;
         pub fn pw_index_open(
             job: *const u8, len: usize, index: *mut u16, index_len: usize, outlines: *mut u32, offset: *mut usize,
         ) -> u32;
