@@ -31,6 +31,9 @@
  *     (PW_OUT_OF_RANGE), the first byte too many (PW_BYTES_LEFT); offset beside PW_BYTES_END from
  *     pw_gdsii_read and pw_gdsii_fracture is where the record that is cut short starts; offset beside
  *     PW_TEXT is where the first line at fault starts, the length of the text where lines are lacking.
+ *   - On success offset is 0.
+ *   - A call takes stack and no other memory: up to 27 kB where it fractures, up to 141 kB where it
+ *     fractures by pinwheels, a few kB else (measured on aarch64).
  *
  * All places are whole nanometres, 0 to 65535, but for those in a GDSII element, which are signed and of
  * 32 bits.
@@ -40,6 +43,9 @@
 
 #include <stddef.h>
 #include <stdint.h>
+
+/* The version of this header: that of the file VERSION, and of the library that was built with it. */
+#define PW_VERSION "0.1.0"
 
 #ifdef __cplusplus
 extern "C" {
@@ -76,6 +82,37 @@ enum pw_refusal {
                            whole nanometres or outside 0 to 65535 */
   PW_NO_EDGE = 23       /* edge asked for, not below the number of corners */
 };
+
+/* A short text for the number of a refusal: a static string, never null; for 0 and for a number that no call gives,
+ * that it is none. */
+static inline const char *pw_refusal_text(uint32_t number) {
+  switch (number) {
+  case PW_RULE: return "threshold or weight above 1000";
+  case PW_LENGTH: return "not 1 to 8 rings of 4 to 32 corners each, 32 in all";
+  case PW_SLANTED: return "an edge changes both coordinates";
+  case PW_STRAIGHT: return "an edge changes neither coordinate, or two neighbours change the same one";
+  case PW_EMPTY: return "nothing is inside";
+  case PW_TABLE_SHORT: return "the cost table has fewer entries than there are pieces";
+  case PW_LIST_SHORT: return "the shot list holds fewer than 4 numbers a shot";
+  case PW_BYTES_END: return "the bytes end within a number or a record, or before one";
+  case PW_NOT_SHORTEST: return "a number's last byte is 0 and not its only one";
+  case PW_OUT_OF_RANGE: return "a number has over three bytes, or is outside its range";
+  case PW_BYTES_LEFT: return "bytes follow the last outline";
+  case PW_JOB_LONG: return "the job is over 4096 bytes";
+  case PW_NO_OUTLINE: return "there is no outline of that number";
+  case PW_BUFFER_SHORT: return "a buffer is too short for what would be written";
+  case PW_NO_PRESET: return "there is no preset of that number";
+  case PW_RECORD: return "a record out of order, of another data type or of wrong length, or bytes after ENDEL";
+  case PW_NOT_CLOSED: return "the last point is unlike the first";
+  case PW_EXTENT: return "the extent is above 65535";
+  case PW_LARGEST: return "the largest side is below 200, below twice the threshold, or above 65535";
+  case PW_JOB_FULL: return "the job has 255 outlines already";
+  case PW_SHOT_LIST: return "not four numbers a shot, or a shot without area";
+  case PW_TEXT: return "not a CIF text of our form, or a shot in it that is none";
+  case PW_NO_EDGE: return "there is no edge of that number";
+  default: return number == PW_OK ? "no refusal" : "not the number of a refusal";
+  }
+}
 
 /* Room that is enough for every figure and every job. */
 enum pw_room {

@@ -8,6 +8,7 @@ import sys
 import unittest
 
 import pinarewhemi as pw
+from pinarewhemi._refused import TEXTS
 from pinarewhemi._table import CALLS, ROOMS
 
 ROOT = pathlib.Path(__file__).resolve().parents[3]
@@ -48,6 +49,10 @@ class Header(unittest.TestCase):
         self.assertGreaterEqual(len(declared), 20)
         self.assertEqual({name: named.get(name) for name in declared}, declared)
 
+    def test_texts(self):
+        told = dict(re.findall(r'case PW_(\w+): return "(.*?)";', HEADER))
+        self.assertEqual(told, {refusal.name: TEXTS[refusal] for refusal in pw.Refusal})
+
     def test_rooms(self):
         declared = constants("pw_room")
         self.assertGreaterEqual(len(declared), 9)
@@ -65,6 +70,7 @@ class Header(unittest.TestCase):
         self.assertIn("/nowhere/libpinarewhemi.so: there is none", told.stderr)
 
     def test_version(self):
+        self.assertEqual(re.search(r'#define PW_VERSION "(.*?)"', HEADER).group(1), pw.__version__)
         self.assertEqual(pw.__version__, (ROOT / "VERSION").read_text().strip())
 
 
