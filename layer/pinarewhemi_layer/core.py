@@ -1,0 +1,349 @@
+"""A layer of a layout to shots: the core, the same in the command, in `klayout -b -r` and in KLayout's window. `db` is
+klayout.db or pya.
+
+In steps, which the command takes one by one to spread them over workers:
+
+    prepare   magnified and oddly turned instances flattened, 1 nm a whole number of database units, other trees gone
+    merged    the layer merged, hierarchy kept, on a working layer
+    gather    each distinct figure once, and where it stands in which cell
+    answer    each distinct figure through the library
+    place     the shots, charged sides and what is beyond our limits into the cells
+"""
+
+import collections
+import fractions
+from typing import NamedTuple
+
+from pinarewhemi import Refusal
+
+from .figures import OFF_GRID, Answer, Fracturer
+
+# Where things go, by data type: shots, charged sides of slivers, what is beyond our limits.
+SHOTS, SIDES, BEYOND = 1, 2, 9
+MOST = 2**31 - 1
+
+
+class Told(Exception):
+    """Why a layer is not done, in one line for the user."""
+
+
+class Layer(NamedTuple):
+    """The number and data type of a layer."""
+
+    number: int
+    datatype: int = 0
+
+    def __str__(self):
+        return f"{self.number}/{self.datatype}"
+
+
+class Gathered:
+    """The figures of a layer: the distinct ones, moved to 0, 0, in the order in which they came, and by cell where they
+    stand: (form, x, y) each. copies is how often a cell's content is placed below the top."""
+
+    def __init__(self):
+        self.forms = []
+        self.numbers = {}
+        self.places = {}
+        self.copies = {}
+
+    def number(self, form):
+        """The number of a form, which is new or not. The key is KLayout's normal form: a merged polygon, moved to 0, 0."""
+        number = self.numbers.get(form)
+        if number is None:
+            number = self.numbers[form] = len(self.forms)
+            self.forms.append(form)
+        return number
+
+    def standing(self):
+        """How often each form stands on the layer, over the hierarchy."""
+        total = [0] * len(self.forms)
+        for cell, figures in self.places.items():
+            copies = self.copies[cell]
+            for form, _, _ in figures:
+                total[form] += copies
+        return total
+
+
+class Done:
+    """What was done: for each distinct figure its answer, its corners and rings and how often it stands; and the totals
+    over the layer."""
+
+    def __init__(self, layer, gathered, answers):
+        self.layer = layer
+        self.forms = gathered.forms
+        self.answers = answers
+        self.copies = gathered.standing()
+        self.figures = sum(self.copies)
+        self.shots = self.cost = self.sliver = self.cuts = 0
+        self.refused = collections.Counter()
+        self.parted = collections.Counter()
+        for answer, copies in zip(answers, self.copies):
+            if answer.refused is not None:
+                self.refused[answer.refused] += copies
+                continue
+            shots = len(answer.shots) // 4
+            self.shots += copies * shots
+            self.cost += copies * answer.cost
+            self.sliver += copies * answer.sliver
+            self.cuts += copies * answer.cuts
+            if answer.parts:
+                self.parted.update(figures=copies, shots=copies * shots, cost=copies * answer.cost)
+
+    def line(self):
+        """The totals in one line."""
+        words = [f"layer {self.layer} figures {self.figures} distinct {len(self.forms)}"]
+        words.append(f"shots {self.shots} cost {self.cost} sliver {self.sliver} beyond {sum(self.refused.values())}")
+        words += [f"{name_of(number)} {count}" for number, count in sorted(self.refused.items())]
+        if self.parted:
+            words.append("unproved figures {figures} shots {shots} cost {cost}".format(**self.parted))
+        return " ".join(words)
+
+
+def name_of(refused):
+    """How a line speaks of a refusal."""
+    return "off-grid" if refused == OFF_GRID else f"refused-{refused}"
+
+
+def units_of(db, layout):
+    """The database unit as a fraction of 1 nm: (units, scale), where the layout, scaled up by `scale`, has `units`
+    database units to the nm."""
+    unit = fractions.Fraction(layout.dbu * 1000).limit_denominator(10000)
+    if unit <= 0 or abs(float(unit) - layout.dbu * 1000) > 1e-9 * layout.dbu * 1000:
+        raise Told(f"the database unit of {layout.dbu:g} um is neither a whole part nor a whole multiple of 1 nm")
+    return unit.denominator, unit.numerator
+
+
+def flatten_complex(db, layout, top):
+    """Instances that are magnified or turned by an odd angle become shapes of the cell that they are in, from the top
+    down, so that each point is rounded once. How many were flattened."""
+    count = 0
+    within = {top.cell_index(), *top.called_cells()}
+    for index in [index for index in layout.each_cell_top_down() if index in within]:
+        cell = layout.cell(index)
+        found = [instance for instance in cell.each_inst() if instance.is_complex()]
+        if not found:
+            continue
+        count += len(found)
+        aside = layout.create_cell("pinarewhemi")
+        for instance in found:
+            aside.insert(instance.cell_inst)
+        for instance in found:
+            instance.delete()
+        aside.flatten(False)
+        cell.move_shapes(aside)
+        aside.delete()
+    return count
+
+
+def prepare(db, layout, top):
+    """Makes the layout one in which every figure has its true size: trees other than the top's are gone, magnified and
+    oddly turned instances are shapes, and 1 nm is a whole number of database units, which is given back."""
+    units, scale = units_of(db, layout)
+    flatten_complex(db, layout, top)
+    within = {top.cell_index(), *top.called_cells()}
+    others = [cell.cell_index() for cell in layout.each_cell() if cell.cell_index() not in within]
+    if others:
+        layout.delete_cells(others)
+    if scale > 1:
+        box = top.bbox()
+        if not box.empty() and scale * max(map(abs, (box.left, box.bottom, box.right, box.top))) > MOST:
+            raise Told(f"with a database unit of {layout.dbu:g} um the layout is too large for whole nm in 32 bits")
+        layout.scale_and_snap(top, 1, scale, 1)
+        layout.dbu = 0.001 / units
+    return units
+
+
+def tally(db, layout, top):
+    """How often each cell's content is placed below the top, in the order from the top down."""
+    within = {top.cell_index(), *top.called_cells()}
+    copies = {index: 0 for index in layout.each_cell_top_down() if index in within}
+    copies[top.cell_index()] = 1
+    for index in copies:
+        for instance in layout.cell(index).each_inst():
+            copies[instance.cell_index] += copies[index] * instance.cell_inst.size()
+    return copies
+
+
+def merged(db, layout, top, layer):
+    """A working layer with the merged figures, each in the cell that holds all of it. Figures that touch in a corner
+    only are two."""
+    store = db.DeepShapeStore()
+    region = db.Region(top.begin_shapes_rec(layer), store)
+    region.min_coherence = True
+    region.merge()
+    work = layout.insert_layer(db.LayerInfo())
+    layout.insert(top.cell_index(), work, region)
+    return work
+
+
+def gather(db, layout, top, work, show=None):
+    """The distinct figures of a merged layer and where they stand, hierarchy kept. The working layer is gone then."""
+    gathered = Gathered()
+    gathered.copies = tally(db, layout, top)
+    total = sum(layout.cell(index).shapes(work).size() for index in gathered.copies)
+    done = 0
+    for index in gathered.copies:
+        figures = []
+        for shape in layout.cell(index).shapes(work).each():
+            polygon = shape.polygon
+            corner = polygon.bbox().p1
+            x, y = corner.x, corner.y
+            figures.append((gathered.number(polygon.move(-x, -y)), x, y))
+            done += 1
+            if show and done % 4096 == 0:
+                show("figures", done, total)
+        if figures:
+            gathered.places[index] = figures
+    layout.delete_layer(work)
+    return gathered
+
+
+def rings_of(form):
+    """The rings of a polygon, hull first, as lists x, y, x, y, ..."""
+    rings = [[number for point in form.each_point_hull() for number in (point.x, point.y)]]
+    for hole in range(form.holes()):
+        rings.append([number for point in form.each_point_hole(hole) for number in (point.x, point.y)])
+    return rings
+
+
+def answer(fracturer, form, units, beyond=None):
+    """The answer for one form. With `beyond`, a right-angled figure that the library refuses is made up of parts."""
+    rings = rings_of(form)
+    if units > 1:
+        if any(number % units for ring in rings for number in ring):
+            return Answer(OFF_GRID)
+        rings = [[number // units for number in ring] for ring in rings]
+    given = fracturer.answer(rings)
+    if beyond and given.refused in (Refusal.LENGTH, Refusal.EXTENT) and form.is_rectilinear():
+        return beyond(fracturer, rings)
+    return given
+
+
+def answers(fracturer, forms, units, beyond=None, show=None):
+    """The answers for all forms, in their order."""
+    given = []
+    for form in forms:
+        given.append(answer(fracturer, form, units, beyond))
+        if show and len(given) % 1024 == 0:
+            show("distinct", len(given), len(forms))
+    return given
+
+
+class Placing:
+    """Puts answers into cells: boxes and paths where a figure stands, or, where that is fewer elements, a cell of its
+    shots that is placed."""
+
+    def __init__(self, db, layout, layer, gathered, given, units):
+        self.db, self.layout, self.gathered, self.given, self.units = db, layout, gathered, given, units
+        self.layers = [layout.layer(layer.number, datatype) for datatype in (SHOTS, SIDES, BEYOND)]
+        self.cells = {}
+
+    def all(self, show=None):
+        """Places everything."""
+        total = sum(map(len, self.gathered.places.values()))
+        done = 0
+        for index, figures in self.gathered.places.items():
+            self.into(self.layout.cell(index), figures)
+            done += len(figures)
+            if show:
+                show("placed", done, total)
+
+    def into(self, cell, figures):
+        """Places the figures of one cell."""
+        often = collections.Counter(form for form, _, _ in figures)
+        shapes = [cell.shapes(layer) for layer in self.layers]
+        placed = {form: self.cell_of(form) for form, copies in often.items() if self.worth(form, copies)}
+        # one array for all: a new one for each instance takes thrice the time
+        array = self.db.CellInstArray(0, self.db.Trans())
+        for form, x, y in figures:
+            if form in placed:
+                array.cell_index = placed[form]
+                array.trans = self.db.Trans(x, y)
+                cell.insert(array)
+            else:
+                self.draw(form, x, y, *shapes)
+
+    def worth(self, form, copies):
+        """Whether placing a cell of its shots takes fewer elements than drawing them for each copy."""
+        answer = self.given[form]
+        elements = len(answer.shots) // 4 + len(answer.sides) if answer.refused is None else 1
+        return elements + copies < elements * copies
+
+    def cell_of(self, form):
+        """The cell with the shots of a form, at 0, 0."""
+        if form not in self.cells:
+            cell = self.layout.create_cell(f"PINAREWHEMI_{form}")
+            self.draw(form, 0, 0, *[cell.shapes(layer) for layer in self.layers])
+            self.cells[form] = cell.cell_index()
+        return self.cells[form]
+
+    def draw(self, form, x, y, shots, sides, beyond):
+        """The elements of a form whose frame begins at x, y."""
+        answer, units, db = self.given[form], self.units, self.db
+        if answer.refused is not None:
+            beyond.insert_polygon(self.gathered.forms[form].moved(x, y))
+            return
+        numbers = iter(answer.shots)
+        for left, bottom, right, top in zip(numbers, numbers, numbers, numbers):
+            shots.insert_box(db.Box(x + units * left, y + units * bottom, x + units * right, y + units * top))
+        for a, b, c, d in answer.sides:
+            ends = [db.Point(x + units * a, y + units * b), db.Point(x + units * c, y + units * d)]
+            sides.insert_path(db.Path(ends, 0))
+
+
+def refuse_taken(db, layout, layer):
+    """What is kept must not mix with what we write."""
+    for datatype in (SHOTS, SIDES, BEYOND):
+        index = layout.find_layer(layer.number, datatype)
+        if index is not None and any(cell.shapes(index).size() for cell in layout.each_cell()):
+            raise Told(f"there are shapes on {layer.number}/{datatype} already, where ours would go")
+
+
+def drop_layers(db, layout):
+    """All layers are gone; the cells stay."""
+    for index in layout.layer_indexes():
+        layout.delete_layer(index)
+
+
+def top_of(db, layout, name=None):
+    """The cell of that name, or the only top cell."""
+    if name is not None:
+        cell = layout.cell(name)
+        if cell is None:
+            raise Told(f"there is no cell {name}")
+        return cell
+    tops = layout.top_cells()
+    if len(tops) != 1:
+        names = ", ".join(sorted(cell.name for cell in tops)[:5]) + (", .." if len(tops) > 5 else "")
+        raise Told(f"it has {len(tops)} top cells ({names}): --cell names one" if tops else "it has no cell")
+    return tops[0]
+
+
+def index_of(db, layout, top, layer):
+    """The index of the layer to read, which has to hold something."""
+    index = layout.find_layer(layer.number, layer.datatype)
+    if index is None or top.begin_shapes_rec(index).at_end():
+        raise Told(f"there is nothing on layer {layer}")
+    return index
+
+
+def fracture_layer(
+    db, layout, layer, threshold, weight, cell=None, largest=None, pinwheels=False, beyond=None, keep=True, show=None
+):
+    """Fractures a layer of a layout, in place: shots on L/1, charged sides of slivers on L/2, what is beyond our limits
+    on L/9; the layers that were there stay, unless keep is off. Gives what was done. Raises Told and
+    pinarewhemi.Refused."""
+    fracturer = Fracturer(threshold, weight, largest, pinwheels)
+    layer = Layer(*layer)
+    top = top_of(db, layout, cell)
+    index = index_of(db, layout, top, layer)
+    if keep:
+        refuse_taken(db, layout, layer)
+    units = prepare(db, layout, top)
+    gathered = gather(db, layout, top, merged(db, layout, top, index), show)
+    given = answers(fracturer, gathered.forms, units, beyond, show)
+    if not keep:
+        drop_layers(db, layout)
+    Placing(db, layout, layer, gathered, given, units).all(show)
+    return Done(layer, gathered, given)

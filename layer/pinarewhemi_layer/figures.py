@@ -1,0 +1,123 @@
+"""One figure to its shots, through the library: fast, since a layer has many. A figure is its rings, each the numbers
+x, y, x, y, .. of its corners in whole nm, moved so that its frame begins at 0, 0."""
+
+import array
+import ctypes
+from typing import NamedTuple, Tuple
+
+from pinarewhemi import Refusal, Refused
+from pinarewhemi._calls import CALLS
+from pinarewhemi._table import ROOMS
+
+# A figure whose sizes are not whole nm: no call is asked, so no refusal of the library has this number.
+OFF_GRID = 0
+WIDEST = 65535
+
+
+class Answer(NamedTuple):
+    """What became of a figure. refused is None where it was fractured, else a refusal's number, or OFF_GRID; shots are
+    four numbers each, one after the other; sides are the charged stretches of slivers, x, y, x, y each; parts is 0
+    where the figure was fractured as a whole, by the proved library, else of how many parts it was made up."""
+
+    refused: object = None
+    shots: Tuple[int, ...] = ()
+    cost: int = 0
+    sliver: int = 0
+    cuts: int = 0
+    sides: Tuple[Tuple[int, int, int, int], ...] = ()
+    parts: int = 0
+
+
+class Fracturer:
+    """The rule, the mode, and the buffers that every call is lent anew. Raises Refused where the rule or the largest
+    side is not one."""
+
+    def __init__(self, threshold, weight, largest=None, pinwheels=False):
+        self.threshold, self.weight, self.largest, self.pinwheels = threshold, weight, largest, pinwheels
+        whole = "pw_fracture_pinwheel" if pinwheels else "pw_fracture"
+        name = whole if largest is None else whole + "_divided"
+        for needed in (whole, name):
+            if needed not in CALLS:
+                raise ImportError(f"the library has no {needed}")
+        self._whole = CALLS[whole].function
+        self._asked = CALLS[name].function
+        self._rule = (threshold, weight)
+        self._words = self._rule if largest is None else (threshold, weight, largest)
+        self._table = (ctypes.c_uint32 * ROOMS["PW_TABLE_ENTRIES"])()
+        self._room = ROOMS["PW_LIST_NUMBERS"] if largest is None else ROOMS["PW_DIVIDED_NUMBERS"]
+        self._list = (ctypes.c_uint16 * self._room)()
+        self._told = [ctypes.c_uint32() for _ in range(4)]
+        self._lent = [ctypes.byref(number) for number in self._told]
+        refused = self._call(self._asked, self._words, ((0, 0, 9, 0, 9, 9, 0, 9),))
+        if refused:
+            raise Refused(refused, name)
+
+    def _call(self, function, words, rings):
+        corners = array.array("H", [number for ring in rings for number in ring])
+        lengths = array.array("H", [min(len(ring) // 2, WIDEST) for ring in rings])
+        given = (ctypes.c_uint16 * max(len(corners), 1)).from_buffer(corners)
+        beside = (ctypes.c_uint16 * max(len(lengths), 1)).from_buffer(lengths)
+        lent = self._table, len(self._table), self._list, self._room
+        return function(given, len(corners), beside, len(lengths), *words, *lent, *self._lent)
+
+    def answer(self, rings):
+        """The answer for a figure whose frame begins at 0, 0."""
+        if max(map(max, rings)) > WIDEST:
+            return Answer(int(Refusal.EXTENT))
+        refused = self._call(self._asked, self._words, rings)
+        if refused:
+            return Answer(int(refused))
+        count, cost, sliver, cuts = [number.value for number in self._told]
+        shots = tuple(self._list[: 4 * count])
+        sides = ()
+        if sliver:
+            whole = shots
+            if self.largest is not None:
+                # a dividing line is not exposed: what is charged are the sides before division
+                self._call(self._whole, self._rule, rings)
+                whole = tuple(self._list[: 4 * self._told[0].value])
+            sides = charged_sides(rings, whole, self.threshold)
+            if sum(abs(c - a) + abs(d - b) for a, b, c, d in sides) != sliver:
+                raise AssertionError("the charged sides are not as long as the sliver that the library tells")
+        return Answer(None, shots, cost, sliver, cuts, sides)
+
+
+def _walls(rings):
+    """The upright edges by their x, the level ones by their y: stretches from low to high."""
+    upright, level = {}, {}
+    for ring in rings:
+        x, y = ring[-2], ring[-1]
+        for at in range(0, len(ring), 2):
+            to_x, to_y = ring[at], ring[at + 1]
+            if x == to_x:
+                upright.setdefault(x, []).append((min(y, to_y), max(y, to_y)))
+            else:
+                level.setdefault(y, []).append((min(x, to_x), max(x, to_x)))
+            x, y = to_x, to_y
+    return upright, level
+
+
+def _exposed(stretches, low, high):
+    """What of the stretches lies between low and high, in rising order."""
+    found = ((max(low, start), min(high, end)) for start, end in stretches)
+    return sorted((start, end) for start, end in found if start < end)
+
+
+def charged_sides(rings, shots, threshold):
+    """The exposed stretches of the two longer sides of each shot that is a sliver (docs/SCOPE.md, "Pieces, slivers,
+    cost"). The figure is merged, so a side of a shot is exposed exactly where an edge of the figure lies on it."""
+    upright, level = _walls(rings)
+    sides = []
+    for at in range(0, len(shots), 4):
+        left, bottom, right, top = shots[at : at + 4]
+        width, height = right - left, top - bottom
+        if min(width, height) >= threshold:
+            continue
+        standing = [(x, a, x, b) for x in (left, right) for a, b in _exposed(upright.get(x, ()), bottom, top)]
+        lying = [(a, y, b, y) for y in (bottom, top) for a, b in _exposed(level.get(y, ()), left, right)]
+        if width == height:
+            longer = max(standing, lying, key=lambda pair: sum(c - a + d - b for a, b, c, d in pair))
+        else:
+            longer = standing if height > width else lying
+        sides += longer
+    return tuple(sides)

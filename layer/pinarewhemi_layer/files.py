@@ -1,0 +1,135 @@
+"""Layout files read and written through KLayout, and files written aside and then renamed."""
+
+import contextlib
+import csv
+import os
+import signal
+import stat
+import threading
+
+from .core import Told, rings_of
+from .figures import OFF_GRID
+
+SUFFIXES = (".gds", ".gds2", ".gds.gz", ".gds2.gz", ".oas", ".oas.gz")
+
+
+def one_line(fault):
+    """What KLayout says, which may be several lines, in one."""
+    return " ".join(str(fault).split())
+
+
+@contextlib.contextmanager
+def interruptible():
+    """While KLayout is in one call Python does not get to see Ctrl-C: there it ends the process at once, as it ends
+    other programs. Only where nothing is half written."""
+    if threading.current_thread() is not threading.main_thread():
+        yield
+        return
+    before = signal.signal(signal.SIGINT, signal.SIG_DFL)
+    try:
+        yield
+    finally:
+        signal.signal(signal.SIGINT, before)
+
+
+def read(db, path, layer=None):
+    """The layout of a file: all of it, or its cells with one layer alone."""
+    try:
+        if not stat.S_ISREG(os.stat(path).st_mode):
+            raise Told(f"{path}: not a file")
+        with open(path, "rb"):
+            pass
+    except OSError as fault:
+        raise Told(f"{path}: {fault.strerror}") from None
+    options = db.LoadLayoutOptions()
+    if layer is not None:
+        only = db.LayerMap()
+        only.map(db.LayerInfo(layer.number, layer.datatype), 0)
+        options.set_layer_map(only, False)
+    layout = db.Layout()
+    try:
+        with interruptible():
+            layout.read(path, options)
+    except RuntimeError as fault:
+        raise Told(f"{path}: cannot be read: {one_line(fault)}") from None
+    return layout
+
+
+def format_of(db, path):
+    """How KLayout is to write a file of that name: GDSII or OASIS, nothing in it that differs from run to run."""
+    options = db.SaveLayoutOptions()
+    if not path.lower().endswith(SUFFIXES) or not options.set_format_from_filename(path):
+        raise Told(f"{path}: its name has to end in .gds or .oas")
+    options.gds2_write_timestamps = False
+    options.write_context_info = False
+    return options
+
+
+class Aside:
+    """Files that are written under another name in the same folder, and all get their own at the end, or none does."""
+
+    def __init__(self):
+        self.files = []
+
+    def __enter__(self):
+        return self
+
+    def name(self, path):
+        """The name to write under. It keeps the ending, by which KLayout knows whether to compress."""
+        folder, name = os.path.split(os.path.abspath(path))
+        if not os.path.isdir(folder):
+            raise Told(f"{path}: there is no folder {folder}")
+        if os.path.isdir(path):
+            raise Told(f"{path}: it is a folder")
+        aside = os.path.join(folder, f".part-{os.getpid()}-{name}")
+        self.files.append((aside, path))
+        return aside
+
+    def settle(self):
+        """Everything was written: to the disk with it, then the names."""
+        for aside, _ in self.files:
+            with open(aside, "rb") as written:
+                os.fsync(written.fileno())
+        while self.files:
+            os.replace(*self.files[0])
+            self.files.pop(0)
+
+    def __exit__(self, *_):
+        for aside, _ in self.files:
+            with contextlib.suppress(OSError):
+                os.unlink(aside)
+
+
+def write(db, layout, path, options, aside):
+    """Writes the layout aside."""
+    name = aside.name(path)
+    try:
+        with open(name, "wb"):
+            pass
+        layout.write(name, options)
+    except OSError as fault:
+        raise Told(f"{path}: cannot be written: {fault.strerror}") from None
+    except RuntimeError as fault:
+        raise Told(f"{path}: cannot be written: {one_line(fault).replace(name, path)}") from None
+
+
+HEAD = ("figure", "corners", "rings", "copies", "shots", "cost", "sliver", "cuts", "refused", "parts")
+
+
+def report(done, path, aside):
+    """Writes a line for each distinct figure aside. refused is empty where it was fractured; parts is empty where that
+    is proved."""
+    try:
+        with open(aside.name(path), "w", newline="") as out:
+            lines = csv.writer(out, lineterminator="\n")
+            lines.writerow(HEAD)
+            for number, (form, answer, copies) in enumerate(zip(done.forms, done.answers, done.copies)):
+                rings = rings_of(form)
+                sizes = sum(map(len, rings)) // 2, len(rings), copies
+                if answer.refused is None:
+                    told = len(answer.shots) // 4, answer.cost, answer.sliver, answer.cuts, "", answer.parts or ""
+                else:
+                    told = "", "", "", "", "off-grid" if answer.refused == OFF_GRID else answer.refused, ""
+                lines.writerow((number, *sizes, *told))
+    except OSError as fault:
+        raise Told(f"{path}: cannot be written: {fault.strerror}") from None
