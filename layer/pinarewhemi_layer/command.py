@@ -107,17 +107,15 @@ def main(words=None):
     def tell(fault):
         print(f"pinarewhemi-layer: {fault}", file=sys.stderr)
 
-    def ended(*_):
-        raise KeyboardInterrupt
-
-    signal.signal(signal.SIGTERM, ended)
     try:
         import pinarewhemi
 
         from .core import Told
+        from .files import signals
     except ImportError as fault:
         tell(" ".join(str(fault).split()))
         return FAILED
+    signals(signal.SIG_DFL)
     try:
         status = run(given)
         sys.stdout.flush()

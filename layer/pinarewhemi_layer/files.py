@@ -18,18 +18,16 @@ def one_line(fault):
     return " ".join(str(fault).split())
 
 
-@contextlib.contextmanager
-def interruptible():
-    """While KLayout is in one call Python does not get to see Ctrl-C: there it ends the process at once, as it ends
-    other programs. Only where nothing is half written."""
-    if threading.current_thread() is not threading.main_thread():
-        yield
-        return
-    before = signal.signal(signal.SIGINT, signal.SIG_DFL)
-    try:
-        yield
-    finally:
-        signal.signal(signal.SIGINT, before)
+def interrupted(*_):
+    """What Ctrl-C and a request to end do while files are written aside: these go, then the program ends."""
+    raise KeyboardInterrupt
+
+
+def signals(action):
+    """Sets what Ctrl-C and a request to end do; nothing where this is not the main thread, which alone may."""
+    if threading.current_thread() is threading.main_thread():
+        signal.signal(signal.SIGINT, action)
+        signal.signal(signal.SIGTERM, action)
 
 
 def read(db, path, layer=None):
@@ -48,8 +46,7 @@ def read(db, path, layer=None):
         options.set_layer_map(only, False)
     layout = db.Layout()
     try:
-        with interruptible():
-            layout.read(path, options)
+        layout.read(path, options)
     except RuntimeError as fault:
         raise Told(f"{path}: cannot be read: {one_line(fault)}") from None
     return layout
@@ -66,12 +63,15 @@ def format_of(db, path):
 
 
 class Aside:
-    """Files that are written under another name in the same folder, and all get their own at the end, or none does."""
+    """Files that are written under another name in the same folder, and all get their own at the end, or none does.
+    Elsewhere Ctrl-C ends the program at once (Python would see it only when KLayout's call has ended); here there are
+    files to remove first, and once they get their names it is too late for it."""
 
     def __init__(self):
         self.files = []
 
     def __enter__(self):
+        signals(interrupted)
         return self
 
     def name(self, path):
@@ -90,6 +90,7 @@ class Aside:
         for aside, _ in self.files:
             with open(aside, "rb") as written:
                 os.fsync(written.fileno())
+        signals(signal.SIG_IGN)
         while self.files:
             os.replace(*self.files[0])
             self.files.pop(0)

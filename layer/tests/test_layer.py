@@ -1,0 +1,464 @@
+"""End to end: layers that KLayout made through the command, read back by KLayout."""
+
+import csv
+import io
+import os
+import resource
+import shutil
+import signal
+import subprocess
+import sys
+import tempfile
+import time
+import unittest
+from contextlib import redirect_stderr, redirect_stdout
+
+import pinarewhemi
+from pinarewhemi_layer import command, klayout_db
+from pinarewhemi_layer.core import fracture_layer, rings_of
+
+from . import layers
+
+db = klayout_db.find()
+ROOT = os.path.dirname(os.path.dirname(os.path.dirname(os.path.abspath(__file__))))
+COMMAND = [sys.executable, os.path.join(ROOT, "layer", "pinarewhemi-layer")]
+
+
+def region_of(layout, cell, number, datatype):
+    """The shapes of a layer, flat and as they are."""
+    region = db.Region()
+    index = layout.find_layer(number, datatype)
+    if index is not None:
+        region = db.Region(cell.begin_shapes_rec(index))
+        region.merged_semantics = False
+    return region
+
+
+def expected(layout, cell, layer, fracture):
+    """The totals of a layer by another road: merged flat by KLayout, each figure through the binding's own call.
+    How many figures, shots, cost, sliver, and how many were refused by what number."""
+    region = db.Region(cell.begin_shapes_rec(layout.find_layer(*layer)))
+    region.min_coherence = True
+    totals, refused = [0, 0, 0, 0], {}
+    for figure in region.merged().each():
+        totals[0] += 1
+        box = figure.bbox()
+        if max(box.width(), box.height()) > 65535:
+            refused[18] = refused.get(18, 0) + 1
+            continue
+        rings = [list(zip(ring[0::2], ring[1::2])) for ring in rings_of(figure.moved(-box.left, -box.bottom))]
+        try:
+            done = fracture(rings)
+        except pinarewhemi.Refused as no:
+            refused[int(no.number)] = refused.get(int(no.number), 0) + 1
+            continue
+        totals[1:] = totals[1] + len(done.shots), totals[2] + done.cost, totals[3] + done.sliver
+    return totals, refused
+
+
+class WithFolder(unittest.TestCase):
+    def setUp(self):
+        self.folder = tempfile.mkdtemp()
+        self.addCleanup(shutil.rmtree, self.folder)
+
+    def path(self, name):
+        return os.path.join(self.folder, name)
+
+    def stored(self, layout, name):
+        layout.write(self.path(name))
+        return self.path(name)
+
+    def run_command(self, *words):
+        """Status, standard output, standard error of the command, run in this process."""
+        out, err = io.StringIO(), io.StringIO()
+        before = {number: signal.getsignal(number) for number in (signal.SIGINT, signal.SIGTERM)}
+        try:
+            with redirect_stdout(out), redirect_stderr(err):
+                status = command.main(list(map(str, words)))
+        finally:
+            for number, action in before.items():
+                signal.signal(number, action)
+        return status, out.getvalue(), err.getvalue()
+
+    def check(self, layout, out, line, fracture, units=1, cell="TOP"):
+        """The file `out` and the line of totals are those of the layer 4/0 of the layout."""
+        found = db.Layout()
+        found.read(out)
+        top, read = found.cell(cell), layout.cell(cell)
+        shots, beyond = region_of(found, top, 4, 1), region_of(found, top, 4, 9)
+        # merged by KLayout, flat: where slanted figures cross, its merging rounds their corners, on any road
+        drawn = db.Region(read.begin_shapes_rec(layout.find_layer(4, 0))).merged()
+        self.assertTrue(((shots + beyond) ^ drawn).is_empty(), "shots and what is beyond are not the layer")
+        both = (shots + beyond).merged()
+        self.assertEqual(shots.area() + beyond.merged().area(), both.area(), "shots share area")
+        self.assertTrue(all(shot.is_box() for shot in shots.each()), "a shot is no rectangle")
+        totals, refused = expected(layout, read, (4, 0), fracture)
+        told = dict(zip(line.split()[0::2], line.split()[1::2]))
+        names = ("figures", "shots", "cost", "sliver")
+        self.assertEqual([int(told[name]) for name in names], totals)
+        self.assertEqual({int(name[8:]): int(n) for name, n in told.items() if name.startswith("refused-")}, refused)
+        self.assertEqual(int(told["beyond"]), sum(refused.values()))
+        self.assertEqual(shots.count(), totals[1])
+        edges = db.Edges()
+        sides = found.find_layer(4, 2)
+        length = 0
+        if sides is not None:
+            paths = top.begin_shapes_rec(sides)
+            while not paths.at_end():
+                ends = list(paths.shape().path.transformed(paths.trans()).each_point())
+                self.assertEqual((paths.shape().path_width, len(ends)), (0, 2))
+                edges.insert(db.Edge(*ends))
+                length += db.Edge(*ends).length()
+                paths.next()
+        self.assertEqual(length, totals[3], "the charged sides are not as long as the sliver")
+        self.assertTrue((edges - drawn.edges()).is_empty(), "a charged side is not a wall of the figure")
+        return found
+
+
+class EndToEnd(WithFolder):
+    def test_the_chip(self):
+        """GDSII and OASIS, in and out; the totals are those of a flat merge and the binding's own call."""
+        layout = layers.make(db)
+        flat = None
+        for ending in ("gds", "oas"):
+            given = self.stored(layers.make(db), f"in.{ending}")
+            out = self.path(f"out.{ending}")
+            status, line, said = self.run_command(given, "--layer", "4/0", "--rule", 25, 40, "--out", out)
+            self.assertEqual((status, said), (1, ""), "three figures are refused, and nothing else is said")
+            found = self.check(layout, out, line, lambda rings: pinarewhemi.fracture(rings, 25, 40))
+            self.assertIsNone(found.find_layer(4, 0))
+            self.assertIsNone(found.find_layer(7, 0))
+            self.assertTrue({cell.name for cell in layout.each_cell()} <= {cell.name for cell in found.each_cell()})
+            self.assertEqual(os.listdir(self.folder).count(os.path.basename(out)), 1)
+            self.assertFalse([name for name in os.listdir(self.folder) if name.startswith(".")])
+            if flat is not None:
+                self.assertEqual(line, flat, "GDSII and OASIS give other totals")
+            flat = line
+
+    def test_pinwheels_and_largest(self):
+        """Beside each other in one orientation: the shots of a turned copy are those of its cell, turned, and where two
+        lists cost the same, dividing them may not."""
+        layout = layers.make(db, layers.ORIENTATIONS[:1])
+        given = self.stored(layout, "in.oas")
+        roads = {
+            ("--pinwheels",): lambda rings: pinarewhemi.fracture_pinwheel(rings, 25, 40),
+            ("--largest", 200): lambda rings: pinarewhemi.fracture_divided(rings, 25, 40, 200),
+            ("--largest", 300, "--pinwheels"): lambda rings: pinarewhemi.fracture_pinwheel_divided(rings, 25, 40, 300),
+        }
+        for words, fracture in roads.items():
+            with self.subTest(words):
+                status, line, _ = self.run_command(
+                    given, "--layer", "4/0", "--rule", 25, 40, "--out", self.path("out.oas"), *words
+                )
+                self.assertEqual(status, 1)
+                self.check(layout, self.path("out.oas"), line, fracture)
+
+    def test_every_figure_fractured(self):
+        """Nothing beyond: status 0, and an empty threshold leaves no side charged."""
+        layout = db.Layout()
+        layers.contacts(db, layout.create_cell("TOP"), layout.layer(4, 0))
+        given = self.stored(layout, "in.gds")
+        status, line, said = self.run_command(given, "--layer", 4, "--rule", 0, 0, "--out", self.path("out.gds"))
+        self.assertEqual((status, said), (0, ""))
+        self.assertEqual(line, "layer 4/0 figures 31 distinct 1 shots 31 cost 31000 sliver 0 beyond 0\n")
+        self.check(layout, self.path("out.gds"), line, lambda rings: pinarewhemi.fracture(rings, 0, 0))
+
+    def test_hierarchy_is_kept(self):
+        """A cell placed 10,000 times is fractured once and its shots stand once."""
+        layout = db.Layout()
+        cell, top = layout.create_cell("A"), layout.create_cell("TOP")
+        layers.combs(db, cell, layout.layer(4, 0))
+        top.insert(db.CellInstArray(cell.cell_index(), db.Trans(), db.Vector(5000, 0), db.Vector(0, 500), 100, 100))
+        given = self.stored(layout, "in.oas")
+        status, line, _ = self.run_command(
+            given, "--layer", 4, "--rule", 25, 40, "--out", self.path("out.oas"), "--report", self.path("r.csv")
+        )
+        self.assertEqual(status, 1)
+        self.assertIn("figures 50000 distinct 5 ", line)
+        self.assertIn("beyond 10000 refused-2 10000", line)
+        found = db.Layout()
+        found.read(self.path("out.oas"))
+        self.assertLess(sum(c.shapes(found.find_layer(4, 1)).size() for c in found.each_cell()), 30)
+        self.assertEqual([i.cell_inst.size() for i in found.cell("TOP").each_inst()], [10000])
+        with open(self.path("r.csv"), newline="") as report:
+            lines = list(csv.DictReader(report))
+        self.assertEqual([int(row["copies"]) for row in lines], [10000] * 5)
+        self.assertEqual(sorted(int(row["corners"]) for row in lines), [8, 12, 20, 32, 36])
+        self.assertEqual([row["refused"] for row in lines if int(row["corners"]) == 36], ["2"])
+        shots = sum(int(row["copies"]) * int(row["shots"] or 0) for row in lines)
+        self.assertIn(f"shots {shots} ", line)
+
+    def test_copies_in_one_cell_are_placed(self):
+        """Where a figure stands often in one cell, its shots are a cell of their own, and it reads back the same."""
+        layout = db.Layout()
+        top = layout.create_cell("TOP")
+        for x in range(40):
+            top.shapes(layout.layer(4, 0)).insert(layers.comb(db, 3, 50, 20, 200, 30).moved(300 * x, 7 * x))
+        given = self.stored(layout, "in.gds")
+        status, line, _ = self.run_command(given, "--layer", 4, "--rule", 25, 40, "--out", self.path("out.gds"))
+        self.assertEqual(status, 0)
+        found = self.check(layout, self.path("out.gds"), line, lambda rings: pinarewhemi.fracture(rings, 25, 40))
+        self.assertEqual(found.cells(), 2)
+        self.assertEqual(found.cell("TOP").child_instances(), 40)
+
+    def test_keep_and_cell(self):
+        """What is kept is IN's, and a cell is taken with what it calls."""
+        layout = layers.make(db)
+        given = self.stored(layers.make(db), "in.oas")
+        out = self.path("out.oas")
+        words = (given, "--layer", "4/0", "--rule", 25, 40, "--out", out, "--keep", "--cell", "PAIR")
+        status, line, _ = self.run_command(*words)
+        self.assertEqual(status, 0)
+        found = self.check(layout, out, line, lambda rings: pinarewhemi.fracture(rings, 25, 40), cell="PAIR")
+        self.assertIsNone(found.cell("TOP"))
+        for number in (4, 7):
+            kept = region_of(found, found.cell("PAIR"), number, 0)
+            self.assertTrue((kept ^ region_of(layout, layout.cell("PAIR"), number, 0)).is_empty())
+            self.assertFalse(kept.is_empty())
+        again = self.run_command(out, "--layer", "4/0", "--rule", 25, 40, "--out", self.path("2.oas"), "--keep")
+        self.assertEqual(again[0], 2)
+        self.assertIn("there are shapes on 4/1 already", again[2])
+
+    def test_the_layer_that_shots_go_to(self):
+        """A layer L/1 may be read too, where nothing is kept."""
+        layout = db.Layout()
+        layers.contacts(db, layout.create_cell("TOP"), layout.layer(4, 1))
+        given = self.stored(layout, "in.gds")
+        status, line, _ = self.run_command(given, "--layer", "4/1", "--rule", 25, 40, "--out", self.path("out.gds"))
+        self.assertEqual(status, 0)
+        self.assertIn("figures 31 distinct 1 shots 31 ", line)
+
+    def test_same_bytes_again(self):
+        given = self.stored(layers.make(db), "in.oas")
+        for ending in ("gds", "oas"):
+            held = []
+            for out in (self.path(f"1.{ending}"), self.path(f"2.{ending}")):
+                self.run_command(given, "--layer", 4, "--rule", 25, 40, "--out", out)
+                with open(out, "rb") as file:
+                    held.append(file.read())
+            self.assertEqual(*held)
+
+
+class Units(WithFolder):
+    """Database units other than 1 nm."""
+
+    def one(self, dbu, *figures):
+        layout = db.Layout()
+        layout.dbu = dbu
+        top = layout.create_cell("TOP")
+        for numbers in figures:
+            top.shapes(layout.layer(4, 0)).insert(layers.polygon(db, *numbers))
+        return layout
+
+    def line(self, layout, *words):
+        given = self.stored(layout, "in.oas")
+        out = self.path("out.oas")
+        status, line, said = self.run_command(given, "--layer", 4, "--rule", 25, 40, "--out", out, *words)
+        found = db.Layout()
+        if os.path.exists(out):
+            found.read(out)
+        return status, line + said, found
+
+    def test_half_nanometres(self):
+        """Sizes in whole nm are fractured wherever they stand; others are beyond, and kept."""
+        l = (0, 0, 200, 0, 200, 40, 120, 40, 120, 160, 0, 160)
+        odd = (1000, 0, 1201, 0, 1201, 40, 1120, 40, 1120, 160, 1000, 160)
+        status, line, found = self.line(self.one(0.0005, [n + 3001 for n in l], odd))
+        self.assertEqual(line, "layer 4/0 figures 2 distinct 2 shots 2 cost 5200 sliver 80 beyond 1 off-grid 1\n")
+        self.assertEqual((status, round(found.dbu, 9)), (1, 0.0005))
+        shots = sorted(shape.box.to_s() for shape in found.top_cell().shapes(found.layer(4, 1)).each())
+        self.assertEqual(shots, ["(3001,3001;3121,3161)", "(3121,3001;3201,3041)"])
+        self.assertEqual(found.top_cell().shapes(found.layer(4, 9)).size(), 1)
+
+    def test_five_nanometres(self):
+        """Scaled up to 1 nm, so that a divided shot has a place."""
+        status, line, found = self.line(self.one(0.005, (0, 0, 87, 0, 87, 9, 0, 9)), "--largest", 217)
+        self.assertEqual((status, round(found.dbu, 9)), (0, 0.001))
+        self.assertIn("shots 3 cost 3000 ", line)
+        shots = sorted(shape.box.to_s() for shape in found.top_cell().shapes(found.layer(4, 1)).each())
+        self.assertEqual(shots, ["(0,0;145,45)", "(145,0;290,45)", "(290,0;435,45)"])
+
+    def test_told(self):
+        status, line, _ = self.line(self.one(0.00123456789, (0, 0, 87, 0, 87, 9, 0, 9)))
+        self.assertEqual(status, 2)
+        self.assertRegex(line, r"^pinarewhemi-layer: .*in\.oas: the database unit of 0\.00123457 um is neither .*\n$")
+
+
+class Forms(unittest.TestCase):
+    def test_a_form_stands_for_its_copies(self):
+        """What a figure moved to 0, 0 is fractured into is, moved back, what the library gives where it stands."""
+        layout = db.Layout()
+        top = layout.create_cell("TOP")
+        layers.skylines(db, top, layout.layer(4, 0), 3, 100)
+        for figure in db.Region(top.begin_shapes_rec(0)).merged().each():
+            box = figure.bbox()
+            there = [list(zip(r[0::2], r[1::2])) for r in rings_of(figure)]
+            here = [[(x - box.left, y - box.bottom) for x, y in ring] for ring in there]
+            try:
+                at_place, at_zero = pinarewhemi.fracture(there, 25, 40), pinarewhemi.fracture(here, 25, 40)
+            except pinarewhemi.Refused:
+                continue
+            x, y = box.left, box.bottom
+            self.assertEqual(at_place.shots, [(a + x, b + y, c + x, d + y) for a, b, c, d in at_zero.shots])
+            self.assertEqual(at_place[1:], at_zero[1:])
+
+    def test_turned_copies_cost_the_same(self):
+        """In all eight orientations the shots are as many, the cost and the sliver the same."""
+        layout = db.Layout()
+        top = layout.create_cell("TOP")
+        layers.skylines(db, top, layout.layer(4, 0), 4, 60)
+        for figure in db.Region(top.begin_shapes_rec(0)).merged().each():
+            told = set()
+            for turn, mirrored in layers.ORIENTATIONS:
+                turned = figure.transformed(db.Trans(turn, mirrored, 0, 0))
+                box = turned.bbox()
+                rings = rings_of(turned.moved(-box.left, -box.bottom))
+                try:
+                    done = pinarewhemi.fracture([list(zip(r[0::2], r[1::2])) for r in rings], 25, 40)
+                except pinarewhemi.Refused:
+                    break
+                told.add((len(done.shots), done.cost, done.sliver))
+            self.assertLessEqual(len(told), 1)
+
+
+class Faults(WithFolder):
+    """Everything that goes wrong is one line, a status, and no file."""
+
+    def fails(self, *words, status=2, says=""):
+        ended, line, said = self.run_command(*words)
+        self.assertEqual((ended, line), (status, ""), said)
+        self.assertRegex(said, r"^pinarewhemi-layer: [^\n]+\n$")
+        self.assertIn(says, said)
+        self.assertFalse([name for name in os.listdir(self.folder) if "out" in name or name.startswith(".")])
+
+    def test_told_in_a_line(self):
+        layout = db.Layout()
+        layers.contacts(db, layout.create_cell("TOP"), layout.layer(4, 0))
+        given = self.stored(layout, "in.gds")
+        layout.create_cell("OTHER")
+        two = self.stored(layout, "two.gds")
+        with open(self.path("noise.gds"), "wb") as noise:
+            noise.write(bytes(range(256)) * 8)
+        rule = ("--rule", 25, 40)
+        out = ("--out", self.path("out.gds"))
+        self.fails(self.path("none.gds"), "--layer", 4, *rule, *out, says="none.gds: No such file or directory")
+        self.fails(self.folder, "--layer", 4, *rule, *out, says="not a file")
+        self.fails(self.path("noise.gds"), "--layer", 4, *rule, *out, says="noise.gds: cannot be read: ")
+        self.fails(given, "--layer", "5/0", *rule, *out, says="in.gds: there is nothing on layer 5/0")
+        self.fails(given, "--layer", 4, *rule, *out, "--cell", "NONE", says="in.gds: there is no cell NONE")
+        self.fails(two, "--layer", 4, *rule, *out, says="two.gds: it has 2 top cells (OTHER, TOP): --cell names one")
+        self.fails(given, "--layer", 4, "--rule", 1001, 40, *out, status=1, says="refused 1: ")
+        self.fails(given, "--layer", 4, *rule, *out, "--largest", 199, status=1, says="refused 19: ")
+        self.fails(given, "--layer", 4, *rule, "--out", self.path("out.txt"), says="has to end in .gds or .oas")
+        self.fails(given, "--layer", 4, *rule, "--out", self.path("no/out.gds"), says="there is no folder")
+        self.fails(given, "--layer", 4, *rule, *out, "--report", self.path("no/r.csv"), says="there is no folder")
+
+    def test_words(self):
+        for words in (["--layer", "4/x"], ["--layer", "-4"], ["--rule", "25"], ["--rule", "2.5", "40"], []):
+            with self.assertRaises(SystemExit) as ended, redirect_stderr(io.StringIO()):
+                command.main(["in.gds", "--out", "out.gds", *words])
+            self.assertEqual(ended.exception.code, 2)
+
+    def test_cut_files(self):
+        """A file that was cut is told. (An OASIS file ends in a record that is padded to 256 bytes: where the cut is in
+        the padding nothing is lost, and what comes out is what comes of the whole file.)"""
+        layout = db.Layout()
+        cell, top = layout.create_cell("A"), layout.create_cell("TOP")
+        layers.combs(db, cell, layout.layer(4, 0))
+        top.insert(db.CellInstArray(cell.cell_index(), db.Trans()))
+        out = self.path("out.gds")
+        for ending in ("gds", "oas"):
+            with open(self.stored(layout, f"in.{ending}"), "rb") as file:
+                whole = file.read()
+            told = 0
+            for length in sorted({*range(0, len(whole), max(1, len(whole) // 80)), *range(len(whole) - 6, len(whole) + 1)}):
+                with open(self.path(f"cut.{ending}"), "wb") as file:
+                    file.write(whole[:length])
+                words = (self.path(f"cut.{ending}"), "--layer", 4, "--rule", 25, 40, "--out", out)
+                status, line, said = self.run_command(*words)
+                if length == len(whole) or (ending == "oas" and length > len(whole) - 250 and status == 1):
+                    self.assertEqual(line, "layer 4/0 figures 5 distinct 5 shots 22 cost 266800 sliver 6120 beyond 1 refused-2 1\n")
+                    os.unlink(out)
+                    continue
+                self.assertEqual((status, line), (2, ""), f"{ending} cut to {length} of {len(whole)}: {line}{said}")
+                self.assertRegex(said, r"^pinarewhemi-layer: [^\n]+\n$")
+                self.assertFalse(os.path.exists(out))
+                told += 1
+            self.assertGreater(told, 40)
+
+    def test_full_disk(self):
+        """Where writing fails in the middle, no file is left, and one that was there is as it was."""
+        given = self.stored(layers.make(db), "in.oas")
+        out = self.path("out.gds")
+        with open(out, "w") as file:
+            file.write("as it was")
+
+        def little_room():
+            resource.setrlimit(resource.RLIMIT_FSIZE, (4096, 4096))
+
+        words = [given, "--layer", "4", "--rule", "25", "40", "--out", out]
+        ended = subprocess.run(COMMAND + words, preexec_fn=little_room, capture_output=True, text=True)
+        self.assertEqual((ended.returncode, ended.stdout), (2, ""), ended.stderr)
+        self.assertRegex(ended.stderr, r"^pinarewhemi-layer: [^\n]*out\.gds: cannot be written: [^\n]+\n$")
+        self.assertEqual(sorted(os.listdir(self.folder)), ["in.oas", "out.gds"])
+        with open(out) as file:
+            self.assertEqual(file.read(), "as it was")
+
+    def test_interrupted(self):
+        """Ctrl-C at any time: a whole file or none, and nothing beside it."""
+        layout = db.Layout()
+        top = layout.create_cell("TOP")
+        layers.skylines(db, top, layout.layer(4, 0), 5, 1500)
+        given = self.stored(layout, "in.gds")
+        words = [given, "--layer", "4", "--rule", "25", "40", "--out", self.path("out.gds")]
+        began = time.monotonic()
+        self.assertIn(subprocess.run(COMMAND + words, capture_output=True).returncode, (0, 1))
+        took = time.monotonic() - began
+        with open(self.path("out.gds"), "rb") as file:
+            whole = file.read()
+        stopped = 0
+        for step in range(10):
+            os.unlink(self.path("out.gds")) if os.path.exists(self.path("out.gds")) else None
+            running = subprocess.Popen(COMMAND + words, stdout=subprocess.PIPE, stderr=subprocess.PIPE, text=True)
+            time.sleep(took * (0.1 + 0.1 * step))
+            running.send_signal(signal.SIGINT)
+            _, said = running.communicate()
+            left = sorted(os.listdir(self.folder))
+            if running.returncode in (0, 1):
+                self.assertEqual(left, ["in.gds", "out.gds"])
+                with open(self.path("out.gds"), "rb") as file:
+                    self.assertEqual(file.read(), whole)
+            else:
+                self.assertIn(running.returncode, (-signal.SIGINT, 130), said)
+                self.assertEqual(left, ["in.gds"])
+                stopped += 1
+        self.assertGreater(stopped, 0)
+
+
+class Inside(WithFolder):
+    def test_core_inside_klayout(self):
+        """The same core in `klayout -b -r`, over pya: the same totals."""
+        program = shutil.which("klayout")
+        if not program:
+            self.skipTest("there is no program klayout")
+        given = self.stored(layers.make(db), "in.oas")
+        outside = fracture_layer(db, layers.make(db), (4, 0), 25, 40).line()
+        with open(self.path("inside.py"), "w") as script:
+            script.write(
+                "import sys\n"
+                f"sys.path[:0] = [{os.path.join(ROOT, 'layer')!r}, {os.path.join(ROOT, 'bindings', 'python')!r}]\n"
+                "import pya\n"
+                "from pinarewhemi_layer import fracture_layer, klayout_db\n"
+                "assert klayout_db.find() is pya\n"
+                "layout = pya.Layout()\n"
+                f"layout.read({given!r})\n"
+                "print(fracture_layer(pya, layout, (4, 0), 25, 40).line())\n"
+            )
+        around = {**os.environ, "HOME": self.folder, "QT_QPA_PLATFORM": "offscreen"}
+        ended = subprocess.run([program, "-b", "-r", self.path("inside.py")], env=around, capture_output=True, text=True)
+        self.assertEqual(ended.returncode, 0, ended.stderr)
+        self.assertEqual(ended.stdout.strip().splitlines()[-1], outside)
+
+
+if __name__ == "__main__":
+    unittest.main()
