@@ -24,6 +24,13 @@ def number_of(word):
     return int(word)
 
 
+def workers_of(word):
+    """1 to 256 processes."""
+    if not re.fullmatch(r"\d{1,3}", word) or not 1 <= int(word) <= 256:
+        raise argparse.ArgumentTypeError(f"{word!r} is not 1 to 256")
+    return int(word)
+
+
 def parser():
     """The words of the command."""
     words = argparse.ArgumentParser(
@@ -41,7 +48,16 @@ def parser():
     words.add_argument("--largest", type=number_of, metavar="M", help="no shot with a side above M nm")
     words.add_argument("--pinwheels", action="store_true", help="pinwheels beside straight cuts")
     words.add_argument("--keep", action="store_true", help="the layers of IN stay in OUT")
+    words.add_argument("--beyond", action="store_true", help="right-angled figures beyond the limits too, of parts: "
+                       "unproved, and counted apart")
     words.add_argument("--report", metavar="R.csv", help="a line for each distinct figure")
+    words.add_argument("--jobs", metavar="DIR", help="keeps the distinct figures as job files")
+    road = words.add_mutually_exclusive_group()
+    road.add_argument("--hierarchy", action="store_true", help="merges cell by cell, however little hierarchy there is")
+    road.add_argument("--windows", action="store_true", help="merges flat, window by window, however much there is")
+    many = words.add_mutually_exclusive_group()
+    many.add_argument("--workers", type=workers_of, default=1, metavar="N", help="processes of this machine")
+    many.add_argument("--scheduler", metavar="tcp://HOST:PORT", help="the workers of a dask scheduler")
     return words
 
 
@@ -68,29 +84,70 @@ def bar():
     return show
 
 
+def runner_of(given):
+    """Who does the work, and how many they are."""
+    from . import workers
+
+    if given.scheduler:
+        found = workers.Dask(given.scheduler)
+        return found, max(2, len(found.client.scheduler_info()["workers"]))
+    if given.workers > 1:
+        return workers.Pool(given.workers), given.workers
+    return workers.Alone(), 1
+
+
+def gathered_of(db, given, source, layout, top, index, runner, show):
+    """The figures of the layer, by the road that suits it or that was asked for."""
+    from . import windows
+    from .core import gather, merged, tally
+
+    copies = tally(db, layout, top)
+    flat, held = windows.counts(db, layout, copies, index)
+    if given.hierarchy or (not given.windows and flat >= windows.LITTLE * held):
+        return gather(db, layout, top, merged(db, layout, top, index), show)
+    windows.hold(source, layout, top, index)
+    tasks = [(source, window) for window in windows.plan(db, layout, top, copies, index)]
+    return windows.gather_windows(db, top, runner.run(windows.take, tasks, stage(show, "windows")))
+
+
+def stage(show, name):
+    """Shows the progress of one stage."""
+    return (lambda done, total: show(name, done, total)) if show else (lambda done, total: None)
+
+
 def run(given):
     """From the words to the line of totals, and the status."""
-    from . import files, klayout_db
-    from .core import Layer, Told, fracture_layer
+    from . import beyond, core, files, jobs, klayout_db, windows
 
     db = klayout_db.find()
-    layer = Layer(*given.layer)
+    layer = core.Layer(*given.layer)
+    fracturer = core.Fracturer(*given.rule, given.largest, given.pinwheels)
     options = files.format_of(db, given.out)
+    show = bar()
     layout = files.read(db, given.file, None if given.keep else layer)
+    source = windows.source_of(given.file, layer, given.cell)
+    parted = beyond.of(db) if given.beyond else None
     try:
-        done = fracture_layer(
-            db,
-            layout,
-            layer,
-            *given.rule,
-            cell=given.cell,
-            largest=given.largest,
-            pinwheels=given.pinwheels,
-            keep=given.keep,
-            show=bar(),
-        )
-    except Told as fault:
-        raise Told(f"{given.file}: {fault}") from None
+        top = core.top_of(db, layout, given.cell)
+        index = core.index_of(db, layout, top, layer)
+        if given.keep:
+            core.refuse_taken(db, layout, layer)
+        units = core.prepare(db, layout, top)
+    except core.Told as fault:
+        raise core.Told(f"{given.file}: {fault}") from None
+    runner, workers = runner_of(given)
+    try:
+        gathered = gathered_of(db, given, source, layout, top, index, runner, show)
+        shown = stage(show, "distinct")
+        answers = jobs.spread_answers(fracturer, gathered.forms, units, parted, workers, runner, given.jobs, shown)
+    finally:
+        runner.close()
+    if answers is None:
+        answers = core.answers(fracturer, gathered.forms, units, parted, show)
+    if not given.keep:
+        core.drop_layers(db, layout)
+    core.Placing(db, layout, layer, gathered, answers, units).all(show)
+    done = core.Done(layer, gathered, answers)
     with files.Aside() as aside:
         files.write(db, layout, given.out, options, aside)
         if given.report:

@@ -1,0 +1,165 @@
+"""Layers with little hierarchy, window by window: less memory at once, and work for several processes.
+
+A window merges what touches it or a margin around it. A figure no longer than the margin, either way, whose frame has
+its lower left corner in the window is whole there, since whatever touches it touches the margin: the window owns it. Of
+a longer figure every window that it touches gives the piece it has (which is longer than the margin too, or it would be
+the whole figure); all pieces together, merged, are the long figures, whole. So no figure is cut, none is lost, and none
+comes twice, whatever the windows and the margin are."""
+
+import array
+import math
+import os
+from typing import NamedTuple
+
+from . import files, klayout_db
+from .core import Gathered, Layer, index_of, prepare, rings_of, top_of
+
+# Flat shapes to a window, and below how many times the hierarchical count a layer has little hierarchy.
+SHAPES, LITTLE = 16384, 4
+
+
+class Source(NamedTuple):
+    """What a worker needs to know to have the layer: the file, as it was when the command read it."""
+
+    path: str
+    stamp: tuple
+    layer: Layer
+    cell: object
+
+
+class Window(NamedTuple):
+    """Its sides, and the margin, in database units. The left and the bottom side belong to it."""
+
+    left: int
+    bottom: int
+    right: int
+    top: int
+    margin: int
+
+
+class Pieces(NamedTuple):
+    """What a window gives: the distinct forms as rings, (form, x, y) one after the other for each place, and the pieces
+    of long figures as rings, where they stand."""
+
+    forms: list
+    places: array.array
+    long: list
+
+
+def source_of(path, layer, cell):
+    found = os.stat(path)
+    return Source(os.path.abspath(path), (found.st_size, found.st_mtime_ns), layer, cell)
+
+
+# The layer that this process holds: the source, and layout, top cell and layer index.
+_held = {}
+
+
+def hold(source, layout, top, index):
+    """This process, and those that it forks, have the layer already."""
+    _held.clear()
+    _held[source] = layout, top, index
+
+
+def opened(db, source):
+    """The prepared layer of a source, read where this process does not hold it."""
+    if source not in _held:
+        if source_of(source.path, source.layer, source.cell) != source:
+            raise RuntimeError(f"{source.path} is another file here")
+        layout = files.read(db, source.path, source.layer)
+        top = top_of(db, layout, source.cell)
+        index = index_of(db, layout, top, source.layer)
+        prepare(db, layout, top)
+        hold(source, layout, top, index)
+    return _held[source]
+
+
+def polygon_of(db, rings):
+    """The polygon of rings, hull first."""
+    pairs = [[db.Point(x, y) for x, y in zip(ring[0::2], ring[1::2])] for ring in rings]
+    polygon = db.Polygon(pairs[0])
+    for hole in pairs[1:]:
+        polygon.insert_hole(hole)
+    return polygon
+
+
+def take(task):
+    """What a window has: the work of a worker. `task` is a source and a window."""
+    source, window = task
+    db = klayout_db.find()
+    layout, top, index = opened(db, source)
+    box = db.Box(window.left, window.bottom, window.right, window.top)
+    around = box.enlarged(window.margin, window.margin)
+    region = db.Region(db.RecursiveShapeIterator(layout, top, index, around, False))
+    region.min_coherence = True
+    numbers, forms, places, long = {}, [], array.array("q"), []
+    for polygon in region.merged().each():
+        frame = polygon.bbox()
+        if max(frame.width(), frame.height()) > window.margin:
+            if frame.touches(box):
+                long.append(rings_of(polygon))
+            continue
+        x, y = frame.left, frame.bottom
+        if window.left <= x < window.right and window.bottom <= y < window.top:
+            form = polygon.move(-x, -y)
+            number = numbers.get(form)
+            if number is None:
+                number = numbers[form] = len(forms)
+                forms.append(rings_of(form))
+            places.extend((number, x, y))
+    return Pieces(forms, places, long)
+
+
+def counts(db, layout, copies, index):
+    """How many shapes the layer has, flat and as the hierarchy has them."""
+    held = {cell: layout.cell(cell).shapes(index).size() for cell in copies}
+    return sum(copies[cell] * held[cell] for cell in copies), sum(held.values())
+
+
+def usual_length(db, layout, copies, index):
+    """Nine shapes in ten are no longer than this, by the first thousand of each cell."""
+    lengths = []
+    for cell in copies:
+        for number, shape in enumerate(layout.cell(cell).shapes(index).each()):
+            if number == 1000:
+                break
+            box = shape.bbox()
+            lengths.append(max(box.width(), box.height()))
+    return sorted(lengths)[len(lengths) * 9 // 10] if lengths else 1
+
+
+def plan(db, layout, top, copies, index):
+    """The windows over a layer, row by row: by the layer alone, so the same for any number of workers."""
+    box = top.bbox_per_layer(index)
+    flat, _ = counts(db, layout, copies, index)
+    number = max(1, math.ceil(flat / SHAPES))
+    columns = max(1, min(number, round(math.sqrt(number * (box.width() + 1) / (box.height() + 1)))))
+    rows = math.ceil(number / columns)
+    wide, high = box.width() // columns + 1, box.height() // rows + 1
+    margin = max(1, min(8 * usual_length(db, layout, copies, index), min(wide, high) // 8))
+    return [
+        Window(left, bottom, left + wide, bottom + high, margin)
+        for bottom in range(box.bottom, box.bottom + rows * high, high)
+        for left in range(box.left, box.left + columns * wide, wide)
+    ]
+
+
+def gather_windows(db, top, pieces):
+    """Puts together what the windows gave, in their order: all in the top cell."""
+    gathered = Gathered()
+    index = top.cell_index()
+    gathered.copies[index] = 1
+    places = gathered.places[index] = []
+    long = db.Region()
+    for piece in pieces:
+        numbers = [gathered.number(polygon_of(db, rings)) for rings in piece.forms]
+        held = iter(piece.places)
+        places += [(numbers[form], x, y) for form, x, y in zip(held, held, held)]
+        for rings in piece.long:
+            long.insert(polygon_of(db, rings))
+    long.min_coherence = True
+    for polygon in long.merged().each():
+        frame = polygon.bbox()
+        x, y = frame.left, frame.bottom
+        places.append((gathered.number(polygon.move(-x, -y)), x, y))
+    return gathered
