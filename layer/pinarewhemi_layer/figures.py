@@ -60,6 +60,12 @@ class Fracturer:
         lent = self._table, len(self._table), self._list, self._room
         return function(given, len(corners), beside, len(lengths), *words, *lent, *self._lent)
 
+    def whole(self, rings):
+        """The shots of a figure before division, and the cuts weighed; None where it is refused."""
+        if self._call(self._whole, self._rule, rings):
+            return None
+        return tuple(self._list[: 4 * self._told[0].value]), self._told[3].value
+
     def answer(self, rings):
         """The answer for a figure whose frame begins at 0, 0."""
         if max(map(max, rings)) > WIDEST:
@@ -74,8 +80,7 @@ class Fracturer:
             whole = shots
             if self.largest is not None:
                 # a dividing line is not exposed: what is charged are the sides before division
-                self._call(self._whole, self._rule, rings)
-                whole = tuple(self._list[: 4 * self._told[0].value])
+                whole, _ = self.whole(rings)
             sides = charged_sides(rings, whole, self.threshold)
             if sum(abs(c - a) + abs(d - b) for a, b, c, d in sides) != sliver:
                 raise AssertionError("the charged sides are not as long as the sliver that the library tells")
