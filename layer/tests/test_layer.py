@@ -459,6 +459,40 @@ class Inside(WithFolder):
         self.assertEqual(ended.returncode, 0, ended.stderr)
         self.assertEqual(ended.stdout.strip().splitlines()[-1], outside)
 
+    def test_undone_in_the_window(self):
+        """In KLayout's window, without a screen: fractured, the slivers in red, and undone in one step."""
+        program = shutil.which("klayout")
+        if not program:
+            self.skipTest("there is no program klayout")
+        given = self.stored(layers.make(db), "in.oas")
+        with open(self.path("window.py"), "w") as script:
+            script.write(
+                "import os, sys\n"
+                f"sys.path[:0] = [{os.path.join(ROOT, 'layer')!r}, {os.path.join(ROOT, 'bindings', 'python')!r}]\n"
+                "import pya\n"
+                "from pinarewhemi_layer import window\n"
+                "main = pya.MainWindow.instance()\n"
+                f"main.load_layout({given!r}, 1)\n"
+                "view = main.current_view()\n"
+                "layout = view.active_cellview().layout()\n"
+                "def seen():\n"
+                "    return [(cell.name, cell.child_instances(), [cell.shapes(i).size() for i in layout.layer_indexes()])\n"
+                "            for cell in layout.each_cell()]\n"
+                "before = seen()\n"
+                "print(window.fracture_shown(pya, view, (4, 0), 25, 40).line())\n"
+                "looks = {p.source_datatype: p.frame_color & 0xffffff for p in view.each_layer() if p.source_layer == 4}\n"
+                "between = seen()\n"
+                "main.call_menu('cm_undo')\n"
+                "print(between != before, seen() == before, looks[2] == 0xff0000)\n"
+                "sys.stdout.flush()\n"
+                "os._exit(0)\n"
+            )
+        around = {**os.environ, "HOME": self.folder, "QT_QPA_PLATFORM": "offscreen"}
+        words = [program, "-z", "-nc", "-rx", "-e", "-r", self.path("window.py")]
+        ended = subprocess.run(words, env=around, capture_output=True, text=True, timeout=60)
+        outside = fracture_layer(db, layers.make(db), (4, 0), 25, 40).line()
+        self.assertEqual(ended.stdout.strip().splitlines()[-2:], [outside, "True True True"], ended.stderr)
+
 
 if __name__ == "__main__":
     unittest.main()
