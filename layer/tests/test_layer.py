@@ -303,7 +303,8 @@ class Forms(unittest.TestCase):
             self.assertEqual(at_place[1:], at_zero[1:])
 
     def test_turned_copies_cost_the_same(self):
-        """In all eight orientations the shots are as many, the cost and the sliver the same."""
+        """In all eight orientations the cost is the same. (Shots and sliver need not be: where so many shots more cost
+        what so much sliver less saves, the tie order decides, and it does not turn with the figure.)"""
         layout = db.Layout()
         top = layout.create_cell("TOP")
         layers.skylines(db, top, layout.layer(4, 0), 4, 60)
@@ -317,7 +318,7 @@ class Forms(unittest.TestCase):
                     done = pinarewhemi.fracture([list(zip(r[0::2], r[1::2])) for r in rings], 25, 40)
                 except pinarewhemi.Refused:
                     break
-                told.add((len(done.shots), done.cost, done.sliver))
+                told.add(done.cost)
             self.assertLessEqual(len(told), 1)
 
 
