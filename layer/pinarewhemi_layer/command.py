@@ -61,27 +61,44 @@ def parser():
     return words
 
 
+class Bar:
+    """Shows the stages on a terminal, one after the other, where tqdm is installed."""
+
+    def __init__(self, tqdm):
+        self.tqdm, self.stage, self.bar = tqdm, None, None
+
+    def __call__(self, stage, done, total):
+        if self.stage != stage:
+            self.close()
+            self.stage = stage
+            self.bar = self.tqdm(total=total, desc=stage, leave=False, file=sys.stderr)
+        self.bar.total = total
+        self.bar.update(done - self.bar.n)
+
+    def close(self):
+        if self.bar is not None:
+            self.bar.close()
+
+
+class Quiet:
+    """Shows nothing."""
+
+    def __call__(self, stage, done, total):
+        pass
+
+    def close(self):
+        pass
+
+
 def bar():
-    """What shows the stages on a terminal: a bar where tqdm is installed, else nothing."""
+    """What shows the stages: quiet where nobody looks."""
     if not sys.stderr.isatty():
-        return None
+        return Quiet()
     try:
         from tqdm import tqdm
     except ImportError:
-        return None
-    held = {}
-
-    def show(stage, done, total):
-        if held.get("stage") != stage:
-            if "bar" in held:
-                held["bar"].close()
-            held.update(stage=stage, bar=tqdm(total=total, desc=stage, leave=False, file=sys.stderr))
-        held["bar"].total = total
-        held["bar"].update(done - held["bar"].n)
-        if done >= total:
-            held["bar"].refresh()
-
-    return show
+        return Quiet()
+    return Bar(tqdm)
 
 
 def runner_of(given):
@@ -104,6 +121,7 @@ def gathered_of(db, given, source, layout, top, index, runner, show):
     copies = tally(db, layout, top)
     flat, held = windows.counts(db, layout, copies, index)
     if given.hierarchy or (not given.windows and flat >= windows.LITTLE * held):
+        show("merging", 0, 1)
         return gather(db, layout, top, merged(db, layout, top, index), show)
     windows.hold(source, layout, top, index)
     tasks = [(source, window) for window in windows.plan(db, layout, top, copies, index)]
@@ -112,18 +130,18 @@ def gathered_of(db, given, source, layout, top, index, runner, show):
 
 def stage(show, name):
     """Shows the progress of one stage."""
-    return (lambda done, total: show(name, done, total)) if show else (lambda done, total: None)
+    return lambda done, total: show(name, done, total)
 
 
-def run(given):
-    """From the words to the line of totals, and the status."""
+def run(given, show):
+    """From the words to what was done, which is in the files that were asked for."""
     from . import beyond, core, files, jobs, klayout_db, windows
 
     db = klayout_db.find()
     layer = core.Layer(*given.layer)
     fracturer = core.Fracturer(*given.rule, given.largest, given.pinwheels)
     options = files.format_of(db, given.out)
-    show = bar()
+    show("reading", 0, 1)
     layout = files.read(db, given.file, None if given.keep else layer)
     source = windows.source_of(given.file, layer, given.cell)
     parted = beyond.of(db) if given.beyond else None
@@ -148,13 +166,13 @@ def run(given):
         core.drop_layers(db, layout)
     core.Placing(db, layout, layer, gathered, answers, units).all(show)
     done = core.Done(layer, gathered, answers)
+    show("writing", 0, 1)
     with files.Aside() as aside:
         files.write(db, layout, given.out, options, aside)
         if given.report:
             files.report(done, given.report, aside)
         aside.settle()
-    print(done.line())
-    return SOME_REFUSED if done.refused else ALL
+    return done
 
 
 def main(words=None):
@@ -173,10 +191,14 @@ def main(words=None):
         tell(" ".join(str(fault).split()))
         return FAILED
     signals(signal.SIG_DFL)
+    show = bar()
     try:
-        status = run(given)
-        sys.stdout.flush()
-        return status
+        try:
+            done = run(given, show)
+        finally:
+            show.close()
+        print(done.line(), flush=True)
+        return SOME_REFUSED if done.refused else ALL
     except pinarewhemi.Refused as fault:
         tell(fault)
         return SOME_REFUSED
@@ -184,6 +206,8 @@ def main(words=None):
         tell(fault)
     except OSError as fault:
         tell(f"{fault.filename or given.out}: {fault.strerror or fault}")
+    except RuntimeError as fault:
+        tell(f"{given.file}: {' '.join(str(fault).split())}")
     except MemoryError:
         tell(f"{given.file}: out of memory")
     except KeyboardInterrupt:

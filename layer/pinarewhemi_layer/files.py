@@ -24,10 +24,10 @@ def interrupted(*_):
 
 
 def signals(action):
-    """Sets what Ctrl-C and a request to end do; nothing where this is not the main thread, which alone may."""
+    """Sets what Ctrl-C and requests to end do; nothing where this is not the main thread, which alone may."""
     if threading.current_thread() is threading.main_thread():
-        signal.signal(signal.SIGINT, action)
-        signal.signal(signal.SIGTERM, action)
+        for number in (signal.SIGINT, signal.SIGTERM, signal.SIGHUP):
+            signal.signal(number, action)
 
 
 def read(db, path, layer=None):

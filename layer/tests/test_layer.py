@@ -3,6 +3,7 @@
 import csv
 import io
 import os
+import pty
 import resource
 import shutil
 import signal
@@ -71,7 +72,7 @@ class WithFolder(unittest.TestCase):
     def run_command(self, *words):
         """Status, standard output, standard error of the command, run in this process."""
         out, err = io.StringIO(), io.StringIO()
-        before = {number: signal.getsignal(number) for number in (signal.SIGINT, signal.SIGTERM)}
+        before = {number: signal.getsignal(number) for number in (signal.SIGINT, signal.SIGTERM, signal.SIGHUP)}
         try:
             with redirect_stdout(out), redirect_stderr(err):
                 status = command.main(list(map(str, words)))
@@ -434,6 +435,25 @@ class Faults(WithFolder):
                 self.assertEqual(left, ["in.gds"])
                 stopped += 1
         self.assertGreater(stopped, 0)
+
+
+class Terminal(WithFolder):
+    def test_bar(self):
+        """On a terminal the stages are shown, and nothing of them is in the line of totals."""
+        try:
+            import tqdm  # noqa: F401
+        except ImportError:
+            self.skipTest("LEFT OUT: tqdm is not installed (Debian: apt-get install python3-tqdm)")
+        given = self.stored(layers.make(db), "in.oas")
+        words = [given, "--layer", "4", "--rule", "25", "40", "--out", self.path("out.oas")]
+        ours, theirs = pty.openpty()
+        ended = subprocess.run(COMMAND + words, stdout=subprocess.PIPE, stderr=theirs, text=True)
+        os.close(theirs)
+        shown = os.read(ours, 65536).decode()
+        os.close(ours)
+        self.assertRegex(ended.stdout, r"^layer 4/0 figures 3470 [^\n]*\n$")
+        for stage in ("reading", "merging", "placed", "writing"):
+            self.assertIn(f"\r{stage}: ", shown)
 
 
 class Inside(WithFolder):
