@@ -10,6 +10,7 @@ In steps, which the command takes one by one to spread them over workers:
     place     the shots, charged sides and what is beyond our limits into the cells
 """
 
+import array
 import collections
 import fractions
 from typing import NamedTuple
@@ -39,7 +40,7 @@ class Layer(NamedTuple):
 
 class Gathered:
     """The figures of a layer: the distinct ones, moved to 0, 0, in the order in which they came, and by cell where they
-    stand: (form, x, y) each. copies is how often a cell's content is placed below the top."""
+    stand: form, x, y of each, one after the other. copies is how often a cell's content is placed below the top."""
 
     def __init__(self):
         self.forms = []
@@ -59,9 +60,8 @@ class Gathered:
         """How often each form stands on the layer, over the hierarchy."""
         total = [0] * len(self.forms)
         for cell, figures in self.places.items():
-            copies = self.copies[cell]
-            for form, _, _ in figures:
-                total[form] += copies
+            for form, often in collections.Counter(figures[0::3]).items():
+                total[form] += often * self.copies[cell]
         return total
 
 
@@ -184,12 +184,12 @@ def gather(db, layout, top, work, show=None):
     total = sum(layout.cell(index).shapes(work).size() for index in gathered.copies)
     done = 0
     for index in gathered.copies:
-        figures = []
+        figures = array.array("q")
         for shape in layout.cell(index).shapes(work).each():
             polygon = shape.polygon
             corner = polygon.bbox().p1
             x, y = corner.x, corner.y
-            figures.append((gathered.number(polygon.move(-x, -y)), x, y))
+            figures.extend((gathered.number(polygon.move(-x, -y)), x, y))
             done += 1
             if show and done % 4096 == 0:
                 show("figures", done, total)
@@ -241,26 +241,27 @@ class Placing:
 
     def all(self, show=None):
         """Places everything."""
-        total = sum(map(len, self.gathered.places.values()))
+        total = sum(map(len, self.gathered.places.values())) // 3
         done = 0
         for index, figures in self.gathered.places.items():
             self.into(self.layout.cell(index), figures)
-            done += len(figures)
+            done += len(figures) // 3
             if show:
                 show("placed", done, total)
 
     def into(self, cell, figures):
         """Places the figures of one cell."""
-        often = collections.Counter(form for form, _, _ in figures)
+        often = collections.Counter(figures[0::3])
         shapes = [cell.shapes(layer) for layer in self.layers]
         placed = {form: self.cell_of(form) for form, copies in often.items() if self.worth(form, copies)}
-        # one array for all: a new one for each instance takes thrice the time
-        array = self.db.CellInstArray(0, self.db.Trans())
-        for form, x, y in figures:
+        # one instance for all: a new one each time takes thrice the time
+        instance = self.db.CellInstArray(0, self.db.Trans())
+        numbers = iter(figures)
+        for form, x, y in zip(numbers, numbers, numbers):
             if form in placed:
-                array.cell_index = placed[form]
-                array.trans = self.db.Trans(x, y)
-                cell.insert(array)
+                instance.cell_index = placed[form]
+                instance.trans = self.db.Trans(x, y)
+                cell.insert(instance)
             else:
                 self.draw(form, x, y, *shapes)
 

@@ -12,7 +12,7 @@ import os
 from typing import NamedTuple
 
 from . import files, klayout_db
-from .core import Gathered, Layer, index_of, prepare, rings_of, top_of
+from .core import MOST, Gathered, Layer, index_of, prepare, rings_of, top_of
 
 # Flat shapes to a window, and below how many times the hierarchical count a layer has little hierarchy.
 SHAPES, LITTLE = 16384, 4
@@ -83,24 +83,30 @@ def polygon_of(db, rings):
     return polygon
 
 
+def box_of(db, *sides):
+    """The box of sides of which some may lie outside of what KLayout has room for."""
+    return db.Box(*[max(-MOST, min(side, MOST)) for side in sides])
+
+
 def take(task):
     """What a window has: the work of a worker. `task` is a source and a window."""
     source, window = task
     db = klayout_db.find()
     layout, top, index = opened(db, source)
-    box = db.Box(window.left, window.bottom, window.right, window.top)
-    around = box.enlarged(window.margin, window.margin)
+    left, bottom, right, above, margin = window
+    box = box_of(db, left, bottom, right, above)
+    around = box_of(db, left - margin, bottom - margin, right + margin, above + margin)
     region = db.Region(db.RecursiveShapeIterator(layout, top, index, around, False))
     region.min_coherence = True
     numbers, forms, places, long = {}, [], array.array("q"), []
     for polygon in region.merged().each():
         frame = polygon.bbox()
-        if max(frame.width(), frame.height()) > window.margin:
+        if max(frame.width(), frame.height()) > margin:
             if frame.touches(box):
                 long.append(rings_of(polygon))
             continue
         x, y = frame.left, frame.bottom
-        if window.left <= x < window.right and window.bottom <= y < window.top:
+        if left <= x < right and bottom <= y < above:
             form = polygon.move(-x, -y)
             number = numbers.get(form)
             if number is None:
@@ -149,17 +155,18 @@ def gather_windows(db, top, pieces):
     gathered = Gathered()
     index = top.cell_index()
     gathered.copies[index] = 1
-    places = gathered.places[index] = []
+    places = gathered.places[index] = array.array("q")
     long = db.Region()
     for piece in pieces:
         numbers = [gathered.number(polygon_of(db, rings)) for rings in piece.forms]
         held = iter(piece.places)
-        places += [(numbers[form], x, y) for form, x, y in zip(held, held, held)]
+        for form, x, y in zip(held, held, held):
+            places.extend((numbers[form], x, y))
         for rings in piece.long:
             long.insert(polygon_of(db, rings))
     long.min_coherence = True
     for polygon in long.merged().each():
         frame = polygon.bbox()
         x, y = frame.left, frame.bottom
-        places.append((gathered.number(polygon.move(-x, -y)), x, y))
+        places.extend((gathered.number(polygon.move(-x, -y)), x, y))
     return gathered

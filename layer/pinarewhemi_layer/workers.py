@@ -1,9 +1,6 @@
 """Work for several processes: Python's pool on one machine, dask on many. Answers come in the order of the tasks."""
 
-import concurrent.futures
-import concurrent.futures.process
 import ctypes
-import multiprocessing
 import signal
 
 from .core import Told
@@ -33,6 +30,10 @@ class Pool:
         pass
 
     def run(self, function, tasks, show):
+        # loaded where they are needed: they take as long as a small layer does
+        import concurrent.futures.process
+        import multiprocessing
+
         context = multiprocessing.get_context("fork")
         done = 0
         for _ in range(LIVES):

@@ -57,7 +57,10 @@ class Windows(WithFolder):
             pieces = [windows.take((source, window._replace(margin=margin))) for window in planned]
             gathered = windows.gather_windows(db, top, pieces)
             (places,) = gathered.places.values()
-            found = collections.Counter(gathered.forms[form].moved(x, y).to_s() for form, x, y in places)
+            numbers = iter(places)
+            found = collections.Counter(
+                gathered.forms[form].moved(x, y).to_s() for form, x, y in zip(numbers, numbers, numbers)
+            )
             self.assertEqual(found, figures_of(layout))
 
     def test_both_roads(self):
