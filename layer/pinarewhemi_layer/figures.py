@@ -1,7 +1,6 @@
 """One figure to its shots, through the library: fast, since a layer has many. A figure is its rings, each the numbers
 x, y, x, y, .. of its corners in whole nm, moved so that its frame begins at 0, 0."""
 
-import array
 import ctypes
 from typing import NamedTuple, Tuple
 
@@ -46,6 +45,8 @@ class Fracturer:
         self._table = (ctypes.c_uint32 * ROOMS["PW_TABLE_ENTRIES"])()
         self._room = ROOMS["PW_LIST_NUMBERS"] if largest is None else ROOMS["PW_DIVIDED_NUMBERS"]
         self._list = (ctypes.c_uint16 * self._room)()
+        self._corners = (ctypes.c_uint16 * ROOMS["PW_CORNER_NUMBERS"])()
+        self._lengths = (ctypes.c_uint16 * ROOMS["PW_RING_LENGTHS"])()
         self._told = [ctypes.c_uint32() for _ in range(4)]
         self._lent = [ctypes.byref(number) for number in self._told]
         refused = self._call(self._asked, self._words, ((0, 0, 9, 0, 9, 9, 0, 9),))
@@ -53,11 +54,16 @@ class Fracturer:
             raise Refused(refused, name)
 
     def _call(self, function, words, rings):
-        corners = array.array("H", [number for ring in rings for number in ring])
-        lengths = array.array("H", [min(len(ring) // 2, WIDEST) for ring in rings])
-        given = (ctypes.c_uint16 * max(len(corners), 1)).from_buffer(corners)
-        beside = (ctypes.c_uint16 * max(len(lengths), 1)).from_buffer(lengths)
-        lent = self._table, len(self._table), self._list, self._room
+        corners = rings[0] if len(rings) == 1 else [number for ring in rings for number in ring]
+        lengths = [min(len(ring) // 2, WIDEST) for ring in rings]
+        given, beside = self._corners, self._lengths
+        if len(corners) > len(given):
+            given = (ctypes.c_uint16 * len(corners))()
+        if len(lengths) > len(beside):
+            beside = (ctypes.c_uint16 * len(lengths))()
+        given[: len(corners)] = corners
+        beside[: len(lengths)] = lengths
+        lent = self._table, ROOMS["PW_TABLE_ENTRIES"], self._list, self._room
         return function(given, len(corners), beside, len(lengths), *words, *lent, *self._lent)
 
     def whole(self, rings):

@@ -73,9 +73,11 @@ def keep(folder, bundles):
 def spread_answers(fracturer, forms, units, beyond, workers, runner, folder, show):
     """The answers for all forms, in their order. None where so little is planned that spreading is not worth it, and no
     folder is asked for."""
+    if folder is None and workers < 2:
+        return None
     rings = [rings_of(form) for form in forms]
     total = sum(planned(figure, fracturer.pinwheels) for figure in rings)
-    if folder is None and (workers < 2 or total < SECONDS):
+    if folder is None and total < SECONDS:
         return None
     enough = max(BUNDLE_SECONDS, min(SECONDS, total / (BUNDLES * workers)))
     given, carried, bundles, outlines, work = [None] * len(forms), [], [], [], 0.0
