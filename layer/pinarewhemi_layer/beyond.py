@@ -18,14 +18,25 @@ def of(db):
             polygon.insert_hole(points(db, hole))
         made = [decomposed(polygon, mode) for mode in modes]
         made.append(of_parts(db, fracturer, polygon))
-        weighed = [weigh(fracturer, rings, *one) for one in made if one is not None]
-        return min(weighed, key=lambda answer: answer.cost)
+        weighed = [weigh(fracturer, rings, *one) for one in made if one is not None and exact(db, polygon, one[0])]
+        return min(weighed, key=lambda answer: answer.cost, default=None)
 
     return parted
 
 
 def points(db, ring):
     return [db.Point(x, y) for x, y in zip(ring[0::2], ring[1::2])]
+
+
+def exact(db, polygon, shots):
+    """Whether the shots are the figure and share no area: KLayout's splitting (0.28.5) errs on some figures with many
+    windows."""
+    region = db.Region()
+    numbers = iter(shots)
+    for sides in zip(numbers, numbers, numbers, numbers):
+        region.insert(db.Box(*sides))
+    region.merged_semantics = False
+    return region.area() == polygon.area() and (region ^ db.Region(polygon)).is_empty()
 
 
 def decomposed(polygon, mode):

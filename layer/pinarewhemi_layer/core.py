@@ -22,6 +22,8 @@ from .figures import OFF_GRID, Answer, Fracturer
 # Where things go, by data type: shots, charged sides of slivers, what is beyond our limits.
 SHOTS, SIDES, BEYOND = 1, 2, 9
 MOST = 2**31 - 1
+# How often what was merged is merged again.
+MERGINGS = 6
 
 
 class Told(Exception):
@@ -165,16 +167,50 @@ def tally(db, layout, top):
     return copies
 
 
-def merged(db, layout, top, layer):
-    """A working layer with the merged figures, each in the cell that holds all of it. Figures that touch in a corner
-    only are two."""
+def merged_once(db, layout, top, layer):
+    """A working layer with the figures of a layer, merged by KLayout cell by cell, each in the cell that holds all of
+    it. Figures that touch in a corner only are two."""
     store = db.DeepShapeStore()
+    # whole figures: KLayout's splitting (0.28.5) does not give back the area of some that have many windows
+    store.max_vertex_count = 0
+    store.max_area_ratio = 0.0
     region = db.Region(top.begin_shapes_rec(layer), store)
     region.min_coherence = True
     region.merge()
     work = layout.insert_layer(db.LayerInfo())
     layout.insert(top.cell_index(), work, region)
     return work
+
+
+def held(db, layout, cells, layer, merge=False):
+    """How many figures each cell has on a layer and what area they have together; merged within the cell, if asked."""
+    found = {}
+    for index in cells:
+        region = db.Region(layout.cell(index).shapes(layer))
+        region.min_coherence = True
+        region = region.merged() if merge else region
+        region.merged_semantics = False
+        found[index] = region.count(), region.area()
+    return found
+
+
+def merged(db, layout, top, layer):
+    """A working layer with the merged figures. KLayout (0.28.5) leaves, of some figures that it makes up across cells,
+    parts behind in the cells below, which would be exposed twice: so where any was made up, what it gave is merged
+    again until that changes nothing."""
+    cells = tally(db, layout, top)
+    work = merged_once(db, layout, top, layer)
+    before = held(db, layout, cells, work)
+    if before == held(db, layout, cells, layer, True):
+        return work
+    for _ in range(MERGINGS):
+        again = merged_once(db, layout, top, work)
+        after = held(db, layout, cells, again)
+        layout.delete_layer(work)
+        if after == before:
+            return again
+        work, before = again, after
+    raise Told("KLayout's merging cell by cell does not settle on this layer: --windows takes the other road")
 
 
 def gather(db, layout, top, work, show=None):
@@ -216,7 +252,7 @@ def answer(fracturer, form, units, beyond=None):
         rings = [[number // units for number in ring] for ring in rings]
     given = fracturer.answer(rings)
     if beyond and given.refused in (Refusal.LENGTH, Refusal.EXTENT) and form.is_rectilinear():
-        return beyond(fracturer, rings)
+        return beyond(fracturer, rings) or given
     return given
 
 

@@ -105,3 +105,42 @@ def make(db, orientations=ORIENTATIONS):
     pair.insert(db.CellInstArray(cells["contacts"].cell_index(), db.ICplxTrans(3.0, 90, True, 3500, 1200)))
     top.shapes(other).insert(db.Box(0, 0, 1000, 1000))
     return layout
+
+
+def tangle(db, seed):
+    """Cells that overlap and touch each other, in arrays, orientations and twice as large, three to five levels deep. In
+    some, KLayout's merging cell by cell (0.28.5) leaves parts of figures behind; in one its splitting gives other area."""
+    chance = random.Random(seed)
+    layout = db.Layout()
+    layer, cells = layout.layer(4, 0), []
+    for number in range(chance.randint(2, 5)):
+        cell = layout.create_cell(f"C{number}")
+        for _ in range(chance.randint(0, 6)):
+            x, y = chance.randrange(300), chance.randrange(300)
+            chance.random()
+            cell.shapes(layer).insert(db.Box(x, y, x + chance.randint(5, 80), y + chance.randint(5, 80)))
+        for _ in range(chance.randint(0, 4) if cells else 0):
+            tangled(db, cell, cells, chance)
+        cells.append(cell)
+    top = layout.create_cell("TOP")
+    for cell in cells:
+        for _ in range(2):
+            place = db.Trans(chance.randrange(4), chance.random() < 0.5, chance.randrange(-900, 900), chance.randrange(-900, 900))
+            top.insert(db.CellInstArray(cell.cell_index(), place))
+    return layout
+
+
+def tangled(db, cell, cells, chance):
+    """One of the cells in another: an array, magnified, or as it is."""
+    turn, mirrored = chance.randrange(4), chance.random() < 0.5
+    place = db.Trans(turn, mirrored, chance.randrange(-300, 600), chance.randrange(-300, 600))
+    child = chance.choice(cells).cell_index()
+    sort = chance.random()
+    if sort < 0.3:
+        across, up = db.Vector(chance.randint(40, 400), 0), db.Vector(0, chance.randint(40, 400))
+        cell.insert(db.CellInstArray(child, place, across, up, chance.randint(1, 4), chance.randint(1, 3)))
+    elif sort < 0.4:
+        turn, mirrored = 90 * chance.randrange(4), chance.random() < 0.5
+        cell.insert(db.CellInstArray(child, db.ICplxTrans(2.0, turn, mirrored, chance.randrange(300), chance.randrange(300))))
+    else:
+        cell.insert(db.CellInstArray(child, place))
