@@ -117,7 +117,6 @@ def tangle(db, seed):
         cell = layout.create_cell(f"C{number}")
         for _ in range(chance.randint(0, 6)):
             x, y = chance.randrange(300), chance.randrange(300)
-            chance.random()
             cell.shapes(layer).insert(db.Box(x, y, x + chance.randint(5, 80), y + chance.randint(5, 80)))
         for _ in range(chance.randint(0, 4) if cells else 0):
             tangled(db, cell, cells, chance)

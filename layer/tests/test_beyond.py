@@ -4,7 +4,7 @@ import unittest
 
 import pinarewhemi
 from pinarewhemi_layer import beyond
-from pinarewhemi_layer.core import rings_of
+from pinarewhemi_layer.core import fracture_layer, rings_of
 from pinarewhemi_layer.figures import Fracturer, charged_sides
 
 from . import layers
@@ -38,6 +38,22 @@ class Beyond(WithFolder):
             self.assertEqual(unproved.split()[:2], ["figures", "10"])
             lines[words] = line
         self.assertEqual(lines["--windows",], lines["--windows", "--workers", 2])
+
+    def test_tangles(self):
+        """Cells that overlap each other: every figure once, whole, however KLayout merges and splits."""
+        for seed in (1647, 1889, 1987, *range(12)):
+            layout = layers.tangle(db, seed)
+            top = layout.cell("TOP")
+            drawn = db.Region(top.begin_shapes_rec(layout.find_layer(4, 0)))
+            drawn.min_coherence = True
+            drawn = drawn.merged()
+            if drawn.is_empty():
+                continue
+            done = fracture_layer(db, layout, (4, 0), 25, 40, beyond=beyond.of(db))
+            shots = region_of(layout, top, 4, 1)
+            self.assertTrue((shots ^ drawn).is_empty(), seed)
+            self.assertEqual((shots.area(), shots.count(), done.figures), (drawn.area(), done.shots, drawn.count()), seed)
+            self.assertFalse(done.refused)
 
     def test_cheapest(self):
         """No decomposition of KLayout's costs less by our rule than what is taken."""
