@@ -118,7 +118,8 @@ def tangle(db, seed):
         for _ in range(chance.randint(0, 6)):
             x, y = chance.randrange(300), chance.randrange(300)
             cell.shapes(layer).insert(db.Box(x, y, x + chance.randint(5, 80), y + chance.randint(5, 80)))
-        for _ in range(chance.randint(0, 4) if cells else 0):
+        children = chance.randint(0, 4)
+        for _ in range(children if cells else 0):
             tangled(db, cell, cells, chance)
         cells.append(cell)
     top = layout.create_cell("TOP")
