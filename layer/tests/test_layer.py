@@ -355,6 +355,13 @@ class Faults(WithFolder):
         self.fails(given, "--layer", 4, *rule, "--out", self.path("no/out.gds"), says="there is no folder")
         self.fails(given, "--layer", 4, *rule, *out, "--report", self.path("no/r.csv"), says="there is no folder")
 
+    def test_no_library(self):
+        around = {**os.environ, "PINAREWHEMI_LIBRARY": self.path("none.so")}
+        words = ["in.gds", "--layer", "4", "--rule", "25", "40", "--out", self.path("out.gds")]
+        ended = subprocess.run(COMMAND + words, env=around, capture_output=True, text=True)
+        self.assertEqual((ended.returncode, ended.stdout), (2, ""))
+        self.assertRegex(ended.stderr, r"^pinarewhemi-layer: no libpinarewhemi\.so [^\n]*\n$")
+
     def test_words(self):
         for words in (["--layer", "4/x"], ["--layer", "-4"], ["--rule", "25"], ["--rule", "2.5", "40"], []):
             with self.assertRaises(SystemExit) as ended, redirect_stderr(io.StringIO()):
