@@ -1,3 +1,4 @@
+pub mod Agreed
 pub mod Outcome
 pub mod Refusals
 pub mod Square
@@ -8,7 +9,6 @@ pub mod Bounded
 pub mod Cuts
 pub mod General
 pub mod Counted
-pub mod CutRows
 pub mod Few
 pub mod Demands
 pub mod Room

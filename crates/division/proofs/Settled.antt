@@ -115,7 +115,7 @@ module _ (ask : Asked) (m : ℕ) (passed : Passed ask m) where
       | inr h ↦ absurd (demands.accepted-exactly (aside ask) .0 fractured because.List h)
     ]
 
-    pub divisible : Divisible list s m × ((ask .weight ≤ 1000) × (v ≤ 2097120))
+    pub divisible : Divisible list s m × ((ask .weight ≤ 1000) × ((v ≤ 2097120) × (s ≤ 225)))
     unfolding told
     divisible =
         let g = largest-good (ask .threshold) m (passed .fits) in (
@@ -126,7 +126,10 @@ module _ (ask : Asked) (m : ℕ) (passed : Passed ask m) where
             area = subst (All (λ s. (s .xlow < s .xhigh) × (s .ylow < s .yhigh))) these (areas ask m words fractured);
             few = omega (arith, few-parts ask m words passed fractured, ap (sumOf (product m)) these);
           },
-          (light (aside ask) (inl fractured), omega (arith, few-slivers ask m words fractured, ap (λ (o : Outcome). o .sliver) e)),
+          (
+            light (aside ask) (inl fractured),
+            (omega (arith, few-slivers ask m words fractured, ap (λ (o : Outcome). o .sliver) e), omega (arith, few)),
+          ),
         )
 
     -- sliver length, cuts and table are those that it reports

@@ -10,8 +10,7 @@ use writing::write_all;
 ghost use mathlib.Core.Path.{_≡_};
 ghost use mathlib.Core.Bool.{true, false};
 ghost use mathlib.Core.List.{List};
-ghost use lib.ListN.{length};
-ghost use Prim.Native.Nat.{ℕ, _+_, _*_, _≤_};
+ghost use Prim.Native.Nat.{ℕ, _≤_};
 ghost use Rattle.sum.specs.Sum.{sumOf, join};
 ghost use Rattle.rule.specs.Rules.{inRange, limit};
 ghost use Rattle.figure.specs.Figure.{figure};
@@ -31,6 +30,7 @@ pub const ROOM_ASIDE: usize = 900;
 // In nm; a largest side may not be below twice the threshold either.
 pub const LEAST_LARGEST: u32 = 200;
 
+// In nm: no place is higher.
 pub const MOST_LARGEST: u32 = 65535;
 
 // 19: a largest side below 200, below twice the threshold, or above 65,535.
@@ -72,7 +72,7 @@ struct Before {
 // The parts of some shots at the front of the list; or 7, the list as it is. Division does not change the sliver length, and the cost is
 // reported anew.
 fn deliver(shots: &[u16], before: Before, weight: u32, largest: u32, list: &mut [u16]) -> Fractured
-    requires { ⌜ Divisible (now shots) (before .shots) largest × ((weight ≤ limit) × (before .sliver ≤ 2097120)) ⌝ }
+    requires { ⌜ Divisible (now shots) (before .shots) largest × ((weight ≤ limit) × ((before .sliver ≤ 2097120) × (before .shots ≤ 225))) ⌝ }
     ensures { λ a. ⌜ ((table : List ℕ) → told a table (now (list .exit)) ≡ listed weight (join (divided largest) (inFront (now (shots .entry)) (before .shots))) (before .sliver) (before .cuts) table (now (list .entry))) ⌝ }
 {
     let n = before.shots as usize;

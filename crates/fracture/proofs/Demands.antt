@@ -47,7 +47,7 @@ use Rattle.demands.specs.Rows.{Row, Says, L}
 use Rattle.demands.proofs.Demands as demands
 use Rattle.demands.proofs.Rows.{new-rows-hold, new-entries-of-L}
 use Rattle.demands.proofs.Counted.{cuts-are, cuts-figure, cuts-most, cuts-ahead}
-use Rattle.demands.proofs.CutRows.{cut-rows}
+use Rattle.demands.proofs.Agreed.{cut-rows}
 use Rattle.fracture.specs.declared.Fractured.{Fractured}
 use Rattle.fracture.specs.declared.Fractured.the-variants.{Done, Refused}
 use Rattle.fracture.specs.declared.Forecast.{Forecast}

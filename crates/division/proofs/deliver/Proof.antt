@@ -30,13 +30,13 @@ mul-t17 c = search needs
 mul-t18 : tie.Need-mul-t18
 mul-t18 c =
     let s = c .before .before .before .before .before .before .before .before .before in
-    record { fits = omega (arith, mul-le-mul (s .pre .1 .0) (s .pre .1 .1)) }
+    record { fits = omega (arith, mul-le-mul (s .pre .1 .0) (s .pre .1 .1 .0)) }
 
 add-t19 : tie.Need-add-t19
 add-t19 c =
     let n = c .before .before .before .before .before in
     let s = n .before .before .before .before in
-    record { fits = omega (arith, mul-le-mul (s .pre .1 .0) (s .pre .1 .1), n .count-parts .ensures .1) }
+    record { fits = omega (arith, mul-le-mul (s .pre .1 .0) (s .pre .1 .1 .0), n .count-parts .ensures .1) }
 
 same-length : tie.Need-same-length
 same-length c = search needs

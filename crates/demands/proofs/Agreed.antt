@@ -1,4 +1,4 @@
--- The rows of cuts weighed, computed. Assumes nothing.
+-- The rows of cuts weighed, computed. They come first, so that they refuse a wrong count before a law that only no longer fits it. Assumes nothing.
 --
 --   cut-rows       == the cuts of each row's grid are those that the row says
 use Prim.Native.Nat.{ℕ}
