@@ -2,16 +2,20 @@
 --
 --   pick-fault       == nothing is found
 --   pick-part        == an outline is found
+--   pick-outline     == by a true index `pw_index_pick` tells what `pw_job_outline` tells of the job: where the outline lies, or 13
 use Prim.Native.Nat.{ℕ, _-_}
 use mathlib.Core.Path.{_≡_, _∙_, sym, ap, ap₂}
 use mathlib.Core.List.{List}
+use lib.ListN.{length}
+use borrow.Author.Tests.{lt-ltb, le-ltb}
 use Rattle.refusal.specs.declared.Refusal.{Refusal}
 use Rattle.refusal.specs.Refusals.{refusalNo}
 use Rattle.number.specs.Reading.{read, fault}
-use Rattle.index.specs.Index.{found}
+use Rattle.index.specs.Index.{TrueIndex, found}
 use Rattle.index.specs.Steps.{placeOf}
 use Rattle.index.proofs.Starts.{none-found, one-found}
-use Rattle.capi.specs.Lent.{outlineLent}
+use Rattle.index.proofs.Always.{found-true}
+use Rattle.capi.specs.Lent.{outlineLent, jobPart, outlineSaid}
 use Rattle.capi.specs.IndexLent.{partFound, pickSaid}
 
 module _ (s index : List ℕ) (n k : ℕ) where
@@ -24,3 +28,10 @@ module _ (s index : List ℕ) (n k : ℕ) where
   pick-part e =
       let u = one-found s index n k e in
       ap₂ (λ x y. outlineLent 0 x (y - x) 0) (sym (u .2)) (sym (u .3)) ∙ sym (ap partFound (u .1))
+
+  pub pick-outline : TrueIndex s index n → pickSaid s index n k ≡ outlineSaid s k
+  unfolding pickSaid outlineSaid
+  pick-outline t =
+      found-true s index n k t partFound (jobPart k)
+      (λ j last end h. simp (lt-ltb k (length (j .parts)) h))
+      (λ j last h. simp (le-ltb k (length (j .parts)) h))

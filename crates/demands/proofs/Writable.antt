@@ -1,6 +1,7 @@
 -- The list of an accepted fracture is a shot list: it passes document 02's refusal 21, so that it can be written and joined. Assumes
 -- nothing.
 --
+--   none-empty           == a list of shots none of which is empty has no empty one
 --   shots-writable       == on success the numbers of the reported shots, four for each, pass 21
 use Prim.Native.Nat.{ℕ, suc, _*_}
 use mathlib.Core.Path.{_≡_, refl, sym, _∙_, ap, ap₂}
@@ -11,7 +12,8 @@ use native.Mathlib.Omega.{arith}
 use lib.ListN.{take}
 use Rattle.sum.specs.Sum.{All}
 use Rattle.sum.proofs.Sum.{rise}
-use Rattle.sum.proofs.Lists.{All-imp}
+use Rattle.sum.proofs.Lists.{All-imp, All-map}
+use Rattle.shot.specs.Shot.{Shot}
 use Rattle.shot.specs.Bad.{empty, anyEmpty, badShots}
 use Rattle.shot.proofs.Bad.{full-only, bad-numbers}
 use Rattle.outline.specs.Grid.{Grid, Sound}
@@ -35,10 +37,10 @@ piece-full g s p v =
     (omega (arith, s .x-rises (p .a) (omega arith), rise (g .x) (s .x-up) (suc (p .a)) (p .c) (omega arith)))
     (omega (arith, s .y-rises (p .b) (omega arith), rise (g .y) (s .y-up) (suc (p .b)) (p .d) (omega arith)))
 
-none-empty : (g : Grid) (l : List Piece) → All (λ p. empty (rectangle g p) ≡ false) l → anyEmpty (map (rectangle g) l) ≡ false
+pub none-empty : (l : List Shot) → All (λ s. empty s ≡ false) l → anyEmpty l ≡ false
 unfolding anyEmpty
-none-empty g [] a = refl
-none-empty g (p ∷ l) a = ap₂ _||_ (a .0) (none-empty g l (a .1))
+none-empty [] a = refl
+none-empty (s ∷ l) a = ap₂ _||_ (a .0) (none-empty l (a .1))
 
 pub shots-writable : (ask : Asked) → Words (ask .figure) → outcome ask .number ≡ 0
     → badShots (take (4 * outcome ask .shots) (outcome ask .list)) ≡ false
@@ -53,8 +55,9 @@ shots-writable ask words e =
     ∙ written-front (frameNumbers (ask .mode) g (ruleOf ask)) (ask .list) in
     ap badShots front
     ∙ bad-numbers (map (rectangle g) l)
-    ∙ none-empty g l
+    ∙ none-empty (map (rectangle g) l)
+    (All-map (λ s. empty s ≡ false) (rectangle g) l
     (All-imp
     (λ p q. piece-full g (sound ask words (inl e)) p (record { ac = q .ac; cx = omega (arith, q .c, f .cx); bd = q .bd; dy = omega (arith, q .d, f .dy) }))
     l
-    (shots-part (ask .mode) g (ruleOf ask) (frame g)))
+    (shots-part (ask .mode) g (ruleOf ask) (frame g))))

@@ -19,6 +19,7 @@
 --   reported-is          == the reported shots are those before division, each replaced by its parts, in their order (Division: parts-at,
 --                           neighbours; Evenly: count-fewest, steps-even)
 --   shots-fit            == no side of a reported shot is longer than m, and each has area
+--   shots-writable       == so the list passes 21: it can be written and joined
 --   cover; shots-inside, shots-apart, shots-cover   == each unit square is in exactly one reported shot if it is inside, and in none if not
 --   these-shots          == count, sliver length and cost, worked out anew from the four numbers of each reported shot, at unit squares
 --   before-division      == the sliver length is that before division, the cuts and the table too; the shots are the sum of the products of
@@ -42,7 +43,9 @@ use Rattle.refusal.proofs.Refusals.{refusal-one, refusal-some}
 use Rattle.rule.specs.declared.Rule.{Rule}
 use Rattle.rule.specs.Charge.{chargeOf}
 use Rattle.shot.specs.Shot.{Shot, holds, numbers, shotsIn}
+use Rattle.shot.specs.Bad.{badShots}
 use Rattle.shot.proofs.Shot.{numbers-length, shots-numbers}
+use Rattle.shot.proofs.Bad.{full-only, bad-numbers}
 use Rattle.figure.specs.Inside.{insideAt}
 use Rattle.outline.specs.Grid.{Grid, Sound}
 use Rattle.piece.specs.Piece.{rectangle, frame}
@@ -56,6 +59,7 @@ use Rattle.demands.proofs.Outcome as undivided
 use Rattle.demands.proofs.Outcome.{written-past, written-length, written-front}
 use Rattle.demands.proofs.Square.{held-one}
 use Rattle.demands.proofs.Accepted.{sound, light}
+use Rattle.demands.proofs.Writable.{none-empty}
 use Rattle.demands.proofs.Demands as demands
 use Rattle.demands.proofs.Room as room
 use Rattle.division.specs.Division.{across, upward, divided, product}
@@ -227,19 +231,32 @@ module _ (ask : Asked) (m : ℕ) where
     unfolding parts
     is-parts = reported-is
 
-    pub shots-fit : o .number ≡ 0 → (s : Shot) → Member s (reported o)
-        → ((s .xlow < s .xhigh) × (across s ≤ m)) × ((s .ylow < s .yhigh) × (upward s ≤ m))
-    shots-fit e s v =
-        All-at Fit v
-        (subst (All Fit) (sym (reported-is e))
+    all-fit : o .number ≡ 0 → All Fit (reported o)
+    all-fit e =
+        subst (All Fit) (sym (reported-is e))
         (All-join Fit (divided m) (reported u)
-        (All-imp {P = λ s. (s .xlow < s .xhigh) × (s .ylow < s .yhigh)} (λ s q. divided-fit m s (omega (arith, k .0)) (q .0) (q .1)) (reported u) (areas (a .fractured)))))
+        (All-imp {P = λ s. (s .xlow < s .xhigh) × (s .ylow < s .yhigh)} (λ s q. divided-fit m s (omega (arith, k .0)) (q .0) (q .1)) (reported u) (areas (a .fractured))))
       where
         a : Accepted ask m
         a = accepted ask m words e
 
         k : (200 ≤ m) × (2 * ask .threshold ≤ m) × (m ≤ 65535)
         k = largest-good (ask .threshold) m (a .passed .fits)
+
+    pub shots-fit : o .number ≡ 0 → (s : Shot) → Member s (reported o)
+        → ((s .xlow < s .xhigh) × (across s ≤ m)) × ((s .ylow < s .yhigh) × (upward s ≤ m))
+    shots-fit e s v = All-at Fit v (all-fit e)
+
+    pub shots-writable : o .number ≡ 0 → badShots (take (4 * o .shots) (o .list)) ≡ false
+    unfolding doneOf
+    shots-writable e =
+        ap badShots
+        (ap (λ (o : Outcome). take (4 * o .shots) (o .list)) (accepted ask m words e .is)
+        ∙ ap (λ n. take n (written (numbers (parts m u)) (ask .list))) (sym (numbers-length (parts m u)))
+        ∙ written-front (numbers (parts m u)) (ask .list))
+        ∙ bad-numbers (parts m u)
+        ∙ none-empty (parts m u)
+        (All-imp {P = Fit} (λ s q. full-only s (q .0 .0) (q .1 .0)) (parts m u) (subst (All Fit) (is-parts e) (all-fit e)))
 
     pub cover : o .number ≡ 0 → (x y : ℕ) → sumOf (λ s. only (holds x y s) 1) (reported o) ≡ only (F x y) 1
     cover e x y =

@@ -63,7 +63,7 @@ module _ {A : Type 0} where
   member-get d (u ∷ l) v (List·Memᴰ·head e) = (0, omega arith, sym e)
   member-get d (u ∷ l) v (List·Memᴰ·tail m) = let i = member-get d l v m in (suc (i .0), omega (arith, i .1), i .2)
 
-  get-member : (d : A) (l : List A) (i : ℕ) → i < length l → Member (getD l i d) l
+  pub get-member : (d : A) (l : List A) (i : ℕ) → i < length l → Member (getD l i d) l
   get-member d [] i h = absurd (omega arith)
   get-member d (u ∷ l) zero h = List·Memᴰ·head refl
   get-member d (u ∷ l) (suc i) h = List·Memᴰ·tail (get-member d l i (omega arith))

@@ -6,6 +6,7 @@ pub mod Sides
 pub mod Owned
 pub mod Few
 pub mod Fractured
+pub mod Divided
 pub mod Undoubled
 pub mod Settled
 pub mod Laws

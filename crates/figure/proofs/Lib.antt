@@ -1,3 +1,4 @@
+pub mod Agreed
 pub mod ByRings
 pub mod Corners
 pub mod Turns

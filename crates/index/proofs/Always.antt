@@ -3,7 +3,8 @@
 --   opened-true, changed-true == a job that is opened, or written anew, has a true index beside it
 --   Left, append-left, remove-left == an accepted change leaves a true index of the new job, a refused one leaves the index as it came in
 --   reached-true     == after any run of these calls from an opened job the index is what a full reading would give
---   pick-true        == by a true index a pick is what taking the outline gives
+--   found-true       == by a true index what is found is the outline of the job, whatever is told of both
+--   pick-true, pick-placed == so a pick is what taking the outline gives, and lies where that lies, also among outlines of equal bytes
 use Prim.Native.Nat.{ℕ, _<_, _≤_}
 use mathlib.Core.Path.{_≡_, _∙_, refl, sym, ap, ap₂, subst}
 use mathlib.Core.Logic.{inl, inr}
@@ -24,8 +25,9 @@ use Rattle.number.proofs.Reading.{many-nth, many-length}
 use Rattle.figure.specs.Figure.{Figure, badFigure}
 use Rattle.job.specs.Job.{mostBytes, mostOutlines, Part, part, outlines, Job, job}
 use Rattle.job.specs.Calls.{told, noPart, partBytes, partTaken, taken}
+use Rattle.job.specs.Placed.{startOf, takenAt}
 use Rattle.job.proofs.Job.{job-whole, part-read}
-use Rattle.index.specs.Index.{startsOf, TrueIndex, OpenSaid, unopened, openedBy, opened, ChangeSaid, unchanged, changedBy, changedTo, withOutline, withoutOutline, appendedTo, appended, removedFrom, removed, found, pickedBy, picked}
+use Rattle.index.specs.Index.{startsOf, TrueIndex, OpenSaid, unopened, openedBy, opened, ChangeSaid, unchanged, changedBy, changedTo, withOutline, withoutOutline, appendedTo, appended, removedFrom, removed, found, pickedBy, picked, startIn, pickedAt}
 use Rattle.index.specs.Reached.{Reached, by-open, by-append, by-remove, not-appended, not-removed}
 
 -- a refusal's number is no 0
@@ -143,30 +145,38 @@ module _ (s index : List ℕ) (n k : ℕ) (t : TrueIndex s index n) where
       let r = part-read s (m .1) (m .4) in
       (m .2, ap (part s) (entry-true h ∙ r .1) ∙ m .4)
 
-  pick-in : k < n → picked s index n k ≡ taken s k
-  unfolding picked found taken
-  pick-in h =
-      let p : pickedBy s (cond (ltb mostBytes (length s)) (fault Long 0) (cond (ltb k n && ltb k (length index)) (part s (getD index k 0)) (fault Missing 0)))
-      ≡ pickedBy s (part s (getD index k 0)) =
+  found-in : (h : k < n) → found s index n k ≡ read (getD (says .parts) k noPart) (there h .0)
+  unfolding found
+  found-in h =
+      let p : cond (ltb mostBytes (length s)) (fault Long 0) (cond (ltb k n && ltb k (length index)) (part s (getD index k 0)) (fault Missing 0))
+      ≡ part s (getD index k 0) =
       simp (short, lt-ltb k n h, lt-ltb k (length index) (omega (arith, h, room)))
-      in
-      let q : told 0 0 (partBytes s (getD (says .parts) k noPart)) ≡ partTaken s k (read says (t .last)) =
-      simp (lt-ltb k (length (says .parts)) (omega (arith, h, t .count)))
-      in p ∙ ap (pickedBy s) (there h .1) ∙ q ∙ sym (ap (partTaken s k) (t .accepted))
+      in p ∙ there h .1
 
-  pick-out : n ≤ k → picked s index n k ≡ taken s k
-  unfolding picked found taken
-  pick-out h =
-      let p : pickedBy s (cond (ltb mostBytes (length s)) (fault Long 0) (cond (ltb k n && ltb k (length index)) (part s (getD index k 0)) (fault Missing 0)))
-      ≡ told (refusalNo Missing) 0 [] =
-      simp (short, le-ltb k n h)
-      in
-      let q : told (refusalNo Missing) 0 [] ≡ partTaken s k (read says (t .last)) =
-      simp (le-ltb k (length (says .parts)) (omega (arith, h, t .count)))
-      in p ∙ q ∙ sym (ap (partTaken s k) (t .accepted))
+  found-out : n ≤ k → found s index n k ≡ fault Missing 0
+  unfolding found
+  found-out h = simp (short, le-ltb k n h)
+
+  -- whatever is told of the outline that is found, and of the job, is the same if it is for each outline of a job, and past the last
+  pub found-true : {A : Type 0} (by : Reading Part → A) (of : Reading Job → A)
+      → ((j : Job) (last end : ℕ) → k < length (j .parts) → by (read (getD (j .parts) k noPart) end) ≡ of (read j last))
+      → ((j : Job) (last : ℕ) → length (j .parts) ≤ k → by (fault Missing 0) ≡ of (read j last))
+      → by (found s index n k) ≡ of (job s)
+  found-true by of within past = elim (le-or n k) [
+    | inl h ↦ ap by (found-out h) ∙ past says (t .last) (omega (arith, h, t .count)) ∙ sym (ap of (t .accepted))
+    | inr h ↦ ap by (found-in h) ∙ within says (t .last) (there h .0) (omega (arith, h, t .count)) ∙ sym (ap of (t .accepted))
+  ]
 
   pub pick-true : picked s index n k ≡ taken s k
-  pick-true = elim (le-or n k) [
-    | inl h ↦ pick-out h
-    | inr h ↦ pick-in h
-  ]
+  unfolding picked taken
+  pick-true =
+      found-true (pickedBy s) (partTaken s k)
+      (λ j last end h. simp (lt-ltb k (length (j .parts)) h))
+      (λ j last h. simp (le-ltb k (length (j .parts)) h))
+
+  pub pick-placed : pickedAt s index n k ≡ takenAt s k
+  unfolding pickedAt takenAt
+  pick-placed =
+      found-true startIn (startOf k)
+      (λ j last end h. simp (lt-ltb k (length (j .parts)) h))
+      (λ j last h. simp (le-ltb k (length (j .parts)) h))

@@ -1,8 +1,10 @@
 pub mod Starts
 pub mod Opens
 pub mod Anew
+pub mod Within
 pub mod Made
 pub mod Always
+pub mod Beyond
 pub mod Offsets
 pub mod Settled
 pub mod Local

@@ -1,6 +1,6 @@
 -- Each promise settles its call: two outcomes that satisfy it are equal, answer and lent memory. Assumes nothing.
 --
---   open-settled, append-settled, remove-settled, pick-settled == for each call of the crate
+--   open-settled, append-settled, remove-settled, pick-settled, find-settled == for each call of the crate
 use Prim.Native.Nat.{ℕ}
 use mathlib.Core.Path.{_≡_, _∙_, refl, sym, ap, ap₂}
 use mathlib.Core.List.{List}
@@ -10,11 +10,15 @@ use Rattle.refusal.specs.Refusals.{refusalNo}
 use Rattle.refusal.proofs.Refusals.{refusal-one, refusal-some}
 use Rattle.figure.specs.Figure.{Figure}
 use Rattle.job.specs.Calls.{TakeSaid, told}
+use Rattle.job.specs.Steps.{locatedTold}
+use Rattle.job.specs.declared.read.Located.{Located}
+use Rattle.job.proofs.Answers.{located-one}
 use Rattle.index.specs.declared.opening.Opened.{Opened}
 use Rattle.index.specs.declared.opening.Opened.the-variants as opens
 use Rattle.index.specs.declared.changing.Changed.{Changed}
 use Rattle.index.specs.declared.changing.Changed.the-variants as changes
-use Rattle.index.specs.Index.{OpenSaid, opened, openTold, ChangeSaid, appended, removed, changeTold, picked}
+use Rattle.index.specs.Index.{OpenSaid, opened, openTold, ChangeSaid, appended, removed, changeTold, found, picked}
+use Rattle.index.specs.Steps.{placeOf}
 
 -- a refusal's number is no 0
 never : (r : Refusal) → 0 ≡ refusalNo r → ⊥
@@ -61,3 +65,6 @@ pub pick-settled : (s index : List ℕ) (c k n at n′ at′ : ℕ) (l l′ : Li
 pick-settled s index c k n at n′ at′ l l′ e f =
     let g = e ∙ sym f in
     (ap (λ (s : TakeSaid). s .number) g, ap (λ (s : TakeSaid). s .offset) g, ap (λ (s : TakeSaid). s .part) g)
+
+pub find-settled : (s index : List ℕ) (c k : ℕ) (u v : Located) → locatedTold u ≡ placeOf (found s index c k) → locatedTold v ≡ placeOf (found s index c k) → u ≡ v
+find-settled s index c k u v e f = located-one u v (e ∙ sym f)

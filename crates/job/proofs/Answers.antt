@@ -1,12 +1,13 @@
 -- What the public steps of reading promise settles them too: two answers that tell the same are the same. Assumes nothing.
 --
+--   head-settled     == the header of a job with the place of its first figure, or its first fault: one answer
 --   whole-settled    == the header of a sound job with the place of its first figure, or the first fault: one answer
 --   locate-settled   == where figure k starts and ends, also among figures of equal bytes: one answer
 use Prim.Native.Nat.{ℕ}
 use mathlib.Core.Path.{_≡_, _∙_, sym, ap, ap₂}
 use mathlib.Core.List.{List}
 use Rattle.number.proofs.Number.{apart}
-use Rattle.job.specs.Job.{Header}
+use Rattle.job.specs.Job.{Header, header}
 use Rattle.job.specs.Steps.{headTold, locatedTold, whole, located}
 use Rattle.job.specs.declared.read.Head.{Head}
 use Rattle.job.specs.declared.read.Head.the-variants as head
@@ -26,11 +27,14 @@ head-one (head.Header t w k c) (head.Fault r p) e = absurd (apart e)
 head-one (head.Fault r p) (head.Header t w k c) e = absurd (apart (sym e))
 head-one (head.Fault r p) (head.Fault r′ p′) e = let a : r ≡ r′ = cc in let b : p ≡ p′ = cc in ap₂ head.Fault a b
 
-located-one : (u v : Located) → locatedTold u ≡ locatedTold v → u ≡ v
+pub located-one : (u v : Located) → locatedTold u ≡ locatedTold v → u ≡ v
 located-one (locate.Part a b) (locate.Part a′ b′) e = let p : a ≡ a′ = cc in let q : b ≡ b′ = cc in ap₂ locate.Part p q
 located-one (locate.Part a b) (locate.Fault r p) e = absurd (apart e)
 located-one (locate.Fault r p) (locate.Part a b) e = absurd (apart (sym e))
 located-one (locate.Fault r p) (locate.Fault r′ p′) e = let a : r ≡ r′ = cc in let b : p ≡ p′ = cc in ap₂ locate.Fault a b
+
+pub head-settled : (s : List ℕ) (u v : Head) → headTold u ≡ header s → headTold v ≡ header s → u ≡ v
+head-settled s u v e f = head-one u v (e ∙ sym f)
 
 pub whole-settled : (s : List ℕ) (u v : Head) → headTold u ≡ whole s → headTold v ≡ whole s → u ≡ v
 whole-settled s u v e f = head-one u v (e ∙ sym f)

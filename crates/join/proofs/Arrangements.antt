@@ -1,19 +1,23 @@
--- The rows of Item 13, computed: which shots can be joined, who is whose partner, and how many flashes they take.
+-- The rows of Item 13, computed: which shots can be joined, who is whose partner, how many flashes they take, and how many corners the union
+-- of two shots has.
 --
 --   all-joined, none-joined   == shots on all four sides of one: with both ends in common, or the low ones, or the high ones; and with no
 --                                end in common, in a point, apart, one over the other
 --   row-is                    == the promise of a list and a table allows just one outcome, which the steps compute
 --   rows                      == lists with their partners and flashes; the last has four rectangles that take two flashes, as document 003
 --                                says of its Figure 3 (its text gives no sizes: these are ours)
+--   union-corners             == of one rectangle 4; of two that touch in a point 8, whichever way they lie; of a T 8; of two apart 8
 use Prim.Native.Nat.{ℕ, _/_}
 use mathlib.Core.Path.{_≡_, refl}
 use mathlib.Core.Bool.{true, false}
 use mathlib.Core.List.{List, [], _∷_, map}
 use lib.ListN.{length, replicate}
-use Rattle.shot.specs.Shot.{Shot, shotsIn}
+use Rattle.sum.specs.Sum.{over}
+use Rattle.shot.specs.Shot.{Shot, holds, shotsIn}
 use Rattle.shot.specs.Bad.{badShots, empty, anyEmpty}
 use Rattle.join.specs.declared.Joined.{Joined}
 use Rattle.join.specs.Join.{touches, beside, below, canJoin, noEntry, at, asShot, JoinSaid, joinTold, Promise}
+use Rattle.join.specs.Union.{union, cornersAt, corners}
 use Rattle.join.specs.Steps.{mated, takes, first, settled, mateOf, setPartner, linked, paired, counted, pairsTo, entryOf, filled, checked, toJoin, answered}
 use Rattle.join.proofs.Promised.{call-ends}
 use Rattle.join.proofs.Settled.{join-settled}
@@ -47,6 +51,17 @@ all-joined = (refl, refl)
 pub none-joined : (map (canJoin one) far ≡ replicate 13 false) × (map (λ b. canJoin b one) far ≡ replicate 13 false)
 unfolding canJoin beside below touches
 none-joined = (refl, refl)
+
+-- ---- corners, counted at the grid points below 8
+abbrev cornersOf : Shot → Shot → ℕ
+cornersOf a b = corners (union a b) 8
+
+pub union-corners : cornersOf (shot 1 2 4 7) (shot 1 2 4 7)
+    ∷ cornersOf (shot 0 0 3 3) (shot 3 3 6 5) ∷ cornersOf (shot 0 3 3 5) (shot 3 0 6 3)
+    ∷ cornersOf (shot 0 3 6 5) (shot 2 0 4 3) ∷ cornersOf (shot 0 0 2 2) (shot 4 1 6 5) ∷ []
+    ≡ 4 ∷ 8 ∷ 8 ∷ 8 ∷ 8 ∷ []
+unfolding corners cornersAt union holds over
+union-corners = refl
 
 -- ---- lists
 abbrev outcome : List ℕ → List Joined → JoinSaid

@@ -3,3 +3,4 @@ pub mod Saves
 pub mod Sound
 pub mod Settled
 pub mod Exactly
+pub mod Beyond

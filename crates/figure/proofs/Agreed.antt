@@ -1,0 +1,34 @@
+-- One drawing and another of it, written out in numbers. Assumes nothing.
+--
+--   frame-redrawn   == a frame of 60 nm with a window of 20 nm, and the same with the window first, its corners the other way round, and
+--                      the frame from its second corner on: the two lists of numbers, and that the second is `Redrawn` of the first
+use Prim.Native.Nat.{ℕ}
+use mathlib.Core.Path.{_≡_, refl}
+use mathlib.Core.List.{List, [], _∷_, _++_, map, reverse}
+use lib.ListN.{length}
+use Rattle.sum.specs.Sum.{join}
+use Rattle.figure.specs.Corners.{Corner}
+use Rattle.figure.specs.Figure.{figure}
+use Rattle.figure.specs.Redrawn.{numbersOf, ofRings, Redrawn, start, way, order, under, then}
+
+abbrev corner : ℕ → ℕ → Corner
+corner a b = record { x = a; y = b }
+
+abbrev frame : List Corner
+frame = corner 0 0 ∷ corner 60 0 ∷ corner 60 60 ∷ corner 0 60 ∷ []
+
+abbrev window : List Corner
+window = corner 20 20 ∷ corner 40 20 ∷ corner 40 40 ∷ corner 20 40 ∷ []
+
+abbrev frameLater : List Corner
+frameLater = corner 60 0 ∷ corner 60 60 ∷ corner 0 60 ∷ corner 0 0 ∷ []
+
+abbrev windowBack : List Corner
+windowBack = corner 20 40 ∷ corner 40 40 ∷ corner 40 20 ∷ corner 20 20 ∷ []
+
+pub frame-redrawn : (ofRings (frame ∷ window ∷ []) ≡ figure (0 ∷ 0 ∷ 60 ∷ 0 ∷ 60 ∷ 60 ∷ 0 ∷ 60 ∷ 20 ∷ 20 ∷ 40 ∷ 20 ∷ 40 ∷ 40 ∷ 20 ∷ 40 ∷ []) (4 ∷ 4 ∷ []))
+    × (ofRings (windowBack ∷ frameLater ∷ []) ≡ figure (20 ∷ 40 ∷ 40 ∷ 40 ∷ 40 ∷ 20 ∷ 20 ∷ 20 ∷ 60 ∷ 0 ∷ 60 ∷ 60 ∷ 0 ∷ 60 ∷ 0 ∷ 0 ∷ []) (4 ∷ 4 ∷ []))
+    × Redrawn (frame ∷ window ∷ []) (windowBack ∷ frameLater ∷ [])
+unfolding ofRings numbersOf join
+frame-redrawn =
+    (refl, refl, then (order frame window []) (then (way window (frame ∷ [])) (under windowBack (start (corner 0 0) (corner 60 0 ∷ corner 60 60 ∷ corner 0 60 ∷ []) []))))
