@@ -2,6 +2,7 @@
 --
 --   openLent           == the number returned, the numbers lent, and what the index holds then
 --   changeLent         == the same of a change, with what the buffer holds
+--   partFound r        == where a part lies that is read, and how long it is, or the refusal and the offset
 --   pickSaid s index n k == where the outline lies that entry k points at, and how long it is, or the refusal and the offset
 use Prim.Native.Nat.{ℕ}
 use mathlib.Core.List.{List}

@@ -7,6 +7,7 @@
 --   NumberSaid, numberSaid     == what reading a number tells: document 01's number, the value, the place past it, the offset
 --   numberLent, checkLent, unpackLent, writeLent  == the number returned, the numbers lent, and what the slice lent holds then
 --   OutlineSaid, outlineSaid s k  == where outline k of the job s starts and how long it is, or the refusal and the offset
+--   partSaid p, jobPart k r    == the same of a part; of part k of a job that is read or not
 --   outlineLent                == the number returned and the numbers lent
 --   boundaryLent, plateLent    == the number returned, the numbers lent, and what the slices lent hold then
 --   flashesOf, pairingNo       == the flashes and the number of a pairing's answer; what is lent of it is `joinLent`

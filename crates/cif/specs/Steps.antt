@@ -1,14 +1,19 @@
--- Inner: what the functions on the way promise.
+-- Inner: what the functions on the way promise. Nobody has to believe these.
 --
 --   StandsTold s at l r  == r tells whether the bytes l stand at the place
 --   Digit b r            == r is what the byte b is worth as a digit, or 10 where it is none
 --   NoDigit s at, DigitAt s at r == no digit stands at the place; r is the digit that stands there, or 10 where none does
 --   Apart l              == l begins with a byte that is no digit
 --   Found form s at v next == the number v stands at the place in this form, next is the place past it, and no other number does
+--   Absent form s at     == no number below 1,000,000 stands at the place in this form
 --   NumeralTold form s at r  == what each case of reading a number tells
 --   Two s at v w next, PairTold s at r == the same of two fields
+--   Small a b x y        == each of the four is below 1,000,000
+--   Same a b x y a′ b′ x′ y′ == the first four numbers are the other four, each in its turn
 --   Four s at a b x y next, LineTold s at r == the same of a box line
+--   Between side centre low high == the doubled side and the doubled centre from low to high, which is above it and at most 65,535
 --   SpanTold side centre r == the low and the high end of a doubled side about a doubled centre, or that there are none
+--   BoxAt s at b next    == the box of the shot b stands at the place, and next is the place past it
 --   BoxTold s at r       == the shot whose box stands at the place, or that no box stands there
 --   Boxes s at l         == the boxes of these shots stand at the place
 --   BoxesTold s at n next == as many boxes as there are stand at the place, n of them, and next is the place past them

@@ -1,10 +1,9 @@
 // Box lines: `B length width x y;`, with the doubled sides and the doubled centre of a shot.
 use crate::numeral::Pair;
 use crate::numeral::two;
-ghost use mathlib.Core.Path.{_≡_};
-ghost use Prim.Native.Nat.{_+_, _<_, _≤_};
+ghost use Prim.Native.Nat.{_<_, _≤_};
 ghost use lib.ListN.{length};
-ghost use Rattle.cif.specs.Steps.{StandsTold, LineTold, SpanTold, BoxTold, Small};
+ghost use Rattle.cif.specs.Steps.{StandsTold, LineTold, SpanTold, BoxTold};
 
 // The four numbers of a box line, with the place past the line.
 pub enum Fields {
@@ -24,6 +23,7 @@ pub enum Boxed {
     Wrong,
 }
 
+// The highest place, in nm (figure's limit; cif does not know figures).
 const MOST_PLACE: u32 = 65535;
 
 // Whether some bytes stand at a place.

@@ -8,6 +8,7 @@
 --   climb f r s j e m k  == the shares of k rows from the row j on, which is e rows above the corner, until one has another sort than s;
 --                           the pieces below it have at most m columns
 --   corner f r rows b    == those of all rows from b on
+--   reachAt cells columns a j == how many cells of the row j are of one sort, from the column a on
 --   spared, sparedAll    == those of all rows of a column; of all columns
 use Prim.Native.Nat.{ℕ, zero, suc, _+_, _*_, _-_, _≤_, _<_, min}
 use mathlib.Core.Path.{_≡_}

@@ -1,8 +1,8 @@
 // The pieces of one sort, by the cell at their low corner: how far the rows above it go on with the same sort.
 use outline::MOST_LINES;
 ghost use mathlib.Core.Path.{_≡_};
-ghost use Prim.Native.Nat.{ℕ, _+_, _*_, _<_, _≤_};
-ghost use lib.ListN.{length, getD};
+ghost use Prim.Native.Nat.{_<_, _≤_};
+ghost use lib.ListN.{length};
 ghost use Rattle.sum.specs.Sum.{over};
 ghost use Rattle.table.specs.Run.{Wrote};
 ghost use Rattle.count.specs.Corners.{cellAt, numberAt, farther, widened, Widenable, Climbable, corner, sparedAll};

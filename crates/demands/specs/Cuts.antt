@@ -13,6 +13,7 @@
 --   squaresIn F s        == how many unit squares of the rectangle s are inside
 --   area s               == how many it has
 --   partly F s           == some are inside, and some are not
+--   pairSum on f         == the sum of f u v over the pairs u < v of marked places
 --   squareCuts           == over all rectangles from marked places to marked places that are partly inside, the marked places strictly
 --                           between their ends, both ways
 use Prim.Native.Nat.{ℕ, suc, _+_, _*_, _-_, _/_}

@@ -1,11 +1,13 @@
 -- To believe: what a fracture with a largest side promises, its answer and both lent buffers, for every input; and when it is refused.
 --
 --   badLargest t m     == 19: the largest side m is below 200, below twice the threshold t, or above 65,535
+--   roomAside          == a list of 900 numbers
 --   aside ask          == the same question before division: its shots have room aside, 900 numbers, which are enough for every figure
 --   parts m o          == the shots of an outcome o, each replaced by its parts
 --   listed w l v k table list
 --                      == of the parts l, by the weight w, v nm of sliver and k cuts being reported before: 7, which gives the shots needed and
 --                         leaves the list, or the parts. The cost is reported anew
+--   after m w o list   == by the outcome o before division: what it is refused by, or its parts, listed
 --   dividedOutcome ask m == 1; 19; what the undivided fracture is refused by; 7 or the parts. The table holds the costs before division
 --   Condition, First   == the same as conditions of the input alone: 19 and 7 in document 02's words, 1 to 6 as they are without m; tried in
 --                         the order 1, 19, 2 to 7

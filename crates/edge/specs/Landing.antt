@@ -6,8 +6,10 @@
 --   shape s              == the shot s as a figure: the squares that it holds
 --   first t l n          == the number of the first shot of l that passes the test t, the shots being numbered from n; 0 if none does
 --   Landing              == a shot's number, from 1, or 0 for none; and a side, or 0 for none
+--   shotWith c a l p k   == the number of the first shot of l that has the side c at the stretch, from 1; 0 if none does, or c is 0
 --   landing a F l p k    == where the stretch ends up: on the first shot of l that it lies on the same side of as of the figure F
 --   Run                  == a run of stretches: from, to, and where they end up
+--   put k a l            == the stretch k, which ends up at a, before the runs l: with the first of them where that ends up alike
 --   runs f k n           == the n stretches from k on, neighbours that end up alike being one run
 --   edgeRuns F l e       == the runs of the edge e, from its low end to its high end
 use Prim.Native.Nat.{ℕ, zero, suc, _-_}

@@ -12,6 +12,7 @@
 --   shotBy c a l p k         == the first shot of l that has the side c there so, numbered from 1
 --   Solid a l                == each shot of l has an extent along the axis a
 --   told r                   == where the code says that a stretch ends up
+--   placeOf b l i            == the place of corner i of the numbers l along the axis b
 --   Nearer, Free, Steady, Whole  == of a place and the nearest so far; no corner lies between; up to there all end up alike; a whole run
 --   runCount, put4, runsWritten  == how many runs; four numbers written; all runs written
 --   between l i j            == the edge from corner i of the numbers l to corner j

@@ -5,7 +5,6 @@ use verdict::Numbered;
 use verdict::Plan;
 use verdict::pinwheel::Turned;
 use verdict::pinwheel::judge;
-ghost use Prim.Native.Nat.{_+_, _≤_};
 ghost use lib.ListN.{length};
 ghost use Rattle.outline.specs.Grid.{Grid};
 ghost use Rattle.rule.specs.declared.Rule.{Rule};

@@ -6,7 +6,7 @@
 --   handed ps l              == the corners at the front of the list, or 14 where it is too short for them
 --   pointsRead l r           == the same of points that are read or not, 2 to 5 by their figure before 14
 --   boundaryRead s l         == reading the element s to the list l
---   PlateSaid                == what a fracture tells: number, shots, cost, sliver, shift in x and y, offset, and both buffers afterwards
+--   PlateSaid                == what a fracture tells: number, shots, cost, sliver, cuts, shift in x and y, offset, and both buffers afterwards
 --   unplated n shots at table list
 --                            == refused by the number n, with the shots needed beside 7: zeros beside it but for the offset
 --   fractured ps table list  == the fracture of the ring by preset 0, which is named here: no change of a default moves it

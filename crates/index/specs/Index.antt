@@ -11,13 +11,16 @@
 --   changedBy b index out r == the new job b, which is read or not: its bytes at the front of the buffer and its starts, by a full reading,
 --                             at the front of the index; or 14 where either is too short
 --   changedTo b index out  == the same of the bytes b
+--   figures j              == the rings of each outline of a job that is read
 --   withOutline j f, withoutOutline j k == the bytes of a job with one outline more at its end, or without outline k
 --   appended s f index out == appending the figure f to the job s: the job's fault, 2, 20, 12, 14
 --   removed s k index out  == removing outline k of the job s: the job's fault, 13, 14
+--   appendedTo f index out r, removedFrom k index out r == the same by the job that is read or not
 --   found s index n k      == the outline that entry k of the index points at: 12, 13 where k reaches the count or the room, then what
 --                             reading an outline there finds
 --   pickedBy s r           == the bytes of an outline that is found; with a refusal none
 --   picked s index n k     == picking outline k of the job s by an index of n entries
+--   startIn r              == where an outline that is found starts; with a refusal 0
 --   pickedAt s index n k   == where the part starts that is handed back; beside a refusal, at the job's first byte
 --   openTold, changeTold   == the same for each case of an answer of the code, with the lent memory afterwards
 use Prim.Native.Nat.{ℕ, suc}

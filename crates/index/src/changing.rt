@@ -22,10 +22,10 @@ ghost use Rattle.job.specs.Job.{mostBytes};
 ghost use Rattle.index.specs.Index.{changeTold, appended, removed};
 ghost use Rattle.index.specs.Steps.{Parted, changedFor};
 
-// Room for the longest header, three numbers of three bytes.
+// Room for three numbers of three bytes, the most that a number has. A header in range takes six at most.
 const HEADER_BYTES: usize = 9;
 
-// Room for any figure's bytes: at most 202 are written.
+// Room for any figure's bytes: 202 at most by the sizes of its numbers; 222 is what is proved, and is enough here.
 const FIGURE_BYTES: usize = 256;
 
 // How many bytes the new job has at the front of the buffer, and how many outlines, with the offset of each at the front of the index;

@@ -4,11 +4,12 @@
 --                              a stretch, and at least one of their ends coincides
 --   beside a b, below a b   == the right side of a and the left one of b meet so; the top of a and the bottom of b
 --   canJoin a b             == a right side touches a left one, or a top a bottom
---   nth l i                 == shot i of a list
+--   nth l i                 == shot i of a list; past its end noShot, four zeros
 --   Greedy l p              == p i is the partner of shot i of the list l, or i where it has none: partners point at each other and can be
 --                              joined; in list order each free shot took the first later free one that it can join
 --   pairs p n               == the pairs among the first n shots, each counted at its lower number
---   asShot e                == the shot of an entry;   at t i == entry i of a table;   partnerAt t i == its partner
+--   asShot e                == the shot of an entry;   at t i == entry i of a table, past its end noEntry, five zeros;   partnerAt t i == its
+--                              partner
 --   refusal l room          == 21, 14, in this order; 0 where the list l is joined in a table of so many entries
 --   JoinSaid, joinLent      == what the call says: document 02's number, the flashes, and the table as it is then
 --   joinTold r t            == that, of the answer r

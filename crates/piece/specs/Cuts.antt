@@ -4,6 +4,7 @@
 --   turns            == the two turns of a pinwheel in their order: the first and the second term of equation (3)
 --   Cut              == a vertical cut lies on an x line, a horizontal one on a y line; it runs across the whole piece. A pinwheel has its
 --                       turn, its x lines j < l and its y lines k < m
+--   run k n          == the n numbers from k up
 --   between a c      == the lines strictly between two lines, from low to high
 --   straightCuts p   == the straight cuts of a piece: vertical before horizontal, the lower line before the higher
 --   wheels t p       == its pinwheels of one turn: the lowest j first, then the lowest l, then k, then m
@@ -16,6 +17,7 @@
 --   shots mode g r p == the shots of the piece p, in list order
 --   cost mode g r p  == their charges together
 --   choice mode g r p == the first cut of p whose parts cost what p costs
+--   Then i j R       == i is below j, or they are equal and R holds
 --   Lower j l k m .. == of two pinwheels of one turn the lower: by j, then l, then k, then m
 --   Before i k       == the cut i comes before the cut k in the tie order, in the documents' words: vertical before horizontal, the lower line
 --                       before the higher, straight cuts before pinwheels, the first turn before the second

@@ -11,7 +11,8 @@
 -- Kinds
 --   cellSum f p               == the sum of f i j over p's cells (i, j)
 --   cells p, insideCells g p  == how many cells p has, and how many of them are inside
---   kind g p                  == outside, full or mixed
+--   kindOf n m                == the kind of a piece with n inside cells of m: outside, full or mixed
+--   kind g p                  == the kind of p
 -- Exposed sides, in nm: the cell within is inside and the cell across is not, or there is none
 --   lowSide f k, highSide f k == along one row or column, f k being that the cell k is inside: whether the low side of the cell k,
 --                                and whether the high side of the cell before the line k, is exposed
@@ -21,7 +22,7 @@
 --   sliver g r p              == p's sliver length under the rule r (rule/specs/Charge.antt)
 --   charge g r p              == its charge as a shot: equation (1) of the paper, times 1,000
 --   mostCost                  == document 01's bound: no total exceeds it
-use Prim.Native.Nat.{ℕ, zero, suc, _+_, _*_, _-_}
+use Prim.Native.Nat.{ℕ, zero, suc, _+_, _-_}
 use mathlib.Core.Bool.{Bool, true, false, not, _&&_}
 use lib.Dec.{leb, ltb, eqb}
 use Rattle.sum.specs.Sum.{over, only}

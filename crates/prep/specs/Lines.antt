@@ -1,4 +1,4 @@
--- What the lines of a fracture ask of the answer, and of the list beside it.
+-- Inner: what the lines of a fracture ask of the answer, and of the list beside it.
 --
 --   Listed a n       == a list of n numbers holds the shots of the answer a
 --   refusedBy a      == the answer a is a refusal

@@ -1,4 +1,4 @@
--- What the buffered writer keeps.
+-- Inner: what the buffered writer keeps.
 --
 --   Remembers out r    == a write that failed is not forgotten
 use mathlib.Core.Path.{_≡_}

@@ -1,4 +1,5 @@
--- To believe: any way to cut a piece until no part of it is mixed, its shots and its price. Nothing here knows of the recurrence.
+-- Inner: any way to cut a piece until no part of it is mixed, its shots and its price. Nothing here knows of the recurrence. Nobody has to
+-- believe these: demand 3 is said of ways of its own (demands/specs/Ways.antt).
 --
 --   Cutting S May p      == a way to cut the piece p: leave it where it is outside, shoot it where it is full, or, if it may be
 --                           cut (May p), make one of its cuts and cut the parts in turn. A full piece may be cut too, if May says so

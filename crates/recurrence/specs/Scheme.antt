@@ -1,10 +1,12 @@
--- To believe: what a fracture goes by, and the recurrence, over any sort of piece and cut: straight cuts are one scheme.
+-- To believe: what a fracture goes by, and the recurrence, over any sort of piece and cut: straight cuts are one scheme, straight cuts
+-- and pinwheels another.
 --
 --   Kind             == a piece has no inside cell, or only inside cells, or cells of both sorts
 --   Scheme P K       == the kind of a piece, its charge as a shot, the cuts to weigh in tie order, and a cut's parts in list order
 --   oneStep S f p    == the right side of the recurrence, the shots of the parts being f's: none outside; the piece itself where it is
 --                       full; else those of the parts of its cheapest cut, of equals the first
---   Solves S f       == the recurrence, the paper's equation (2): f gives the shots of every piece so
+--   Solves S f       == the recurrence, the paper's equation (2); with pinwheels among the cuts (2) and (3): f gives the shots of every
+--                       piece so
 --   Ends S size      == each cut of a mixed piece makes it smaller, and each mixed piece has a cut: so the recurrence ends, and has one
 --                       solution (`solution`, `solution-only`)
 --   shotsBy S n p    == that solution at the piece p, by n steps, which is more than the depth of cuts

@@ -1,4 +1,5 @@
--- To believe: document 01, "When the answer is no", and from 16 on document 02.
+-- To believe: the numbers of refusals, document 01's ("When the answer is no"), from 16 on document 02's, and 23 that of one edge
+-- (docs/SCOPE.md).
 --
 --   refusalNo      == the number of each refusal
 use Prim.Native.Nat.{ℕ}

@@ -3,10 +3,10 @@ use refusal::Refusal;
 ghost use mathlib.Core.Path.{_≡_};
 ghost use Prim.Native.Nat.{_≤_, min};
 ghost use Rattle.sum.specs.Sum.{only};
-ghost use Rattle.rule.specs.Rules.{limit, Told, madeTold, rowTold, ruleTold, presetTold};
+ghost use Rattle.rule.specs.Rules.{limit, madeTold, rowTold, ruleTold, presetTold};
 ghost use Rattle.rule.specs.Charge.{longer, sliverOf, spared, chargeOf};
 
-// A shot narrower than the threshold (in nm) is a sliver; each nm of its exposed sides weighs so many thousandths of a shot.
+// A shot whose shorter side is below the threshold (in nm) is a sliver; each exposed nm of its two longer sides weighs so many thousandths of a shot.
 pub struct Rule {
     pub threshold: u32,
     pub weight: u32,

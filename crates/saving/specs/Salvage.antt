@@ -1,6 +1,7 @@
 -- To believe: what is left of a job: the outlines before the first fault, a sound job of them, and what is lost and dropped.
 --
 --   Left                 == outlines that read well one after another, and where the last of them ends
+--   leftBy r at rest     == by the outline that is read at a place or not: it and the rest behind it, or none
 --   keptFrom s k at      == of k outlines from a place on, those before the first that does not read at its place
 --   savedBytes s h first l == the job of what is left: the header with the right count, and the kept outlines' own bytes
 --   SaveSaid             == what saving tells: number, the bytes written, outlines kept, outlines lost of those declared, bytes dropped, offset,

@@ -19,7 +19,7 @@ ghost use Rattle.job.specs.Calls.{writeTold, writtenTo};
 ghost use Rattle.saving.specs.Salvage.{keptFrom, saved, saveTold};
 ghost use Rattle.saving.specs.Steps.{Keeps, InRange};
 
-// Room for the longest header, three numbers of three bytes.
+// Room for three numbers of three bytes, the most that a number has. A header in range takes six at most.
 const HEADER_BYTES: usize = 9;
 
 // How many bytes the sound job has at the front of the buffer, how many outlines were kept, how many of those declared were lost, and how

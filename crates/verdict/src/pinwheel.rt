@@ -12,7 +12,7 @@ use piece::Piece;
 use piece::Turn;
 use table::numbering::entry;
 ghost use mathlib.Core.Path.{_≡_};
-ghost use Prim.Native.Nat.{_+_, _≤_, _<_};
+ghost use Prim.Native.Nat.{_+_, _<_};
 ghost use Rattle.outline.specs.Grid.{Grid};
 ghost use Rattle.rule.specs.declared.Rule.{Rule};
 ghost use Rattle.piece.specs.declared.Mode.the-variants.{Pinwheel};
@@ -23,7 +23,7 @@ ghost use Rattle.table.specs.Entry.{Valid};
 ghost use Rattle.verdict.specs.Memory.{Costed, Judgeable};
 ghost use Rattle.verdict.specs.Verdict.{placed, wheelIn, verdictOf};
 ghost use Rattle.verdict.specs.Search.{FirstWith};
-ghost use Rattle.verdict.specs.Pinwheels.{sought, weightOf, Addable, Small, Huntable, Lines, Meets, WithM, WithK, WithL, Leads, Turnable, FirstWheel};
+ghost use Rattle.verdict.specs.Pinwheels.{weightOf, Addable, Small, Huntable, Lines, Meets, WithM, WithK, WithL, Leads, Turnable, FirstWheel};
 
 // The five parts of a pinwheel, in the order of equation (3): four arms and the inner piece.
 pub struct Wheel {

@@ -171,7 +171,7 @@ fn count_held(cells: &[u8; 256], grid: Grid, lies: Lies) -> usize {
     count
 }
 
-// Whether all cells of a piece from number n on are inside, the cells being numbered by columns.
+// Whether cell number n, the cells being numbered by columns, is one of the piece's and is not inside.
 fn is_hole(cells: &[u8; 256], p: Piece, n: usize) -> bool {
     let i = n / 16;
     let j = n % 16;

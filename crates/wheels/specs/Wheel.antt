@@ -19,6 +19,8 @@
 --                             has for it: S e a v says that v was weighed for the e-th piece in lane a. No number is raised anywhere
 --   Among lo hi S          == what S j has, for a j from lo up to, and without, hi
 --   startAt, wheelsFrom    == what is weighed for the pieces from b to d: the lower arms and a number of a list; each pinwheel
+--   endsAt, fromTo         == the pinwheels with these arms that end at the line d; of both turns whose lower arms meet at a line, from k
+--                             to any m above it
 --   turned, bothTurns, ofLine, wheeled
 --                          == the pinwheels with these arms; of both turns from k to m; whose lower arms meet at a line; all of them
 --   firstArms, secondArms  == the arms of the two turns (equation (3)): lower arms that meet at the line l and end at k and m, the

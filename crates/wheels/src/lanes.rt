@@ -1,4 +1,4 @@
-// The pinwheels of one height line d, of all strips of one width at once: the strip that begins at the x line a stands in lane a. Lines
+// The pinwheels that end at one y line d, of all strips of one width at once: the strip that begins at the x line a stands in lane a. Lines
 // of a strip are counted from its own first. A store keeps the costs of all narrower strips, width by width: spot(pairs, v, e, x) is
 // where those of the e-th piece of the strips v columns wide begin, from the strip on that begins at the x line x.
 use outline::Line;
