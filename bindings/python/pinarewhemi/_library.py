@@ -117,7 +117,8 @@ def places():
     # beside this file; in the package that ./build made in this repository; where the system keeps libraries
     here = pathlib.Path(__file__).resolve().parent
     yield str(here / "libpinarewhemi.so")
-    yield str(here.parents[2] / "target" / "package" / platform.machine() / "lib" / "libpinarewhemi.so")
+    if len(here.parents) > 2:
+        yield str(here.parents[2] / "target" / "package" / platform.machine() / "lib" / "libpinarewhemi.so")
     yield ctypes.util.find_library("pinarewhemi") or "libpinarewhemi.so"
 
 

@@ -1,13 +1,16 @@
 """The table of calls, the refusals and the rooms of this module are those of include/pinarewhemi.h."""
 
+import ctypes.util
 import os
 import pathlib
 import re
 import subprocess
 import sys
 import unittest
+from unittest import mock
 
 import pinarewhemi as pw
+from pinarewhemi import _library
 from pinarewhemi._refused import TEXTS
 from pinarewhemi._table import CALLS, ROOMS
 
@@ -68,6 +71,15 @@ class Header(unittest.TestCase):
         )
         self.assertEqual(told.returncode, 1)
         self.assertIn("/nowhere/libpinarewhemi.so: there is none", told.stderr)
+
+    def test_library_beside_a_short_path(self):
+        """A package right below / has no repository around it: the system's library is tried all the same."""
+        for file, count in (("/pinarewhemi/_library.py", 2), ("/a/b/c/pinarewhemi/_library.py", 3)):
+            with mock.patch.object(_library, "__file__", file), mock.patch.dict(os.environ):
+                os.environ.pop("PINAREWHEMI_LIBRARY", None)
+                places = list(_library.places())
+            self.assertEqual(len(places), count)
+            self.assertEqual(places[-1], ctypes.util.find_library("pinarewhemi") or "libpinarewhemi.so")
 
     def test_version(self):
         self.assertEqual(re.search(r'#define PW_VERSION "(.*?)"', HEADER).group(1), pw.__version__)

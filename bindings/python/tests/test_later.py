@@ -1,6 +1,7 @@
 """Pinwheels, the largest shot, index and salvage: each where the library has the call."""
 
 import unittest
+from unittest import mock
 
 import pinarewhemi as pw
 
@@ -22,10 +23,10 @@ class Later(unittest.TestCase):
         self.assertEqual((caught.exception.number, caught.exception.offset), (number, offset))
 
     def test_what_is_lacking_says_so(self):
-        for name in ("fracture_pinwheel", "fracture_divided", "index_open", "salvage", "cif_write"):
-            if not hasattr(pw, name):
-                with self.assertRaisesRegex(AttributeError, "pw_" + name):
-                    getattr(pw, name)
+        """As a library that lacks calls would have it, and a name that no library has."""
+        with mock.patch.dict(pw._calls.LACKING, mirror=["pw_mirror", "pw_turn"]):
+            with self.assertRaisesRegex(AttributeError, "has no pw_mirror, pw_turn$"):
+                pw.mirror
         with self.assertRaisesRegex(AttributeError, "no attribute 'fracture_by_hand'"):
             pw.fracture_by_hand
 

@@ -1,4 +1,4 @@
-//! The table of src/lent.rs is that of the header that came with the library.
+//! The table of src/lent.rs, the rooms and the texts of refusals are those of the header that came with the library.
 
 use std::collections::BTreeMap;
 use std::fs;
@@ -102,17 +102,39 @@ fn the_rooms_are_the_headers() {
         ("PW_HEADER_BYTES", HEADER_BYTES),
         ("PW_OUTLINE_BYTES", OUTLINE_BYTES),
         ("PW_JOB_BYTES", JOB_BYTES),
+        ("PW_CUTS_MOST", CUTS_MOST),
         ("PW_EDGE_NUMBERS", EDGE_NUMBERS),
         ("PW_INDEX_ENTRIES", INDEX_ENTRIES),
+        ("PW_CIF_BYTES", CIF_BYTES),
     ];
+    let rooms = BTreeMap::from(rooms.map(|(name, room)| (name.to_string(), room)));
+    assert_eq!(constants("pw_room"), rooms);
+}
+
+/// The names and numbers of an enum of the header.
+fn constants(name: &str) -> BTreeMap<String, usize> {
     let header = bare(&fs::read_to_string(env!("PINAREWHEMI_HEADER")).unwrap());
-    let mut held = 0;
-    for (name, room) in rooms {
-        if let Some(rest) = header.split(&format!("{name} = ")).nth(1) {
-            let digits: String = rest.chars().take_while(char::is_ascii_digit).collect();
-            assert_eq!(digits.parse(), Ok(room), "{name}");
-            held += 1;
-        }
+    let rest = header.split_once(&format!("enum {name} {{")).unwrap().1;
+    let mut constants = BTreeMap::new();
+    for line in rest.split_once('}').unwrap().0.split(',').map(squeezed).filter(|line| !line.is_empty()) {
+        let (name, number) = line.split_once(" = ").unwrap();
+        constants.insert(name.to_string(), number.parse().unwrap());
     }
-    assert!(held >= 8);
+    constants
+}
+
+#[test]
+fn the_texts_are_the_headers() {
+    let header = bare(&fs::read_to_string(env!("PINAREWHEMI_HEADER")).unwrap());
+    let mut numbers = constants("pw_refusal");
+    assert_eq!(numbers.remove("PW_OK"), Some(0));
+    let mut held = 0;
+    for case in header.split("case ").skip(1) {
+        let (name, rest) = case.split_once(": return \"").unwrap();
+        let number = numbers.remove(name).unwrap() as u32;
+        let refused = pinarewhemi::Refused { number, offset: None, shots: 0 };
+        assert_eq!(Some(refused.text()), rest.split('"').next(), "{name}");
+        held += 1;
+    }
+    assert_eq!((held, numbers.len()), (23, 0));
 }

@@ -1,5 +1,5 @@
-//! Saving what is left of a job compared: the worked rows, jobs cut at every length, with every byte set to some values and
-//! bytes behind, and jobs from seeds damaged at every byte.
+//! Saving what is left of a job compared: the worked rows, and the worked job and jobs from seeds cut at every length, with
+//! every byte set to some values, with a byte behind, and damaged at every byte.
 
 use crate::indexes::worked_job;
 use crate::progress::Progress;
@@ -84,8 +84,8 @@ pub fn rows(plan: &Plan, progress: &Progress) {
 /// Values that a broken byte takes.
 const VALUES: [u8; 12] = [0, 1, 2, 3, 4, 5, 8, 33, 0x7f, 0x80, 0x81, 0xff];
 
-/// The worked job and jobs from seeds: cut at every length, every byte set to each of some values, bytes behind, and
-/// damaged at every byte.
+/// The worked job and jobs from seeds: cut at every length, every byte and one behind set to each of some values, and
+/// damaged at every byte in one of the ways. Of the 80 jobs of seed 1, the longest of 2,301 bytes: 549,318 calls.
 pub fn damaged(plan: &Plan, progress: &Progress) {
     let Some(library) = plan.library else { return };
     let count = (plan.jobs / 1500).clamp(8, 80) as u64;
@@ -94,8 +94,7 @@ pub fn damaged(plan: &Plan, progress: &Progress) {
         let mut s = Seeded::new(plan.seed << 32 | 0x5a1e << 16 | seed);
         let bytes = if seed == 0 { worked_job() } else { sound(&mut s) };
         assert_eq!(ask(library, &bytes, 4096, progress).0.number, 0);
-        let step = 1 + bytes.len() / 300;
-        for at in (0..=bytes.len()).step_by(step) {
+        for at in 0..=bytes.len() {
             let mut broken = vec![bytes[..at].to_vec()];
             broken.extend(VALUES.map(|value| [&bytes[..at], &[value], bytes.get(at + 1..).unwrap_or(&[])].concat()));
             let way = s.below(DAMAGES);
@@ -110,5 +109,5 @@ pub fn damaged(plan: &Plan, progress: &Progress) {
         progress.at("salvage", seed as usize, count as usize);
     }
     assert!(lost > 0);
-    progress.done(format!("salvage: {count} jobs cut at every length, broken at every byte and with bytes behind: {asked} calls, {lost} with outlines lost"));
+    progress.done(format!("salvage: {count} jobs cut at every length, broken at every byte and with a byte behind: {asked} calls, {lost} with outlines lost"));
 }
