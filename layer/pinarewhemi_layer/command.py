@@ -2,6 +2,7 @@
 fractured, 1 where the rule or a figure was refused, 2 where reading or writing failed."""
 
 import argparse
+import os
 import re
 import signal
 import sys
@@ -141,6 +142,7 @@ def run(given, show):
     layer = core.Layer(*given.layer)
     fracturer = core.Fracturer(*given.rule, given.largest, given.pinwheels)
     options = files.format_of(db, given.out)
+    files.refuse_outputs(given.out, given.report)
     show("reading", 0, 1)
     layout = files.read(db, given.file, None if given.keep else layer)
     source = windows.source_of(given.file, layer, given.cell)
@@ -149,7 +151,8 @@ def run(given, show):
         top = core.top_of(db, layout, given.cell)
         index = core.index_of(db, layout, top, layer)
         if given.keep:
-            core.refuse_taken(db, layout, layer)
+            core.refuse_taken(db, layout, top, layer)
+        core.prune(db, layout, top)
         units = core.prepare(db, layout, top)
     except core.Told as fault:
         raise core.Told(f"{given.file}: {fault}") from None
@@ -175,6 +178,21 @@ def run(given, show):
     return done
 
 
+def printed(line, tell):
+    """Prints the line of totals. Where it cannot, that is told."""
+    if sys.stdout is None:
+        tell("standard output: it is closed")
+        return False
+    try:
+        print(line, flush=True)
+        return True
+    except OSError as fault:
+        tell(f"standard output: {fault.strerror or fault}")
+        # Python would try again at its end, and end with a status of its own
+        os.dup2(os.open(os.devnull, os.O_WRONLY), 1)
+        return False
+
+
 def main(words=None):
     """The command; its status."""
     given = parser().parse_args(words)
@@ -197,7 +215,8 @@ def main(words=None):
             done = run(given, show)
         finally:
             show.close()
-        print(done.line(), flush=True)
+        if not printed(done.line(), tell):
+            return FAILED
         return SOME_REFUSED if done.refused else ALL
     except pinarewhemi.Refused as fault:
         tell(fault)

@@ -3,7 +3,7 @@ klayout.db or pya.
 
 In steps, which the command takes one by one to spread them over workers:
 
-    prepare   magnified and oddly turned instances flattened, 1 nm a whole number of database units, other trees gone
+    prepare   magnified and oddly turned instances flattened, 1 nm a whole number of database units
     merged    the layer merged, hierarchy kept, on a working layer
     gather    each distinct figure once, and where it stands in which cell
     answer    each distinct figure through the library
@@ -118,7 +118,7 @@ def units_of(db, layout):
 
 def flatten_complex(db, layout, top):
     """Instances that are magnified or turned by an odd angle become shapes of the cell that they are in, from the top
-    down, so that each point is rounded once. How many were flattened."""
+    down, so that each point is rounded once; a cell that stood nowhere else is gone. How many were flattened."""
     count = 0
     within = {top.cell_index(), *top.called_cells()}
     for index in [index for index in layout.each_cell_top_down() if index in within]:
@@ -135,23 +135,34 @@ def flatten_complex(db, layout, top):
         aside.flatten(False)
         cell.move_shapes(aside)
         aside.delete()
+    # below the top all had a parent before: what has none now is what was flattened
+    for index in within - {top.cell_index()}:
+        if layout.is_valid_cell_index(index) and layout.cell(index).is_top():
+            layout.prune_cell(index, -1)
     return count
 
 
-def prepare(db, layout, top):
-    """Makes the layout one in which every figure has its true size: trees other than the top's are gone, magnified and
-    oddly turned instances are shapes, and 1 nm is a whole number of database units, which is given back."""
-    units, scale = units_of(db, layout)
-    flatten_complex(db, layout, top)
+def prune(db, layout, top):
+    """Cells that the top does not call are gone."""
     within = {top.cell_index(), *top.called_cells()}
     others = [cell.cell_index() for cell in layout.each_cell() if cell.cell_index() not in within]
     if others:
         layout.delete_cells(others)
+
+
+def prepare(db, layout, top):
+    """Makes the layout one in which every figure below the top has its true size: magnified and oddly turned instances
+    are shapes, and 1 nm is a whole number of database units, which is given back. What is scaled is the whole layout,
+    since all of it has one unit."""
+    units, scale = units_of(db, layout)
     if scale > 1:
-        box = top.bbox()
-        if not box.empty() and scale * max(map(abs, (box.left, box.bottom, box.right, box.top))) > MOST:
-            raise Told(f"with a database unit of {layout.dbu:g} um the layout is too large for whole nm in 32 bits")
-        layout.scale_and_snap(top, 1, scale, 1)
+        for box in (cell.bbox() for cell in layout.top_cells()):
+            if not box.empty() and scale * max(map(abs, (box.left, box.bottom, box.right, box.top))) > MOST:
+                raise Told(f"with a database unit of {layout.dbu:g} um the layout is too large for whole nm in 32 bits")
+    flatten_complex(db, layout, top)
+    if scale > 1:
+        # not scale_and_snap: that takes one tree, and KLayout (0.28.5) does not undo it
+        layout.transform(db.ICplxTrans(float(scale)))
         layout.dbu = 0.001 / units
     return units
 
@@ -329,11 +340,12 @@ class Placing:
             sides.insert_path(db.Path(ends, 0))
 
 
-def refuse_taken(db, layout, layer):
+def refuse_taken(db, layout, top, layer):
     """What is kept must not mix with what we write."""
+    within = [top.cell_index(), *top.called_cells()]
     for datatype in (SHOTS, SIDES, BEYOND):
         index = layout.find_layer(layer.number, datatype)
-        if index is not None and any(cell.shapes(index).size() for cell in layout.each_cell()):
+        if index is not None and any(layout.cell(cell).shapes(index).size() for cell in within):
             raise Told(f"there are shapes on {layer.number}/{datatype} already, where ours would go")
 
 
@@ -368,15 +380,18 @@ def index_of(db, layout, top, layer):
 def fracture_layer(
     db, layout, layer, threshold, weight, cell=None, largest=None, pinwheels=False, beyond=None, keep=True, show=None
 ):
-    """Fractures a layer of a layout, in place: shots on L/1, charged sides of slivers on L/2, what is beyond our limits
-    on L/9; the layers that were there stay, unless keep is off. Gives what was done. Raises Told and
+    """Fractures a layer of a layout below one cell, in place: shots on L/1, charged sides of slivers on L/2, what is
+    beyond our limits on L/9. The cell is the one of that name, or the only top cell. Magnified and oddly turned
+    instances below it become shapes; where 1 nm is not a whole number of database units, the whole layout gets a finer
+    unit. Other trees of cells stay, and show the shots of cells that they share with this one. The layers that were
+    there stay; with keep off all of them go, in the whole layout. Gives what was done. Raises Told and
     pinarewhemi.Refused."""
     fracturer = Fracturer(threshold, weight, largest, pinwheels)
     layer = Layer(*layer)
     top = top_of(db, layout, cell)
     index = index_of(db, layout, top, layer)
     if keep:
-        refuse_taken(db, layout, layer)
+        refuse_taken(db, layout, top, layer)
     units = prepare(db, layout, top)
     gathered = gather(db, layout, top, merged(db, layout, top, index), show)
     given = answers(fracturer, gathered.forms, units, beyond, show)

@@ -18,6 +18,11 @@ def one_line(fault):
     return " ".join(str(fault).split())
 
 
+SIGNALS = signal.SIGINT, signal.SIGTERM, signal.SIGHUP
+# Those that were ignored when the program began (nohup, a job in the background): they stay so.
+IGNORED = [number for number in SIGNALS if signal.getsignal(number) == signal.SIG_IGN]
+
+
 def interrupted(*_):
     """What Ctrl-C and a request to end do while files are written aside: these go, then the program ends."""
     raise KeyboardInterrupt
@@ -26,8 +31,9 @@ def interrupted(*_):
 def signals(action):
     """Sets what Ctrl-C and requests to end do; nothing where this is not the main thread, which alone may."""
     if threading.current_thread() is threading.main_thread():
-        for number in (signal.SIGINT, signal.SIGTERM, signal.SIGHUP):
-            signal.signal(number, action)
+        for number in SIGNALS:
+            if number not in IGNORED:
+                signal.signal(number, action)
 
 
 def read(db, path, layer=None):
@@ -62,8 +68,39 @@ def format_of(db, path):
     return options
 
 
+def target_of(path):
+    """The file that a name stands for, symbolic links followed: one that can be written aside and renamed."""
+    target = os.path.realpath(path)
+    folder = os.path.dirname(target)
+    if not os.path.isdir(folder):
+        raise Told(f"{path}: there is no folder {folder}")
+    try:
+        mode = os.stat(target).st_mode
+    except FileNotFoundError:
+        return target
+    except OSError as fault:
+        raise Told(f"{path}: {fault.strerror}") from None
+    if stat.S_ISDIR(mode):
+        raise Told(f"{path}: it is a folder")
+    if not stat.S_ISREG(mode):
+        raise Told(f"{path}: it is there, and no regular file")
+    return target
+
+
+def refuse_outputs(*paths):
+    """Tells before any work is done which outputs cannot be written; None stands for one that is not asked for."""
+    targets = {}
+    for path in paths:
+        if path is not None:
+            target = target_of(path)
+            if target in targets:
+                raise Told(f"{targets[target]} and {path} are one file")
+            targets[target] = path
+
+
 class Aside:
-    """Files that are written under another name in the same folder, and all get their own at the end, or none does.
+    """Files that are written under another name in the same folder (where a name is a link, in that of the file it
+    leads to), and all get their own at the end, or none does.
     Elsewhere Ctrl-C ends the program at once (Python would see it only when KLayout's call has ended); here there are
     files to remove first, and once they get their names it is too late for it."""
 
@@ -76,13 +113,10 @@ class Aside:
 
     def name(self, path):
         """The name to write under. It keeps the ending, by which KLayout knows whether to compress."""
-        folder, name = os.path.split(os.path.abspath(path))
-        if not os.path.isdir(folder):
-            raise Told(f"{path}: there is no folder {folder}")
-        if os.path.isdir(path):
-            raise Told(f"{path}: it is a folder")
-        aside = os.path.join(folder, f".part-{os.getpid()}-{name}")
-        self.files.append((aside, path))
+        target = target_of(path)
+        name = f".part-{os.getpid()}-{len(self.files)}-{os.path.basename(path)}"
+        aside = os.path.join(os.path.dirname(target), name)
+        self.files.append((aside, target))
         return aside
 
     def settle(self):

@@ -2,6 +2,7 @@
 of this repository, and to run again."""
 
 import os
+import re
 
 import pinarewhemi
 
@@ -20,9 +21,10 @@ def planned(rings, pinwheels):
 
 
 def job_fits(rings):
-    """Whether a job can carry the figure; a slanted one it can, and the library refuses it there."""
+    """Whether a job can carry the figure: rings of 4 corners or more, 32 in all. A slanted one it can, and the library
+    refuses it there; a triangle it cannot."""
     corners = [len(ring) // 2 for ring in rings]
-    return sum(corners) <= 32 and len(rings) <= 8 and max(map(max, rings)) <= WIDEST
+    return min(corners) >= 4 and sum(corners) <= 32 and len(rings) <= 8 and max(map(max, rings)) <= WIDEST
 
 
 def outline_of(rings):
@@ -60,9 +62,13 @@ def fracture_bundle(task):
 
 
 def keep(folder, bundles):
-    """Writes the jobs to a folder, numbered in their order."""
+    """Writes the jobs to a folder, numbered in their order. What an earlier run left there under such names goes first:
+    it may have had more of them."""
     try:
         os.makedirs(folder, exist_ok=True)
+        for name in os.listdir(folder):
+            if re.fullmatch(r"\d{6,}\.job", name):
+                os.unlink(os.path.join(folder, name))
         for number, job in enumerate(job for jobs in bundles for job in jobs):
             with open(os.path.join(folder, f"{number:06}.job"), "wb") as file:
                 file.write(job)

@@ -20,12 +20,17 @@ def shown_layer(view):
 
 
 def fracture_shown(pya, view, layer, threshold, weight, **more):
-    """Fractures a layer of the layout that a view shows, as one step. What was done."""
+    """Fractures a layer of the layout that a view shows, as one step: below its top cell, or below the shown cell where
+    there are several. What was done."""
     cells = view.active_cellview()
     if not cells.is_valid():
         raise Told("no layout is shown")
     if not cells.layout().is_editable():
         raise Told("the layout was opened to be viewed only: start KLayout in editing mode (klayout -e)")
+    if len(cells.layout().top_cells()) > 1:
+        if cells.cell is None:
+            raise Told("no cell is shown")
+        more.setdefault("cell", cells.cell.name)
     view.transaction(TITLE)
     try:
         done = fracture_layer(pya, cells.layout(), layer, threshold, weight, **more)

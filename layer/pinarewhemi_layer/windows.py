@@ -12,7 +12,7 @@ import os
 from typing import NamedTuple
 
 from . import files, klayout_db
-from .core import MOST, Gathered, Layer, index_of, prepare, rings_of, top_of
+from .core import MOST, Gathered, Layer, index_of, prepare, prune, rings_of, top_of
 
 # Flat shapes to a window, and below how many times the hierarchical count a layer has little hierarchy.
 SHAPES, LITTLE = 16384, 4
@@ -69,6 +69,7 @@ def opened(db, source):
         layout = files.read(db, source.path, source.layer)
         top = top_of(db, layout, source.cell)
         index = index_of(db, layout, top, source.layer)
+        prune(db, layout, top)
         prepare(db, layout, top)
         hold(source, layout, top, index)
     return _held[source]

@@ -1,22 +1,26 @@
 """Work for several processes: Python's pool on one machine, dask on many. Answers come in the order of the tasks."""
 
 import ctypes
+import os
 import signal
 
 from .core import Told
+from .files import signals
 
 # How often workers may die before it is told, and for how many seconds a scheduler is waited for.
 LIVES, PATIENCE = 4, 10
 
 
-def _end_with_parent():
+def _end_with_parent(parent):
     """A worker ends when the command does, however that ends (Linux: PR_SET_PDEATHSIG)."""
-    signal.signal(signal.SIGINT, signal.SIG_DFL)
-    signal.signal(signal.SIGTERM, signal.SIG_DFL)
+    signals(signal.SIG_DFL)
     try:
         ctypes.CDLL(None).prctl(1, signal.SIGKILL)
     except AttributeError:
         pass
+    if os.getppid() != parent:
+        # it ended before
+        os._exit(1)
 
 
 class Pool:
@@ -37,7 +41,7 @@ class Pool:
         context = multiprocessing.get_context("fork")
         done = 0
         for _ in range(LIVES):
-            with concurrent.futures.ProcessPoolExecutor(self.workers, context, _end_with_parent) as pool:
+            with concurrent.futures.ProcessPoolExecutor(self.workers, context, _end_with_parent, (os.getpid(),)) as pool:
                 try:
                     asked = [pool.submit(function, task) for task in tasks[done:]]
                     while asked:

@@ -1,24 +1,41 @@
-"""Measures the command against what KLayout does alone: time and memory of one run, reading and writing included.
-    PYTHONPATH=layer:bindings/python /usr/bin/python3 layer/tests/measure.py [10000 100000 1000000]
-Each road is a process of its own. Beside it: cost, shots and sliver against KLayout's decompositions, figure by figure."""
+"""Measures the command against what KLayout does alone, and against itself: time and memory of one run, reading and
+writing included on both sides. A row of the table each, to be run one by one:
 
+    PYTHONPATH=layer:bindings/python /usr/bin/python3 layer/tests/measure.py [--figures 10000,100000,1000000] [--runs N] ROW ..
+
+Without a ROW it names them; `all` is every one. Printed is a line of a Markdown table for each row and number of figures;
+with --runs the fastest of so many runs counts. Every road is a process of its own, and so is the making of its layer:
+this one stays small. Memory is the peak (VmHWM) of the largest process; where there are several, in brackets how many
+and the sum of their peaks, in which pages that they share count more than once.
+
+`quality` is the table of docs/LAYER.md: cost, shots and sliver against KLayout's decompositions, figure by figure."""
+
+import contextlib
 import os
 import random
+import subprocess
 import sys
 import tempfile
 import time
 
-from pinarewhemi_layer import klayout_db
-from pinarewhemi_layer.core import rings_of
-from pinarewhemi_layer.figures import Fracturer, charged_sides
-
 HERE = os.path.abspath(__file__)
 COMMAND = os.path.join(os.path.dirname(os.path.dirname(HERE)), "pinarewhemi-layer")
 RULE = 25, 40
-db = klayout_db.find()
+# How often memory is looked at, in seconds.
+LOOK = 0.02
 
 
-def figure(chance):
+def database():
+    """KLayout, where it is needed: a process that measures others does not load it."""
+    from pinarewhemi_layer import klayout_db
+
+    return klayout_db.find()
+
+
+# The layers.
+
+
+def figure(db, chance):
     """A union of boxes in one piece, in a square of 140 nm."""
     while True:
         region = db.Region()
@@ -30,28 +47,86 @@ def figure(chance):
             return found[0]
 
 
-def make(path, count, distinct, flat):
-    """`distinct` figures, five to a cell, placed `count` times in all eight orientations; or all of it flat."""
-    chance = random.Random(count + distinct)
-    layout = db.Layout()
-    top, layer = layout.create_cell("TOP"), layout.layer(4, 0)
+def five_to_a_cell(db, layout, layer, distinct, chance):
+    """Cells with five figures each, 150 nm apart."""
     cells = []
-    for number in range(distinct // 5):
+    for number in range(max(1, distinct // 5)):
         cell = layout.create_cell(f"C{number}")
         for column in range(5):
-            cell.shapes(layer).insert(figure(chance).moved(150 * column, 0))
-        cells.append(cell.cell_index())
+            cell.shapes(layer).insert(figure(db, chance).moved(150 * column, 0))
+        cells.append(cell)
+    return cells
+
+
+def in_cells(db, layout, top, layer, count, distinct):
+    """`distinct` figures, five to a cell, placed `count` times in all eight orientations."""
+    cells = five_to_a_cell(db, layout, layer, distinct, random.Random(count + distinct))
     columns = max(1, round((count / 5) ** 0.5))
     for number in range(count // 5):
         place = db.Trans(number % 8 % 4, number % 8 > 3, 1600 * (number % columns), 1600 * (number // columns))
-        top.insert(db.CellInstArray(cells[number % len(cells)], place))
-    if flat:
-        top.flatten(True)
+        top.insert(db.CellInstArray(cells[number % len(cells)].cell_index(), place))
+
+
+def make_cells(db, layout, top, layer, count):
+    in_cells(db, layout, top, layer, count, min(1000, count))
+
+
+def make_distinct(db, layout, top, layer, count):
+    in_cells(db, layout, top, layer, count, count // 10)
+
+
+def make_flat(db, layout, top, layer, count):
+    in_cells(db, layout, top, layer, count, min(1000, count))
+    top.flatten(True)
+
+
+def make_rails(db, layout, top, layer, count):
+    """1,000 distinct figures in cells that stand in rows of 200; a rail goes through each row, made up of a piece of
+    each cell: over 65,535 nm long, and 4 corners for each of its teeth, which four cells in five have."""
+    cells = five_to_a_cell(db, layout, layer, min(1000, count), random.Random(count))
+    for number, cell in enumerate(cells):
+        cell.shapes(layer).insert(db.Box(0, -60, 800, -20))
+        if number % 5:
+            cell.shapes(layer).insert(db.Box(300, -110, 340, -60))
+    for number in range(count // 5):
+        row, column = divmod(number, 200)
+        mirrored = (number * 5 + row) % 3 == 0
+        place = db.Trans(2, True, 800 * column + 800, 400 * row) if mirrored else db.Trans(0, False, 800 * column, 400 * row)
+        top.insert(db.CellInstArray(cells[(7 * number + row) % len(cells)].cell_index(), place))
+
+
+def make_many_lines(db, layout, top, layer, count):
+    """Distinct outlines of 12 to 16 lines each way: 11 to 15 columns, no two as high."""
+    chance = random.Random(count)
+    columns = max(1, round(count**0.5))
+    for number in range(count):
+        x, right, corners = 0, chance.randint(11, 15), []
+        for high in chance.sample(range(20, 400), right):
+            corners += [db.Point(x, high)]
+            x += chance.randint(8, 60)
+            corners += [db.Point(x, high)]
+        polygon = db.Polygon([db.Point(0, 0), *corners, db.Point(x, 0)])
+        top.shapes(layer).insert(polygon.moved(1000 * (number % columns), 500 * (number // columns)))
+
+
+MAKERS = {maker.__name__[5:]: maker for maker in (make_cells, make_distinct, make_flat, make_rails, make_many_lines)}
+
+
+def make(sort, count, path):
+    """Writes a layer."""
+    db = database()
+    layout = db.Layout()
+    top, layer = layout.create_cell("TOP"), layout.layer(4, 0)
+    MAKERS[sort](db, layout, top, layer, int(count))
     layout.write(path)
+
+
+# What KLayout does alone.
 
 
 def klayout_deep(given, out, decompose=True):
     """KLayout reads, merges deep, decomposes (or not), writes."""
+    db = database()
     layout = db.Layout()
     layout.read(given)
     top, store = layout.top_cell(), db.DeepShapeStore()
@@ -68,8 +143,21 @@ def klayout_merged(given, out):
     klayout_deep(given, out, False)
 
 
+def klayout_flat(given, out):
+    """KLayout reads, merges flat, decomposes, writes."""
+    db = database()
+    layout = db.Layout()
+    layout.read(given)
+    top = layout.top_cell()
+    region = db.Region(top.begin_shapes_rec(layout.find_layer(4, 0))).merged()
+    top.shapes(layout.layer(4, 1)).insert(region.decompose_trapezoids_to_region())
+    layout.delete_layer(layout.find_layer(4, 0))
+    layout.write(out)
+
+
 def klayout_tiles(given, out, threads=1):
     """KLayout's TilingProcessor, 64 tiles."""
+    db = database()
     layout = db.Layout()
     layout.read(given)
     top = layout.top_cell()
@@ -90,56 +178,189 @@ def klayout_tiles_2(given, out):
     klayout_tiles(given, out, 2)
 
 
-ROADS = {road.__name__: road for road in (klayout_deep, klayout_merged, klayout_tiles, klayout_tiles_2)}
+ROADS = {road.__name__: road for road in (klayout_deep, klayout_merged, klayout_flat, klayout_tiles, klayout_tiles_2)}
 
 
-def measured(*words):
-    """Seconds and MB of a process."""
+def count_shots(path):
+    """Prints how many shots a file has on 4/1, over the hierarchy."""
+    db = database()
+    layout = db.Layout()
+    layout.read(path)
+    region = db.Region(layout.top_cell().begin_shapes_rec(layout.find_layer(4, 1)))
+    region.merged_semantics = False
+    print(region.count())
+
+
+# Measuring.
+
+
+def below(process):
+    """A process and all that it started (Linux)."""
+    found = [process]
+    for one in found:
+        with contextlib.suppress(OSError):
+            for task in os.listdir(f"/proc/{one}/task"):
+                with open(f"/proc/{one}/task/{task}/children") as file:
+                    found += map(int, file.read().split())
+    return found
+
+
+def look(peaks, processes):
+    """Keeps the peak of the memory of each process, in MB."""
+    for process in processes:
+        with contextlib.suppress(OSError):
+            with open(f"/proc/{process}/status") as file:
+                for line in file:
+                    if line.startswith("VmHWM:"):
+                        peaks[process] = int(line.split()[1]) * 1.024e-3
+
+
+def measured(words, beside=()):
+    """Seconds, and the peak of each process in MB, the largest first: of a run, and of processes that work for it."""
+    peaks = {}
     began = time.monotonic()
-    child = os.posix_spawn(sys.executable, [sys.executable, *words], os.environ, file_actions=QUIET)
-    _, status, used = os.wait4(child, 0)
-    if os.waitstatus_to_exitcode(status) not in (0, 1):
-        raise SystemExit(f"{' '.join(words)} ended with {status}")
-    return time.monotonic() - began, used.ru_maxrss / 1000
+    child = subprocess.Popen([sys.executable, *words], stdout=subprocess.DEVNULL)
+    while child.poll() is None:
+        look(peaks, [*below(child.pid), *beside])
+        with contextlib.suppress(subprocess.TimeoutExpired):
+            child.wait(LOOK)
+    took = time.monotonic() - began
+    if child.returncode not in (0, 1):
+        raise SystemExit(f"{' '.join(words)} ended with {child.returncode}")
+    return took, sorted(peaks.values(), reverse=True)
 
 
-QUIET = [(os.POSIX_SPAWN_OPEN, 1, os.devnull, os.O_WRONLY, 0)]
+def best(words, runs, beside=()):
+    """The fastest of some runs."""
+    return min(measured(words, beside) for _ in range(runs))
 
 
-def table(count, folder):
-    """One table for a number of figures."""
+def megabytes(peaks):
+    return f"{peaks[0]:.0f}" + (f" ({len(peaks)}: {sum(peaks):.0f})" if len(peaks) > 1 else "")
+
+
+HEAD = ("figures", "layer", "ours", "against", "ours, s", "theirs, s", "time", "goal", "ours, MB", "theirs, MB", "memory", "goal")
+
+
+def print_row(*words):
+    print("| " + " | ".join(map(str, words)) + " |", flush=True)
+
+
+def print_head(words):
+    print_row(*words)
+    print("|" + "---|" * len(words), flush=True)
+
+
+class Row:
+    """A row of the table: the sort of its layer, and both sides, each with its words: for ours those of the command,
+    for theirs either, a road of KLayout's alone or the command with other words; and the goals."""
+
+    def __init__(self, sort, layer, ours, theirs, against, time_goal, memory_goal="said", figures=None):
+        self.sort, self.layer, self.ours, self.theirs, self.against = sort, layer, ours, theirs, against
+        self.goals, self.figures = (time_goal, memory_goal), figures
+
+    def run(self, count, runs, folder):
+        given, out = os.path.join(folder, "in.oas"), os.path.join(folder, "out.oas")
+        measured([HERE, "make", self.sort, str(count), given])
+        command = [COMMAND, given, "--layer", "4/0", "--rule", *map(str, RULE), "--out", out]
+        with contextlib.ExitStack() as around:
+            ours, beside = list(self.ours), ()
+            if "--scheduler" in ours:
+                address, beside = around.enter_context(two_dask_workers(folder))
+                ours.append(address)
+            mine = best([*command, *ours], runs, beside)
+        theirs = [HERE, "road", self.theirs, given, out] if isinstance(self.theirs, str) else [*command, *self.theirs]
+        other = best(theirs, runs)
+        print_row(
+            f"{count:,}", self.layer, " ".join(self.ours) or "1 worker", self.against,
+            f"{mine[0]:.2f}", f"{other[0]:.2f}", f"{mine[0] / other[0]:.2f}", self.goals[0],
+            megabytes(mine[1]), megabytes(other[1]), f"{mine[1][0] / other[1][0]:.2f}", self.goals[1],
+        )
+
+
+@contextlib.contextmanager
+def two_dask_workers(folder):
+    """A scheduler and two workers on the loopback, ready: the address, and the workers' processes."""
+    import distributed
+
+    file, quiet = os.path.join(folder, "scheduler.json"), {"stdout": subprocess.DEVNULL, "stderr": subprocess.DEVNULL}
+    start = [sys.executable, "-m", "distributed.cli.dask_scheduler", "--host", "127.0.0.1", "--port", "0", "--no-dashboard"]
+    running = [subprocess.Popen([*start, "--scheduler-file", file], **quiet)]
+    try:
+        worker = [sys.executable, "-m", "distributed.cli.dask_worker", "--scheduler-file", file, "--nthreads", "1"]
+        worker += ["--no-nanny", "--no-dashboard", "--host", "127.0.0.1", "--local-directory", folder]
+        running += [subprocess.Popen(worker, **quiet) for _ in range(2)]
+        client = distributed.Client(scheduler_file=file, timeout=30, set_as_default=False)
+        client.wait_for_workers(2, timeout=30)
+        address = client.scheduler.address
+        client.close()
+        yield address, [process.pid for process in running[1:]]
+    finally:
+        for process in running:
+            process.kill()
+            process.wait()
+        os.unlink(file)
+
+
+DEEP, MERGED = "KLayout deep, decompose_trapezoids_to_region", "KLayout reads, merges deep, writes; nothing fractured"
+FLAT, POOL = ("--windows",), ("--windows", "--workers", "2")
+WHEELS = ("--pinwheels", "--workers")
+ROWS = {
+    "cells": Row("cells", "1,000 distinct, in cells", (), "klayout_deep", DEEP, "1/5", "1/5"),
+    "merged": Row("cells", "1,000 distinct, in cells", (), "klayout_merged", MERGED, "1.15", "1.2"),
+    "rails": Row("rails", "rails across cells", ("--beyond",), "klayout_deep", DEEP, "0.7", "0.6"),
+    "distinct": Row("distinct", "a tenth distinct, in cells", (), "klayout_deep", DEEP, "0.7", "0.6"),
+    "flat": Row("flat", "flat", (), "klayout_tiles", "TilingProcessor, 1 thread", "0.9"),
+    "flat-2": Row("flat", "flat", ("--workers", "2"), "klayout_tiles_2", "TilingProcessor, 2 threads", "0.8"),
+    "windows": Row("flat", "flat", POOL, FLAT, "1 worker", "0.65"),
+    "pinwheels": Row(
+        "many_lines", "distinct, 12 to 16 lines each way", (*WHEELS, "2"), (*WHEELS, "1"), "1 worker", "0.6", figures=10000
+    ),
+    "dask": Row("flat", "flat", ("--windows", "--scheduler"), POOL, "a pool of two", "1.15"),
+}
+
+
+def tiles(count, folder):
+    """The shots that tiles add at their borders, and that windows do not."""
     given, out = os.path.join(folder, "in.oas"), os.path.join(folder, "out.oas")
-    ours = [COMMAND, given, "--layer", "4/0", "--rule", *map(str, RULE), "--out", out]
-    layers = (("1,000 distinct in cells", 1000, False), ("a tenth distinct in cells", count // 10, False), ("flat", 1000, True))
-    for name, distinct, flat in layers:
-        make(given, count, distinct, flat)
-        roads = {"ours": ours}
-        if flat:
-            roads["ours, 2 workers"] = [*ours, "--workers", "2"]
-        theirs = ("klayout_tiles", "klayout_tiles_2") if flat else ("klayout_deep", "klayout_merged")
-        roads.update({road: [HERE, "road", road, given, out] for road in theirs})
-        for road, words in roads.items():
-            seconds, memory = measured(*words)
-            print(f"{count:>8} {name:26} {road:18} {seconds:8.2f} s {memory:7.0f} MB", flush=True)
+    measured([HERE, "make", "flat", str(count), given])
+    command = [COMMAND, given, "--layer", "4/0", "--rule", *map(str, RULE), "--out", out]
+    found = []
+    for whole, parted in (([HERE, "road", "klayout_flat", given, out], [HERE, "road", "klayout_tiles", given, out]),
+                          ([*command, "--hierarchy"], [*command, "--windows"])):
+        for words in (whole, parted):
+            measured(words)
+            counted = subprocess.run([sys.executable, HERE, "shots", out], stdout=subprocess.PIPE, text=True, check=True)
+            found.append(int(counted.stdout))
+    for name, whole, parted in (("KLayout, 64 tiles", *found[:2]), ("ours, windows", *found[2:])):
+        print_row(f"{count:,}", "flat", name, f"{whole:,}", f"{parted:,}", f"{parted - whole:,}", f"{100 * (parted / whole - 1):.3f} %")
+
+
+TILES_HEAD = ("figures", "layer", "shots of", "in one piece", "in parts", "more", "in %")
 
 
 def quality(count):
     """Cost, shots and sliver of our shots and of KLayout's three decompositions, and of the cheapest of these figure by
     figure; and on how many figures theirs is cheaper."""
+    from pinarewhemi_layer.core import rings_of
+    from pinarewhemi_layer.figures import Fracturer, charged_sides
+
+    db = database()
     chance, fracturer = random.Random(7), Fracturer(*RULE)
-    totals, cheaper = {}, 0
+    totals, cheaper, compared = {}, 0, 0
 
     def add(name, shots, cost, sliver):
         held = totals.setdefault(name, [0, 0, 0])
-        held[:] = held[0] + shots, held[1] + cost, held[2] + sliver
+        held[:] = held[0] + shots, held[1] + sliver, held[2] + cost
 
     for _ in range(count):
-        drawn = figure(chance)
+        drawn = figure(db, chance)
         drawn = drawn.moved(-drawn.bbox().left, -drawn.bbox().bottom)
         rings = rings_of(drawn)
         done = fracturer.answer(rings)
         if done.refused is not None:
             continue
+        compared += 1
         add("ours", len(done.shots) // 4, done.cost, done.sliver)
         theirs = []
         for mode, name in enumerate(("simple", "horizontal", "vertical")):
@@ -147,20 +368,54 @@ def quality(count):
             shots = [n for box in boxes for n in (box.left, box.bottom, box.right, box.top)]
             sliver = sum(c - a + d - b for a, b, c, d in charged_sides(rings, shots, RULE[0]))
             theirs.append((1000 * len(boxes) + RULE[1] * sliver, len(boxes), sliver))
-            add(f"KLayout {name}", len(boxes), theirs[-1][0], sliver)
+            add(f"KLayout, {name}", len(boxes), theirs[-1][0], sliver)
         cost, shots, sliver = min(theirs)
-        add("KLayout, the cheapest", shots, cost, sliver)
+        add("KLayout, the cheapest of these", shots, cost, sliver)
         cheaper += cost < done.cost
-    for name, (shots, cost, sliver) in totals.items():
-        print(f"{name:22} shots {shots:7} cost {cost:10} sliver {sliver:8}")
-    print(f"theirs cheaper on {cheaper} of {count} figures")
+    print_head(("", "shots", "sliver, nm", "cost", "ours costs less by"))
+    for name, (shots, sliver, cost) in totals.items():
+        less = "" if name == "ours" else f"{100 * (1 - totals['ours'][2] / cost):.1f} %"
+        print_row(name, f"{shots:,}", f"{sliver:,}", f"{cost:,}", less)
+    print(f"\ntheirs is cheaper on {cheaper} of {compared} figures")
+
+
+# What a process of its own does for another.
+INSIDE = {"make": make, "road": lambda road, *files: ROADS[road](*files), "shots": count_shots}
+
+
+def main(words):
+    if words[:1] and words[0] in INSIDE:
+        INSIDE[words[0]](*words[1:])
+        return
+    counts, runs, rows = None, 1, []
+    words = iter(words)
+    for word in words:
+        if word == "--figures":
+            counts = [int(number) for number in next(words, "").split(",")]
+        elif word == "--runs":
+            runs = int(next(words, ""))
+        else:
+            rows.append(word)
+    known = [*ROWS, "tiles", "quality"]
+    if not rows or not set(rows) <= {*known, "all"}:
+        raise SystemExit(f"{__doc__}\n\nThe rows: {', '.join(known)}, all")
+    rows = known if "all" in rows else rows
+    with tempfile.TemporaryDirectory() as folder:
+        if set(rows) & set(ROWS):
+            print_head(HEAD)
+        for name in rows:
+            if name in ROWS:
+                for count in counts or [ROWS[name].figures or 10000]:
+                    ROWS[name].run(count, runs, folder)
+        if "tiles" in rows:
+            print()
+            print_head(TILES_HEAD)
+            for count in counts or [10000]:
+                tiles(count, folder)
+    if "quality" in rows:
+        print()
+        quality(2000)
 
 
 if __name__ == "__main__":
-    if sys.argv[1:2] == ["road"]:
-        ROADS[sys.argv[2]](*sys.argv[3:])
-    else:
-        quality(2000)
-        with tempfile.TemporaryDirectory() as folder:
-            for count in map(int, sys.argv[1:] or ("10000",)):
-                table(count, folder)
+    main(sys.argv[1:])

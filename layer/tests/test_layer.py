@@ -1,5 +1,6 @@
 """End to end: layers that KLayout made through the command, read back by KLayout."""
 
+import contextlib
 import csv
 import io
 import os
@@ -16,7 +17,7 @@ from contextlib import redirect_stderr, redirect_stdout
 
 import pinarewhemi
 from pinarewhemi_layer import command, klayout_db
-from pinarewhemi_layer.core import fracture_layer, rings_of
+from pinarewhemi_layer.core import Told, fracture_layer, rings_of
 
 from . import layers
 
@@ -81,7 +82,7 @@ class WithFolder(unittest.TestCase):
                 signal.signal(number, action)
         return status, out.getvalue(), err.getvalue()
 
-    def check(self, layout, out, line, fracture, units=1, cell="TOP"):
+    def check(self, layout, out, line, fracture, cell="TOP"):
         """The file `out` and the line of totals are those of the layer 4/0 of the layout."""
         found = db.Layout()
         found.read(out)
@@ -130,7 +131,6 @@ class EndToEnd(WithFolder):
             self.assertIsNone(found.find_layer(4, 0))
             self.assertIsNone(found.find_layer(7, 0))
             self.assertTrue({cell.name for cell in layout.each_cell()} <= {cell.name for cell in found.each_cell()})
-            self.assertEqual(os.listdir(self.folder).count(os.path.basename(out)), 1)
             self.assertFalse([name for name in os.listdir(self.folder) if name.startswith(".")])
             if flat is not None:
                 self.assertEqual(line, flat, "GDSII and OASIS give other totals")
@@ -240,6 +240,44 @@ class EndToEnd(WithFolder):
             self.assertEqual(*held)
 
 
+class Trees(unittest.TestCase):
+    """A layout with several trees of cells, fractured in place below one of them."""
+
+    def made(self, dbu=0.001):
+        layout = db.Layout()
+        layout.dbu = dbu
+        layer = layout.layer(4, 0)
+        shared, odd, below = layout.create_cell("SHARED"), layout.create_cell("ODD"), layout.create_cell("BELOW")
+        layers.contacts(db, shared, layer)
+        layers.combs(db, below, layer)
+        odd.insert(db.CellInstArray(below.cell_index(), db.Trans(1, False, 50, 60)))
+        for name, place in (("A", db.Trans(0, False, 0, 0)), ("B", db.Trans(1, True, 700, 300))):
+            top = layout.create_cell(name)
+            top.insert(db.CellInstArray(shared.cell_index(), place, db.Vector(1000, 0), db.Vector(0, 900), 2, 3))
+            top.shapes(layer).insert(db.Box(5000, 0, 5030, 400))
+        layout.cell("A").insert(db.CellInstArray(odd.cell_index(), db.ICplxTrans(2.0, 0, False, 9000, 0)))
+        return layout
+
+    def test_others_stay(self):
+        """Cell by cell, the other tree is drawn as it was, also where the unit becomes finer; and it can be next."""
+        for dbu, scale in ((0.001, 1), (0.005, 5)):
+            before, layout = self.made(dbu), self.made(dbu)
+            with self.assertRaisesRegex(Told, "it has 2 top cells"):
+                fracture_layer(db, layout, (4, 0), 25, 40)
+            done = fracture_layer(db, layout, (4, 0), 25, 40, cell="A")
+            self.assertEqual((done.figures, round(layout.dbu, 9)), (6 * 31 + 1 + 5, 0.001))
+            # what stood nowhere but magnified is shapes now, and no tree of its own
+            self.assertEqual(sorted(cell.name for cell in layout.top_cells()), ["A", "B"])
+            for name in ("A", "B"):
+                drawn = region_of(before, before.cell(name), 4, 0).transformed(db.ICplxTrans(float(scale)))
+                self.assertTrue((region_of(layout, layout.cell(name), 4, 0) ^ drawn).is_empty())
+            shots = region_of(layout, layout.cell("A"), 4, 1) + region_of(layout, layout.cell("A"), 4, 9)
+            self.assertTrue((shots ^ region_of(layout, layout.cell("A"), 4, 0)).is_empty())
+            # the cell that both call has its shots already
+            with self.assertRaisesRegex(Told, "there are shapes on 4/1 already"):
+                fracture_layer(db, layout, (4, 0), 25, 40, cell="B")
+
+
 class Units(WithFolder):
     """Database units other than 1 nm."""
 
@@ -291,6 +329,7 @@ class Forms(unittest.TestCase):
         layout = db.Layout()
         top = layout.create_cell("TOP")
         layers.skylines(db, top, layout.layer(4, 0), 3, 100)
+        compared = 0
         for figure in db.Region(top.begin_shapes_rec(0)).merged().each():
             box = figure.bbox()
             there = [list(zip(r[0::2], r[1::2])) for r in rings_of(figure)]
@@ -302,6 +341,8 @@ class Forms(unittest.TestCase):
             x, y = box.left, box.bottom
             self.assertEqual(at_place.shots, [(a + x, b + y, c + x, d + y) for a, b, c, d in at_zero.shots])
             self.assertEqual(at_place[1:], at_zero[1:])
+            compared += 1
+        self.assertGreater(compared, 100)
 
     def test_turned_copies_cost_the_same(self):
         """In all eight orientations the cost is the same. (Shots and sliver need not be: where so many shots more cost
@@ -309,8 +350,9 @@ class Forms(unittest.TestCase):
         layout = db.Layout()
         top = layout.create_cell("TOP")
         layers.skylines(db, top, layout.layer(4, 0), 4, 60)
+        compared = 0
         for figure in db.Region(top.begin_shapes_rec(0)).merged().each():
-            told = set()
+            told = []
             for turn, mirrored in layers.ORIENTATIONS:
                 turned = figure.transformed(db.Trans(turn, mirrored, 0, 0))
                 box = turned.bbox()
@@ -319,8 +361,11 @@ class Forms(unittest.TestCase):
                     done = pinarewhemi.fracture([list(zip(r[0::2], r[1::2])) for r in rings], 25, 40)
                 except pinarewhemi.Refused:
                     break
-                told.add(done.cost)
-            self.assertLessEqual(len(told), 1)
+                told.append(done.cost)
+            else:
+                self.assertEqual(told, told[:1] * 8)
+                compared += 1
+        self.assertGreater(compared, 60)
 
 
 class Faults(WithFolder):
@@ -354,6 +399,40 @@ class Faults(WithFolder):
         self.fails(given, "--layer", 4, *rule, "--out", self.path("out.txt"), says="has to end in .gds or .oas")
         self.fails(given, "--layer", 4, *rule, "--out", self.path("no/out.gds"), says="there is no folder")
         self.fails(given, "--layer", 4, *rule, *out, "--report", self.path("no/r.csv"), says="there is no folder")
+        self.fails(given, "--layer", 4, *rule, *out, "--report", self.path("./out.gds"), says="out.gds are one file")
+        self.fails(given, "--layer", 4, *rule, *out, "--report", self.folder, says="it is a folder")
+        for path in ("/dev/null", self.path("pipe")):
+            if path != "/dev/null":
+                os.mkfifo(path)
+            self.fails(given, "--layer", 4, *rule, *out, "--report", path, says="it is there, and no regular file")
+            self.assertFalse(os.path.isfile(path))
+
+    def test_links(self):
+        """An output that is a symbolic link stays one: the file that it leads to is written, beside which it was aside."""
+        given = self.stored(layers.make(db), "in.oas")
+        os.mkdir(self.path("far"))
+        for name, target in (("out.oas", "far/there.gz"), ("r.csv", "far/r")):
+            with open(self.path(target), "w") as file:
+                file.write("as it was")
+            os.symlink(target, self.path(name))
+        words = (given, "--layer", 4, "--rule", 25, 40)
+        self.assertEqual(self.run_command(*words, "--out", self.path("out.oas"), "--report", self.path("r.csv"))[0], 1)
+        self.assertEqual(self.run_command(*words, "--out", self.path("2.oas"), "--report", self.path("2.csv"))[0], 1)
+        for name, target, plain in (("out.oas", "far/there.gz", "2.oas"), ("r.csv", "far/r", "2.csv")):
+            self.assertTrue(os.path.islink(self.path(name)))
+            with open(self.path(target), "rb") as ours, open(self.path(plain), "rb") as file:
+                self.assertEqual(ours.read(), file.read())
+        self.assertEqual(sorted(os.listdir(self.path("far"))), ["r", "there.gz"])
+
+    def test_standard_output(self):
+        """The line of totals cannot be printed: that is told of standard output, not of a file."""
+        given = self.stored(layers.make(db), "in.oas")
+        words = [*COMMAND, given, "--layer", "4", "--rule", "25", "40", "--out", self.path("out.oas")]
+        closed = ["/bin/sh", "-c", 'exec "$@" >&-', "sh", *words]
+        for run, output, says in ((words, "/dev/full", "No space left on device"), (closed, "/dev/null", "it is closed")):
+            with open(output, "w") as file:
+                ended = subprocess.run(run, stdout=file, stderr=subprocess.PIPE, text=True)
+            self.assertEqual((ended.returncode, ended.stderr), (2, f"pinarewhemi-layer: standard output: {says}\n"))
 
     def test_no_library(self):
         around = {**os.environ, "PINAREWHEMI_LIBRARY": self.path("none.so")}
@@ -363,10 +442,33 @@ class Faults(WithFolder):
         self.assertRegex(ended.stderr, r"^pinarewhemi-layer: no libpinarewhemi\.so [^\n]*\n$")
 
     def test_words(self):
-        for words in (["--layer", "4/x"], ["--layer", "-4"], ["--rule", "25"], ["--rule", "2.5", "40"], []):
-            with self.assertRaises(SystemExit) as ended, redirect_stderr(io.StringIO()):
-                command.main(["in.gds", "--out", "out.gds", *words])
+        """Words that are wrong or lacking, each beside all others as they should be."""
+        good = {"--layer": ["4/0"], "--rule": ["25", "40"], "--out": ["out.gds"]}
+        for word, given, says in (
+            ("--layer", ["4/x"], "argument --layer: '4/x' is not a layer as 4/0"),
+            ("--layer", ["4/"], "argument --layer: '4/' is not a layer as 4/0"),
+            ("--layer", None, "the following arguments are required: --layer"),
+            ("--rule", ["25"], "argument --rule: expected 2 arguments"),
+            ("--rule", ["2.5", "40"], "argument --rule: '2.5' is not a whole number"),
+            ("--rule", None, "the following arguments are required: --rule"),
+            ("--out", None, "the following arguments are required: --out"),
+            ("--largest", ["1e3"], "argument --largest: '1e3' is not a whole number"),
+            ("--workers", ["0"], "argument --workers: '0' is not 1 to 256"),
+            ("--workers", ["257"], "argument --workers: '257' is not 1 to 256"),
+            ("--sideways", [], "unrecognized arguments: --sideways"),
+        ):
+            words = ["in.gds"]
+            for name, values in {**good, word: given}.items():
+                words += [name, *values] if values is not None else []
+            with self.assertRaises(SystemExit) as ended, redirect_stderr(io.StringIO()) as said:
+                command.main(words)
             self.assertEqual(ended.exception.code, 2)
+            self.assertEqual(said.getvalue().splitlines()[-1], f"pinarewhemi-layer: error: {says}")
+        for pair in (["--windows", "--hierarchy"], ["--workers", "2", "--scheduler", "tcp://127.0.0.1:9"]):
+            with self.assertRaises(SystemExit) as ended, redirect_stderr(io.StringIO()) as said:
+                command.main(["in.gds", "--layer", "4/0", "--rule", "25", "40", "--out", "out.gds", *pair])
+            self.assertEqual(ended.exception.code, 2)
+            self.assertIn(": not allowed with argument ", said.getvalue())
 
     def test_cut_files(self):
         """A file that was cut is told. (An OASIS file ends in a record that is padded to 256 bytes: where the cut is in
@@ -428,7 +530,7 @@ class Faults(WithFolder):
         stopped = 0
         for step in range(10):
             os.unlink(self.path("out.gds")) if os.path.exists(self.path("out.gds")) else None
-            running = subprocess.Popen(COMMAND + words, stdout=subprocess.PIPE, stderr=subprocess.PIPE, text=True)
+            running = started(words)
             time.sleep(took * (0.1 + 0.1 * step))
             running.send_signal(signal.SIGINT)
             _, said = running.communicate()
@@ -443,6 +545,83 @@ class Faults(WithFolder):
                 stopped += 1
         self.assertGreater(stopped, 0)
 
+    def test_interrupted_with_workers(self):
+        """Ctrl-C while two workers work: they end too, and no half file is left."""
+        layout = db.Layout()
+        top = layout.create_cell("TOP")
+        layers.skylines(db, top, layout.layer(4, 0), 5, 6000)
+        given = self.stored(layout, "in.gds")
+        words = [given, "--layer", "4", "--rule", "25", "40", "--out", self.path("out.gds"), "--windows", "--workers", "2"]
+        running = started(words)
+        workers = []
+        while len(workers) < 2 and running.poll() is None:
+            workers = children(running.pid)
+            time.sleep(0.001)
+        self.assertEqual(len(workers), 2)
+        time.sleep(0.05)
+        running.send_signal(signal.SIGINT)
+        said = running.communicate()
+        self.assertEqual(running.returncode, -signal.SIGINT, said)
+        self.assertEqual(os.listdir(self.folder), ["in.gds"])
+        until = time.monotonic() + 5
+        while any(map(lives, workers)) and time.monotonic() < until:
+            time.sleep(0.01)
+        self.assertFalse([worker for worker in workers if lives(worker)])
+
+    def test_ignored_stays_ignored(self):
+        """What was ignored when the command began (nohup, a job in the background) does not end it."""
+        layout = db.Layout()
+        top = layout.create_cell("TOP")
+        layers.skylines(db, top, layout.layer(4, 0), 5, 500)
+        given = self.stored(layout, "in.gds")
+        words = [given, "--layer", "4", "--rule", "25", "40", "--out", self.path("out.gds")]
+        for number in (signal.SIGINT, signal.SIGHUP):
+            for more in ([], ["--windows", "--workers", "2"]):
+                running = subprocess.Popen(
+                    COMMAND + words + more,
+                    stdout=subprocess.PIPE,
+                    stderr=subprocess.PIPE,
+                    text=True,
+                    preexec_fn=lambda: signal.signal(number, signal.SIG_IGN),
+                )
+                while running.poll() is None:
+                    for process in (running.pid, *children(running.pid)):
+                        with contextlib.suppress(ProcessLookupError):
+                            os.kill(process, number)
+                    time.sleep(0.01)
+                line, said = running.communicate()
+                self.assertEqual((running.returncode, said), (0, ""))
+                self.assertRegex(line, "^layer 4/0 figures ")
+
+
+def started(words):
+    """The command, which Ctrl-C ends also where these tests run in the background and it would be ignored."""
+    return subprocess.Popen(
+        COMMAND + words,
+        stdout=subprocess.PIPE,
+        stderr=subprocess.PIPE,
+        text=True,
+        preexec_fn=lambda: signal.signal(signal.SIGINT, signal.SIG_DFL),
+    )
+
+
+def children(process):
+    """The processes that a process started (Linux)."""
+    try:
+        with open(f"/proc/{process}/task/{process}/children") as file:
+            return [int(word) for word in file.read().split()]
+    except OSError:
+        return []
+
+
+def lives(process):
+    """Whether a process is there and no mere entry of one that has ended."""
+    try:
+        with open(f"/proc/{process}/stat") as file:
+            return file.read().rpartition(")")[2].split()[0] not in "ZX"
+    except OSError:
+        return False
+
 
 class Terminal(WithFolder):
     def test_bar(self):
@@ -454,11 +633,17 @@ class Terminal(WithFolder):
         given = self.stored(layers.make(db), "in.oas")
         words = [given, "--layer", "4", "--rule", "25", "40", "--out", self.path("out.oas")]
         ours, theirs = pty.openpty()
-        ended = subprocess.run(COMMAND + words, stdout=subprocess.PIPE, stderr=theirs, text=True)
+        running = subprocess.Popen(COMMAND + words, stdout=subprocess.PIPE, stderr=theirs, text=True)
         os.close(theirs)
-        shown = os.read(ours, 65536).decode()
+        shown = b""
+        # until its last writer has ended: Linux tells that by EIO, others by an empty read
+        with contextlib.suppress(OSError):
+            while more := os.read(ours, 65536):
+                shown += more
         os.close(ours)
-        self.assertRegex(ended.stdout, r"^layer 4/0 figures 3470 [^\n]*\n$")
+        shown, line = shown.decode(), running.communicate()[0]
+        self.assertEqual(running.returncode, 1)
+        self.assertRegex(line, r"^layer 4/0 figures 3470 [^\n]*\n$")
         for stage in ("reading", "merging", "placed", "writing"):
             self.assertIn(f"\r{stage}: ", shown)
 
@@ -488,7 +673,8 @@ class Inside(WithFolder):
         self.assertEqual(ended.stdout.strip().splitlines()[-1], outside)
 
     def test_undone_in_the_window(self):
-        """In KLayout's window, without a screen: fractured, the slivers in red, and undone in one step."""
+        """In KLayout's window, without a screen: fractured, the slivers in red, and undone in one step; where there are
+        several top cells, fractured below the shown one, and the others stay."""
         program = shutil.which("klayout")
         if not program:
             self.skipTest("there is no program klayout")
@@ -512,6 +698,9 @@ class Inside(WithFolder):
                 "between = seen()\n"
                 "main.call_menu('cm_undo')\n"
                 "print(between != before, seen() == before, looks[2] == 0xff0000)\n"
+                "layout.create_cell('OTHER')\n"
+                "print(window.fracture_shown(pya, view, (4, 0), 25, 40).line())\n"
+                "print(sorted(cell.name for cell in layout.top_cells()))\n"
                 "sys.stdout.flush()\n"
                 "os._exit(0)\n"
             )
@@ -519,7 +708,8 @@ class Inside(WithFolder):
         words = [program, "-z", "-nc", "-rx", "-e", "-r", self.path("window.py")]
         ended = subprocess.run(words, env=around, capture_output=True, text=True, timeout=60)
         outside = fracture_layer(db, layers.make(db), (4, 0), 25, 40).line()
-        self.assertEqual(ended.stdout.strip().splitlines()[-2:], [outside, "True True True"], ended.stderr)
+        told = [outside, "True True True", outside, "['OTHER', 'TOP']"]
+        self.assertEqual(ended.stdout.strip().splitlines()[-4:], told, ended.stderr)
 
 
 if __name__ == "__main__":

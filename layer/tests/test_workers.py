@@ -1,12 +1,13 @@
 """Windows and workers: another road to the same figures, and the same bytes for any number of workers."""
 
 import collections
+import logging
 import os
 import random
 import signal
 import subprocess
 import sys
-import threading
+import time
 import unittest
 from unittest import mock
 
@@ -92,7 +93,9 @@ class SameBytes(WithFolder):
 
     def setUp(self):
         super().setUp()
-        self.given = self.stored(flat_layer(6, 400), "in.oas")
+        self.flat = self.given = self.stored(flat_layer(6, 400), "in.oas")
+        # with a triangle, which no job can carry
+        self.chip = self.stored(layers.make(db), "chip.oas")
         patched = mock.patch.object(windows, "SHAPES", 100)
         patched.start()
         self.addCleanup(patched.stop)
@@ -104,20 +107,33 @@ class SameBytes(WithFolder):
                 one = self.bytes_of(*words)
                 for number in (2, 4):
                     self.assertEqual(self.bytes_of("--workers", number, *words), one)
+            self.given = self.chip
+            for words in (("--hierarchy",), ("--windows", "--beyond")):
+                one = self.bytes_of(*words)
+                self.assertEqual(self.bytes_of("--workers", 2, *words), one)
 
     def test_jobs_are_kept(self):
         """The job files read back, and hold the distinct figures that a job can carry."""
         folder = self.path("jobs")
-        one = self.bytes_of()
-        self.assertEqual(self.bytes_of("--jobs", folder), one)
-        carried = 0
-        for name in sorted(os.listdir(folder)):
-            with open(os.path.join(folder, name), "rb") as file:
-                job = pinarewhemi.read_job(file.read())
-            self.assertEqual(job[:2], (25, 40))
-            carried += len(job.figures)
-        rows = one[1].decode().splitlines()[1:]
-        self.assertEqual(carried, sum(row.split(",")[8] not in ("2", "18") for row in rows))
+        os.mkdir(folder)
+        # an earlier run with more jobs, and what is not ours
+        for name in ("000123.job", "1234567.job", "7.job", "notes"):
+            open(os.path.join(folder, name), "w").close()
+        for self.given in (self.flat, self.chip):
+            one = self.bytes_of()
+            self.assertEqual(self.bytes_of("--jobs", folder), one)
+            carried = 0
+            names = sorted(name for name in os.listdir(folder) if name not in ("7.job", "notes"))
+            self.assertEqual(names, [f"{number:06}.job" for number in range(len(names))])
+            for name in names:
+                with open(os.path.join(folder, name), "rb") as file:
+                    job = pinarewhemi.read_job(file.read())
+                self.assertEqual(job[:2], (25, 40))
+                carried += len(job.figures)
+            rows = one[1].decode().splitlines()[1:]
+            self.assertEqual(carried, sum(row.split(",")[8] not in ("2", "18") for row in rows))
+            self.assertGreater(carried, 100)
+        self.assertEqual(len(os.listdir(folder)), len(names) + 2)
 
     def test_killed_in_the_middle(self):
         """A worker that is killed changes nothing; one that dies always is told."""
@@ -127,7 +143,7 @@ class SameBytes(WithFolder):
             list(workers.Pool(2).run(killed_always, [1, 2, 3], lambda *_: None))
 
     def test_dask(self):
-        """Two workers of dask on the loopback, one of which is killed while the second run is on."""
+        """Two workers of dask on the loopback: windows, and bundles of jobs; then one is killed over a task."""
         try:
             import distributed  # noqa: F401
         except ImportError:
@@ -146,7 +162,26 @@ class SameBytes(WithFolder):
             address = client.scheduler.address
             client.close()
             self.assertEqual(self.bytes_of("--scheduler", address), one)
-            threading.Timer(0.1, running[-1].kill).start()
+            asked = []
+            bundles = mock.patch.object(jobs, "SECONDS", 0.001), mock.patch.object(jobs, "BUNDLE_SECONDS", 0.002)
+            with bundles[0], bundles[1], mock.patch.object(workers.Dask, "run", noted(workers.Dask.run, asked)):
+                self.assertEqual(self.bytes_of("--scheduler", address), one)
+            self.assertEqual([name for name, _ in asked], ["take", "fracture_bundle"])
+            self.assertTrue(all(count > 2 for _, count in asked), asked)
+            # a task that kills the worker that has it, once: another worker is asked again
+            marker = self.path("marker")
+            logging.getLogger("distributed.client").setLevel(logging.ERROR)
+            dask = workers.Dask(address)
+            try:
+                tasks = [(marker, number) for number in range(20)]
+                self.assertEqual(list(dask.run(killed_once, tasks, lambda *_: None)), list(range(20)))
+            finally:
+                dask.close()
+            self.assertTrue(os.path.exists(marker))
+            until = time.monotonic() + 10
+            while all(process.poll() is None for process in running) and time.monotonic() < until:
+                time.sleep(0.01)
+            self.assertEqual([process.poll() is None for process in running].count(False), 1, "one worker was killed")
             self.assertEqual(self.bytes_of("--scheduler", address), one)
         finally:
             for process in running:
@@ -160,6 +195,16 @@ class SameBytes(WithFolder):
 
 
 QUIET = {"stdout": subprocess.DEVNULL, "stderr": subprocess.DEVNULL}
+
+
+def noted(run, asked):
+    """`run`, which notes what was asked and of how many tasks."""
+
+    def running(self, function, tasks, show):
+        asked.append((function.__name__, len(tasks)))
+        return run(self, function, tasks, show)
+
+    return running
 
 
 def killed_once(task):
