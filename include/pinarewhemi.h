@@ -265,6 +265,7 @@ uint32_t pw_cif_write(const uint16_t *list, size_t list_len, uint8_t *out, size_
  * pw_cif_write writes is read, so one list has one text; bytes after the last line are a fault too.
  * Refuses: PW_TEXT with the offset of the first line at fault, then PW_BUFFER_SHORT. */
 uint32_t pw_cif_read(const uint8_t *text, size_t len, uint16_t *list, size_t list_len, size_t *shots, size_t *offset);
+
 /* An index beside a job: the offset of each outline in the job's bytes, from the front of index on. Opening
  * reads the job, fills the index and gives the number of outlines; entries behind them are not touched.
  * Refuses as pw_job_check, then PW_BUFFER_SHORT where the index has fewer entries than there are outlines. */
