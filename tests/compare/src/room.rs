@@ -1,4 +1,6 @@
-//! Lent memory with canaries before and beyond it.
+//! Lent memory with canaries before and beyond it, and what a fracture leaves in it.
+
+use law::Told;
 
 /// Numbers that a buffer is made of.
 pub trait Element: Copy + PartialEq + std::fmt::Debug {
@@ -40,7 +42,7 @@ impl Element for usize {
 const MARGIN: usize = 16;
 
 /// A buffer of some length between canaries.
-#[derive(Clone)]
+#[derive(Clone, PartialEq, Debug)]
 pub struct Room<T: Element> {
     whole: Vec<T>,
     len: usize,
@@ -67,5 +69,33 @@ impl<T: Element> Room<T> {
         assert_eq!(self.len, other.len);
         let at = self.whole.iter().zip(&other.whole).position(|(a, b)| a != b)?;
         Some((at as isize - MARGIN as isize, self.whole[at], other.whole[at]))
+    }
+}
+
+/// What a fracture leaves: its answer, and the cost table and the list of shots that it was lent.
+#[derive(PartialEq, Debug)]
+pub struct Left {
+    pub told: Told,
+    pub table: Room<u32>,
+    pub list: Room<u16>,
+}
+
+impl Left {
+    /// Lends a table and a list with these contents to a call.
+    pub fn lend(table: &[u32], list: &[u16], call: impl FnOnce(&mut [u32], &mut [u16]) -> Told) -> Left {
+        let (mut table, mut list) = (Room::new(table), Room::new(list));
+        let told = call(table.lent(), list.lent());
+        Left { told, table, list }
+    }
+
+    /// Holds what someone else left to this, which is right.
+    pub fn hold(&self, who: &str, its: &Left, said: &dyn Fn() -> String) {
+        assert!(its.told == self.told, "{who}: {}\n  answers {:?} and not {:?}", said(), its.told, self.told);
+        if let Some((at, right, wrong)) = self.table.differs(&its.table) {
+            panic!("{who}: {}\n  table at {at}: {wrong} and not {right}", said());
+        }
+        if let Some((at, right, wrong)) = self.list.differs(&its.list) {
+            panic!("{who}: {}\n  list at {at}: {wrong} and not {right}", said());
+        }
     }
 }
