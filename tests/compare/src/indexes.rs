@@ -2,18 +2,15 @@
 //! true, and histories of a thousand calls each, refused ones among them, from jobs of no outline up to 255 and back.
 
 use crate::progress::Progress;
-use crate::room::Room;
-use crate::Plan;
+use crate::room::{lend_both, marks, Room};
+use crate::{Library, Plan};
 use drawings::document::{FRAMED, L};
 use drawings::figures;
 use drawings::jobs::{damaged, outline, small, sound, DAMAGES};
 use drawings::seeded::Seeded;
 use law::bytes::{header, job, written_outline};
 use law::{Calls, Drawing, Law, Told};
-use std::sync::atomic::{AtomicUsize, Ordering};
 use std::sync::Mutex;
-
-type Library = &'static (dyn Calls + Sync);
 
 fn unit() -> Drawing {
     Drawing::outline(&[0, 0, 1, 0, 1, 1, 0, 1])
@@ -28,15 +25,6 @@ pub fn worked_job() -> Vec<u8> {
     [header(25, 40, 3), written_outline(&Drawing::outline(&L)), written_outline(&framed()), written_outline(&unit())].concat()
 }
 
-/// What an index holds before a call, by its length.
-fn index_marks(length: usize, seed: u64) -> Vec<u16> {
-    (0..length).map(|n| (n as u16).wrapping_mul(40_503) ^ seed as u16).collect()
-}
-
-fn out_marks(length: usize, seed: u64) -> Vec<u8> {
-    (0..length).map(|n| (n as u8).wrapping_mul(157) ^ seed as u8).collect()
-}
-
 /// A job, its index with all that it holds, and its count.
 struct State {
     job: Vec<u8>,
@@ -46,13 +34,10 @@ struct State {
 
 /// Asks both to open a job; the answer, and the index afterwards.
 fn open(library: Library, job: &[u8], index: &[u16], progress: &Progress) -> (Told, Vec<u16>) {
-    let (mut right_index, mut ours) = (Room::new(index), Room::new(index));
-    let right = Law.index_open(job, right_index.lent());
-    let told = library.index_open(job, ours.lent());
-    assert!(told == right, "opening {job:x?} with {} entries: {told:?} and not {right:?}", index.len());
-    assert!(right_index.differs(&ours).is_none(), "opening {job:x?} left {:?}, not {:?}", ours.held(), right_index.held());
+    let said = || format!("opening {job:x?} with {} entries", index.len());
+    let (told, index) = lend_both(library, index, &said, |calls, index| calls.index_open(job, index));
     progress.same();
-    (right, ours.held().to_vec())
+    (told, index.held().to_vec())
 }
 
 /// What is done to a job.
@@ -79,7 +64,7 @@ impl Change<'_> {
 
 /// Asks both for a change; the answer, and index and buffer afterwards.
 fn change(library: Library, by: Change, job: &[u8], index: &[u16], room: usize, progress: &Progress) -> (Told, Vec<u16>, Vec<u8>) {
-    let marks = out_marks(room, job.len() as u64);
+    let marks = marks(room, job.len() as u64);
     let (mut right_index, mut ours) = (Room::new(index), Room::new(index));
     let (mut right_out, mut out) = (Room::new(&marks), Room::new(&marks));
     let right = by.call(&Law, job, right_index.lent(), right_out.lent());
@@ -129,11 +114,11 @@ pub fn rows(plan: &Plan, progress: &Progress) {
     let Some(library) = plan.library else { return };
     let whole = worked_job();
     assert_eq!(whole.len(), 45);
-    let marks = index_marks(5, 9);
-    let (told, index) = open(library, &whole, &marks, progress);
-    assert_eq!((told, &index[..]), (Told::done(&[3]), &[3, 16, 36, marks[3], marks[4]][..]));
+    let held = marks(5, 9);
+    let (told, index) = open(library, &whole, &held, progress);
+    assert_eq!((told, &index[..]), (Told::done(&[3]), &[3, 16, 36, held[3], held[4]][..]));
     for room in 0..6 {
-        let (told, _) = open(library, &whole, &index_marks(room, 3), progress);
+        let (told, _) = open(library, &whole, &marks(room, 3), progress);
         assert_eq!(told, if room < 3 { Told::refused(14) } else { Told::done(&[3]) });
     }
     for (k, part) in [(0, [3, 13]), (1, [16, 20]), (2, [36, 9])] {
@@ -143,10 +128,10 @@ pub fn rows(plan: &Plan, progress: &Progress) {
         assert_eq!(pick(library, &whole, &index[..entries], count, k, progress), Told::refused(13));
     }
     let (told, after, out) = change(library, Change::Remove(1), &whole, &index, 60, progress);
-    assert_eq!((told, &after[..]), (Told::done(&[25, 2]), &[3, 16, 36, marks[3], marks[4]][..]));
+    assert_eq!((told, &after[..]), (Told::done(&[25, 2]), &[3, 16, 36, held[3], held[4]][..]));
     assert_eq!(&out[..25], &[&[0x19, 0x28, 2][..], &whole[3..16], &whole[36..]].concat()[..]);
     let (told, after, out) = change(library, Change::Append(&unit()), &whole, &index, 60, progress);
-    assert_eq!((told, &after[..]), (Told::done(&[54, 4]), &[3, 16, 36, 45, marks[4]][..]));
+    assert_eq!((told, &after[..]), (Told::done(&[54, 4]), &[3, 16, 36, 45, held[4]][..]));
     assert_eq!(&out[..54], &[&[0x19, 0x28, 4][..], &whole[3..], &whole[36..]].concat()[..]);
     for (k, right) in [(3, 13), (usize::MAX, 13), (2, 0)] {
         assert_eq!(change(library, Change::Remove(k), &whole, &index, 60, progress).0.number, right);
@@ -154,9 +139,9 @@ pub fn rows(plan: &Plan, progress: &Progress) {
     // room of every length for both buffers
     for entries in 0..6 {
         for room in 0..60 {
-            let (told, ..) = change(library, Change::Append(&unit()), &whole, &index_marks(entries, 5), room, progress);
+            let (told, ..) = change(library, Change::Append(&unit()), &whole, &marks(entries, 5), room, progress);
             assert_eq!(told.number, if room < 54 || entries < 4 { 14 } else { 0 });
-            let (told, ..) = change(library, Change::Remove(0), &whole, &index_marks(entries, 5), room, progress);
+            let (told, ..) = change(library, Change::Remove(0), &whole, &marks(entries, 5), room, progress);
             assert_eq!(told.number, if room < 32 || entries < 2 { 14 } else { 0 });
         }
     }
@@ -183,7 +168,7 @@ pub fn rows(plan: &Plan, progress: &Progress) {
 fn passing_127(library: Library, progress: &Progress) {
     let job = [header(25, 40, 127), written_outline(&unit()).repeat(127)].concat();
     assert_eq!(job.len(), 1146);
-    let (told, index) = open(library, &job, &index_marks(255, 1), progress);
+    let (told, index) = open(library, &job, &marks(255, 1), progress);
     assert_eq!(told, Told::done(&[127]));
     assert!((0..127).all(|k| index[k] as usize == 3 + 9 * k));
     let mut state = State { job, index, count: 127 };
@@ -200,7 +185,7 @@ fn full(library: Library, progress: &Progress) {
     let job = [header(25, 40, 255), written_outline(&unit()).repeat(255)].concat();
     let short = Drawing { corners: unit().corners, rings: vec![3] };
     for (entries, room) in [(0, 0), (255, 4096), (300, 5000)] {
-        let index = index_marks(entries, 7);
+        let index = marks(entries, 7);
         assert_eq!(change(library, Change::Append(&unit()), &job, &index, room, progress).0, Told::refused(20));
         assert_eq!(change(library, Change::Append(&short), &job, &index, room, progress).0, Told::refused(2));
     }
@@ -208,14 +193,14 @@ fn full(library: Library, progress: &Progress) {
     let job = [header(25, 40, 21), written_outline(&wide).repeat(21)].concat();
     assert_eq!(job.len(), 4056);
     for (entries, room) in [(0, 0), (255, 4096), (255, 5000)] {
-        let index = index_marks(entries, 8);
+        let index = marks(entries, 8);
         assert_eq!(change(library, Change::Append(&wide), &job, &index, room, progress).0, Told::refused(12));
     }
     // up to the last byte: 4,096 bytes are taken, one more is not
     for (bytes, number) in [(40, 0), (41, 12)] {
         let figure = filling(bytes);
         assert_eq!(written_outline(&figure).len(), bytes);
-        assert_eq!(change(library, Change::Append(&figure), &job, &index_marks(255, 2), 4096, progress).0.number, number);
+        assert_eq!(change(library, Change::Append(&figure), &job, &marks(255, 2), 4096, progress).0.number, number);
     }
 }
 
@@ -259,7 +244,7 @@ fn history(library: Library, seed: u64, progress: &Progress) -> [usize; 3] {
         2 => [header(7, 9, 255), written_outline(&unit()).repeat(255)].concat(),
         _ => sound(&mut s),
     };
-    let (told, index) = open(library, &start, &index_marks(260, seed), progress);
+    let (told, index) = open(library, &start, &marks(260, seed), progress);
     assert_eq!(told.number, 0);
     let mut state = State { job: start, index, count: told.numbers[0] as usize };
     let mut counts = [0; 3];
@@ -333,20 +318,10 @@ fn history(library: Library, seed: u64, progress: &Progress) -> [usize; 3] {
 pub fn histories(plan: &Plan, progress: &Progress) {
     let Some(library) = plan.library else { return };
     let count = (plan.jobs / 3000).clamp(8, 40);
-    let next = AtomicUsize::new(0);
     let tally = Mutex::new([0usize; 3]);
-    std::thread::scope(|scope| {
-        for _ in 0..plan.threads {
-            scope.spawn(|| loop {
-                let turn = next.fetch_add(1, Ordering::Relaxed);
-                if turn >= count {
-                    break;
-                }
-                let mine = history(library, plan.seed << 32 | 0x1de8 << 16 | turn as u64, progress);
-                tally.lock().unwrap().iter_mut().zip(mine).for_each(|(sum, mine)| *sum += mine);
-                progress.at("histories", turn, count);
-            });
-        }
+    plan.turns("histories", count, progress, |turn| {
+        let mine = history(library, plan.seed << 32 | 0x1de8 << 16 | turn as u64, progress);
+        tally.lock().unwrap().iter_mut().zip(mine).for_each(|(sum, mine)| *sum += mine);
     });
     let [up, down, refused] = tally.into_inner().unwrap();
     assert!(up > 0 && down > 0 && refused > 0, "no history passed K = 127 both ways: {up}, {down}, {refused} refused");

@@ -1,15 +1,29 @@
-//! Lent memory with canaries before and beyond it, and what a fracture leaves in it.
+//! Lent memory with canaries before and beyond it: a buffer lent to the law and the library, and what a fracture leaves.
 
-use law::Told;
+use crate::Library;
+use law::joining::Joined;
+use law::{Calls, Law, Told};
 
-/// Numbers that a buffer is made of.
+/// What a buffer is made of.
 pub trait Element: Copy + PartialEq + std::fmt::Debug {
     fn canary(at: usize) -> Self;
+
+    /// From the low bits of a number.
+    fn of(bits: u64) -> Self;
+}
+
+/// What a buffer of this length holds before a call: no element as its neighbour, and others by another seed.
+pub fn marks<T: Element>(length: usize, seed: u64) -> Vec<T> {
+    (0..length as u64).map(|n| T::of(n.wrapping_mul(0x9e37_79b9_7f4a_7c15) ^ seed)).collect()
 }
 
 impl Element for u8 {
     fn canary(at: usize) -> u8 {
         0xa5 ^ at as u8
+    }
+
+    fn of(bits: u64) -> u8 {
+        bits as u8
     }
 }
 
@@ -17,24 +31,41 @@ impl Element for u16 {
     fn canary(at: usize) -> u16 {
         0xa5c3 ^ at as u16
     }
+
+    fn of(bits: u64) -> u16 {
+        bits as u16
+    }
 }
 
 impl Element for u32 {
     fn canary(at: usize) -> u32 {
         0xa5c3_5a3c ^ at as u32
     }
+
+    fn of(bits: u64) -> u32 {
+        bits as u32
+    }
 }
 
-impl Element for law::joining::Joined {
-    fn canary(at: usize) -> law::joining::Joined {
+impl Element for Joined {
+    fn canary(at: usize) -> Joined {
         let n = u16::canary(at);
-        law::joining::Joined { x_low: n, y_low: !n, x_high: n ^ 1, y_high: n ^ 2, partner: !at }
+        Joined { x_low: n, y_low: !n, x_high: n ^ 1, y_high: n ^ 2, partner: !at }
+    }
+
+    fn of(bits: u64) -> Joined {
+        let [x_low, y_low, x_high, y_high] = [0, 16, 32, 48].map(|from| (bits >> from) as u16);
+        Joined { x_low, y_low, x_high, y_high, partner: bits as usize }
     }
 }
 
 impl Element for usize {
     fn canary(at: usize) -> usize {
         0xa5c3_5a3c_c3a5_3c5a ^ at
+    }
+
+    fn of(bits: u64) -> usize {
+        bits as usize
     }
 }
 
@@ -70,6 +101,20 @@ impl<T: Element> Room<T> {
         let at = self.whole.iter().zip(&other.whole).position(|(a, b)| a != b)?;
         Some((at as isize - MARGIN as isize, self.whole[at], other.whole[at]))
     }
+}
+
+/// Lends the law and the library a buffer with these contents each, and holds answer and buffer of the one to the
+/// other's; gives them.
+pub fn lend_both<T: Element>(
+    library: Library, contents: &[T], said: &dyn Fn() -> String, call: impl Fn(&dyn Calls, &mut [T]) -> Told,
+) -> (Told, Room<T>) {
+    let (mut right_room, mut room) = (Room::new(contents), Room::new(contents));
+    let (right, told) = (call(&Law, right_room.lent()), call(library, room.lent()));
+    assert!(told == right, "{}: {told:?} and not {right:?}", said());
+    if let Some((at, right, left)) = right_room.differs(&room) {
+        panic!("{} left {left:?}, not {right:?}, at {at}", said());
+    }
+    (told, room)
 }
 
 /// What a fracture leaves: its answer, and the cost table and the list of shots that it was lent.

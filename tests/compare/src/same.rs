@@ -3,27 +3,16 @@
 //! rules. Answers and both buffers are compared whole, what lies beyond what is written among them.
 
 use crate::progress::Progress;
-use crate::Plan;
+use crate::room::{marks, Left};
+use crate::{Library, Plan};
 use drawings::seeded::Seeded;
 use drawings::{figures, outlines};
-use law::{Calls, Drawing, Told};
+use law::Drawing;
 use std::sync::atomic::{AtomicUsize, Ordering};
 
-type Library = &'static (dyn Calls + Sync);
-
-/// What a fracture leaves: its answer, and both buffers, lent with the same contents each time.
-#[derive(PartialEq, Debug, Clone)]
-struct Left {
-    told: Told,
-    table: Vec<u32>,
-    list: Vec<u16>,
-}
-
+/// What a fracture leaves in buffers that are lent with the same contents each time.
 fn fracture(library: Library, drawing: &Drawing, rule: (u32, u32), room: (usize, usize)) -> Left {
-    let mut table: Vec<u32> = (0..room.0 as u32).map(|n| n.wrapping_mul(0x9e37_79b9)).collect();
-    let mut list: Vec<u16> = (0..room.1 as u32).map(|n| (n.wrapping_mul(0x85eb_ca6b) >> 7) as u16).collect();
-    let told = library.fracture(drawing, rule.0, rule.1, &mut table, &mut list);
-    Left { told, table, list }
+    Left::lend(&marks(room.0, 0), &marks(room.1, 0), |table, list| library.fracture(drawing, rule.0, rule.1, table, list))
 }
 
 /// The rings of a drawing whose lengths announce just its corners, each as pairs; none of another.
@@ -81,55 +70,46 @@ fn moved(rings: &[Vec<[u16; 2]>]) -> Vec<(Drawing, [i32; 2])> {
 
 pub fn figures(plan: &Plan, progress: &Progress) {
     let Some(library) = plan.library else { return };
-    let (next, total) = (AtomicUsize::new(0), plan.outlines / 20);
+    let total = plan.outlines / 20;
     let (accepted, redrawings, moves, pairs) = (AtomicUsize::new(0), AtomicUsize::new(0), AtomicUsize::new(0), AtomicUsize::new(0));
-    std::thread::scope(|scope| {
-        for _ in 0..plan.threads {
-            scope.spawn(|| loop {
-                let turn = next.fetch_add(1, Ordering::Relaxed);
-                if turn >= total {
-                    break;
-                }
-                let mut s = Seeded::new(plan.seed << 32 | 0x5a3e << 16 | turn as u64);
-                let (outline, figure) = (s.below(outlines::SORTS.len()), s.below(figures::SORTS.len()));
-                let drawing = match turn % 8 {
-                    0 => figures::bad(&mut s),
-                    1 | 2 | 3 => outlines::of_sort(&mut s, outline),
-                    _ => figures::of_sort(&mut s, figure),
-                };
-                let Some(rings) = rings(&drawing) else { continue };
-                let rule = outlines::rule(&mut s, &drawing);
-                let room = (s.pick(&[14_400, 14_400, 14_400, 100]), s.pick(&[900, 900, 900, 15]));
-                let left = fracture(library, &drawing, rule, room);
-                for other in redrawn(&rings, &mut s) {
-                    let again = fracture(library, &other, rule, room);
-                    assert!(again == left, "{drawing:?} by {rule:?}, redrawn as {other:?}: {:?} and not {:?}", again.told, left.told);
-                    redrawings.fetch_add(1, Ordering::Relaxed);
-                }
-                for (other, by) in moved(&rings) {
-                    let mut again = fracture(library, &other, rule, room);
-                    if left.told.number == 0 {
-                        for (n, place) in again.list[..4 * left.told.numbers[0] as usize].iter_mut().enumerate() {
-                            *place = (*place as i32 - by[n % 2]) as u16;
-                        }
-                    }
-                    assert!(again == left, "{drawing:?} by {rule:?}, moved by {by:?}: {:?} and not {:?}", again.told, left.told);
-                    moves.fetch_add(1, Ordering::Relaxed);
-                }
-                if left.told.number == 0 {
-                    accepted.fetch_add(1, Ordering::Relaxed);
-                    let dearer = (s.within(rule.0 as usize, 1_000) as u32, s.within(rule.1 as usize, 1_000) as u32);
-                    let other = fracture(library, &drawing, dearer, room);
-                    if other.told.number == 0 {
-                        assert!(left.told.numbers[1] <= other.told.numbers[1], "{drawing:?}: {rule:?} costs more than {dearer:?}");
-                        assert!(left.table.iter().zip(&other.table).all(|(a, b)| a <= b), "{drawing:?}: an entry by {dearer:?} is lower");
-                        pairs.fetch_add(1, Ordering::Relaxed);
-                    }
-                }
-                progress.same_many(1);
-                progress.at("figures drawn otherwise", turn, total);
-            });
+    plan.turns("figures drawn otherwise", total, progress, |turn| {
+        let mut s = Seeded::new(plan.seed << 32 | 0x5a3e << 16 | turn as u64);
+        let (outline, figure) = (s.below(outlines::SORTS.len()), s.below(figures::SORTS.len()));
+        let drawing = match turn % 8 {
+            0 => figures::bad(&mut s),
+            1 | 2 | 3 => outlines::of_sort(&mut s, outline),
+            _ => figures::of_sort(&mut s, figure),
+        };
+        let Some(rings) = rings(&drawing) else { return };
+        let rule = outlines::rule(&mut s, &drawing);
+        let room = (s.pick(&[14_400, 14_400, 14_400, 100]), s.pick(&[900, 900, 900, 15]));
+        let left = fracture(library, &drawing, rule, room);
+        for other in redrawn(&rings, &mut s) {
+            let again = fracture(library, &other, rule, room);
+            assert!(again == left, "{drawing:?} by {rule:?}, redrawn as {other:?}: {:?} and not {:?}", again.told, left.told);
+            redrawings.fetch_add(1, Ordering::Relaxed);
         }
+        for (other, by) in moved(&rings) {
+            let mut again = fracture(library, &other, rule, room);
+            if left.told.number == 0 {
+                for (n, place) in again.list.lent()[..4 * left.told.numbers[0] as usize].iter_mut().enumerate() {
+                    *place = (*place as i32 - by[n % 2]) as u16;
+                }
+            }
+            assert!(again == left, "{drawing:?} by {rule:?}, moved by {by:?}: {:?} and not {:?}", again.told, left.told);
+            moves.fetch_add(1, Ordering::Relaxed);
+        }
+        if left.told.number == 0 {
+            accepted.fetch_add(1, Ordering::Relaxed);
+            let dearer = (s.within(rule.0 as usize, 1_000) as u32, s.within(rule.1 as usize, 1_000) as u32);
+            let other = fracture(library, &drawing, dearer, room);
+            if other.told.number == 0 {
+                assert!(left.told.numbers[1] <= other.told.numbers[1], "{drawing:?}: {rule:?} costs more than {dearer:?}");
+                assert!(left.table.held().iter().zip(other.table.held()).all(|(a, b)| a <= b), "{drawing:?}: an entry by {dearer:?} is lower");
+                pairs.fetch_add(1, Ordering::Relaxed);
+            }
+        }
+        progress.same_many(1);
     });
     let of = |n: AtomicUsize| n.into_inner();
     let (accepted, redrawings, moves, pairs) = (of(accepted), of(redrawings), of(moves), of(pairs));
