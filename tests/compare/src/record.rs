@@ -412,118 +412,162 @@ fn any_figure(s: &mut Seeded) -> Drawing {
     }
 }
 
+/// The cases from seeds.
+impl Record {
+    /// Drawings of every sort, fractured by a rule or by the default rule, and by pinwheels, and their cuts ahead.
+    fn drawings(&mut self, seed: u64, progress: &Progress) {
+        for turn in 0..OUTLINES {
+            let mut s = Seeded::new(seed << 32 | 0x4ec0 << 16 | turn);
+            let drawing = any_figure(&mut s);
+            let pieces = figure(&drawing).map_or(50, |f| f.pieces());
+            let entries = s.pick(&[pieces, pieces, pieces + 3, pieces - 1]);
+            let few = s.within(0, 60);
+            let numbers = s.pick(&[900, 900, 901, few]);
+            let rule = if s.once_in(8) { None } else { Some(outlines::rule(&mut s, &drawing)) };
+            let mark = s.any() as u32;
+            self.fracture(&drawing, rule, (entries, numbers), mark);
+            if let Some(rule) = rule.filter(|_| pieces <= 1300 || turn % 67 == 0) {
+                self.pinwheels(&drawing, rule, (entries, numbers), mark);
+            }
+            self.cuts(&drawing);
+            progress.at("recording", turn as usize, OUTLINES as usize);
+        }
+    }
+
+    /// Jobs, sound and damaged, and the writers.
+    fn jobs(&mut self, seed: u64) {
+        for turn in 0..JOBS {
+            let mut s = Seeded::new(seed << 32 | 0x10b5 << 16 | turn);
+            let mut job = sound(&mut s);
+            if turn % 4 > 0 {
+                let (at, way) = (s.within(0, job.len()), s.below(DAMAGES));
+                job = damaged(&mut s, &job, at, way);
+            }
+            self.job(&job, &mut s);
+            self.writers(&mut s);
+        }
+    }
+
+    /// Boundary elements, sound and damaged.
+    fn elements(&mut self, seed: u64) {
+        for turn in 0..ELEMENTS {
+            let mut s = Seeded::new(seed << 32 | 0x6d52 << 16 | turn);
+            let mut element = elements::any(&mut s);
+            if turn % 2 > 0 {
+                let (at, way) = (s.within(0, element.len()), s.below(elements::DAMAGES));
+                element = elements::damaged(&mut s, &element, at, way);
+            }
+            // the long ones, which fill the record, are the comparison's alone
+            if element.len() > 2_000 {
+                continue;
+            }
+            let few = (s.within(0, 64), s.within(0, 300), s.within(0, 60));
+            let rooms = s.pick(&[(64, 14_400, 900), few]);
+            self.boundary(&element, rooms, turn as u32);
+        }
+    }
+
+    /// Lists of shots to join.
+    fn lists(&mut self, seed: u64) {
+        for turn in 0..LISTS {
+            let mut s = Seeded::new(seed << 32 | 0x10f2 << 16 | turn);
+            let list = shots::any(&mut s);
+            let room = list.len() / 4;
+            let few = s.within(0, room);
+            let entries = s.pick(&[room, room, room + 1, room + 9, few]);
+            self.join(&list, entries, turn as u32);
+        }
+    }
+
+    /// One edge each of drawings, with a shot list.
+    fn edges(&mut self, seed: u64) {
+        for turn in 0..EDGES {
+            let mut s = Seeded::new(seed << 32 | 0xed6f << 16 | turn);
+            let drawing = any_figure(&mut s);
+            let shots = shot_list(&mut s, &drawing);
+            let any = s.within(0, drawing.corners.len() / 2 + 1);
+            let edge = s.pick(&[any, any, any, any, usize::MAX]);
+            let few = s.within(0, 20);
+            let room = s.pick(&[60 + 2 * shots.len(), few]);
+            self.edge(&drawing, edge, &shots, room, turn as u32);
+        }
+    }
+
+    /// Drawings, some of them drawn out, with a largest side.
+    fn divided_drawings(&mut self, seed: u64) {
+        for turn in 0..DIVIDED {
+            let mut s = Seeded::new(seed << 32 | 0xd1f0 << 16 | turn);
+            let mut drawing = any_figure(&mut s);
+            let most = (u16::MAX / drawing.corners.iter().max().copied().unwrap_or(0).max(1)).max(1);
+            let times = s.pick(&[1, 2, 5]).min(most);
+            drawing.corners.iter_mut().for_each(|place| *place *= times);
+            let pieces = figure(&drawing).map_or(50, |f| f.pieces());
+            let rule = outlines::rule(&mut s, &drawing);
+            let any = s.within(0, 70_000) as u32;
+            let largest = s.pick(&[199, 200, 200, 201, 2 * rule.0.min(1000), 500, 2_000, 65_535, 65_536, any]);
+            let few = s.within(0, 60);
+            let numbers = s.pick(&[900, 2_000, 20_000, few]);
+            let wheels = pieces <= 1300 && s.once_in(2);
+            self.divided(wheels, &drawing, rule, largest, (pieces, numbers), turn as u32);
+        }
+    }
+
+    /// Lists written as CIF texts, and texts read, sound and damaged.
+    fn texts(&mut self, seed: u64) {
+        for turn in 0..TEXTS {
+            let mut s = Seeded::new(seed << 32 | 0xc1f1 << 16 | turn);
+            let list = shots::any(&mut s);
+            let bytes = if law::cif::bad_shots(&list) { 50 } else { law::cif::text(&list).len() };
+            let few = s.within(0, bytes);
+            let room = s.pick(&[bytes, bytes + 5, bytes - 1, few]);
+            self.cif_write(&list, room, turn as u32);
+            let mut text = texts::sound(&mut s);
+            let shots = text.iter().filter(|&&byte| byte == b'B').count();
+            if turn % 3 > 0 {
+                let way = s.below(texts::DAMAGES);
+                text = texts::damaged(&mut s, &text, way);
+            }
+            let few = s.within(0, 4 * shots);
+            let numbers = s.pick(&[4 * shots, 4 * shots + 9, few]);
+            self.cif_read(&text, numbers, turn as u32);
+        }
+    }
+
+    /// Jobs and their index, and jobs damaged and saved.
+    fn indexes(&mut self, seed: u64) {
+        for turn in 0..INDEXES {
+            let mut s = Seeded::new(seed << 32 | 0x1de7 << 16 | turn);
+            let mut job = sound(&mut s);
+            if turn % 4 == 0 {
+                let (at, way) = (s.within(0, job.len()), s.below(DAMAGES));
+                job = damaged(&mut s, &job, at, way);
+            }
+            let count = Law.job_check(&job).numbers[2] as usize;
+            let drawing = any_drawing(&mut s);
+            let (k, few, short) = (s.within(0, count), s.within(0, count), s.within(0, job.len()));
+            let rooms = s.pick(&[(255, 4096), (255, 4096), (count + 1, job.len() + 10), (few, 4096), (255, short)]);
+            self.index(&job, &drawing, s.pick(&[k, k, k, usize::MAX]), rooms, turn as u32);
+            let (at, way) = (s.within(0, job.len()), s.below(DAMAGES));
+            self.salvage(&damaged(&mut s, &job, at, way), s.pick(&[4096, 4096, short]), turn as u32);
+        }
+    }
+}
+
+/// Writes the record to a file.
 pub fn write(file: &str, seed: u64, progress: &Progress) {
     let mut record = Record { words: Vec::new(), calls: 0 };
     for number in 0..6 {
         record.words.extend([1, number]);
         record.outcome(Law.preset(number), 2, &[]);
     }
-    for turn in 0..OUTLINES {
-        let mut s = Seeded::new(seed << 32 | 0x4ec0 << 16 | turn);
-        let drawing = any_figure(&mut s);
-        let pieces = figure(&drawing).map_or(50, |f| f.pieces());
-        let entries = s.pick(&[pieces, pieces, pieces + 3, pieces - 1]);
-        let few = s.within(0, 60);
-        let numbers = s.pick(&[900, 900, 901, few]);
-        let rule = if s.once_in(8) { None } else { Some(outlines::rule(&mut s, &drawing)) };
-        let mark = s.any() as u32;
-        record.fracture(&drawing, rule, (entries, numbers), mark);
-        if let Some(rule) = rule.filter(|_| pieces <= 1300 || turn % 67 == 0) {
-            record.pinwheels(&drawing, rule, (entries, numbers), mark);
-        }
-        record.cuts(&drawing);
-        progress.at("recording", turn as usize, OUTLINES as usize);
-    }
-    for turn in 0..JOBS {
-        let mut s = Seeded::new(seed << 32 | 0x10b5 << 16 | turn);
-        let mut job = sound(&mut s);
-        if turn % 4 > 0 {
-            let (at, way) = (s.within(0, job.len()), s.below(DAMAGES));
-            job = damaged(&mut s, &job, at, way);
-        }
-        record.job(&job, &mut s);
-        record.writers(&mut s);
-    }
-    for turn in 0..ELEMENTS {
-        let mut s = Seeded::new(seed << 32 | 0x6d52 << 16 | turn);
-        let mut element = elements::any(&mut s);
-        if turn % 2 > 0 {
-            let (at, way) = (s.within(0, element.len()), s.below(elements::DAMAGES));
-            element = elements::damaged(&mut s, &element, at, way);
-        }
-        // the long ones, which fill the record, are the comparison's alone
-        if element.len() > 2_000 {
-            continue;
-        }
-        let few = (s.within(0, 64), s.within(0, 300), s.within(0, 60));
-        let rooms = s.pick(&[(64, 14_400, 900), few]);
-        record.boundary(&element, rooms, turn as u32);
-    }
-    for turn in 0..LISTS {
-        let mut s = Seeded::new(seed << 32 | 0x10f2 << 16 | turn);
-        let list = shots::any(&mut s);
-        let room = list.len() / 4;
-        let few = s.within(0, room);
-        let entries = s.pick(&[room, room, room + 1, room + 9, few]);
-        record.join(&list, entries, turn as u32);
-    }
-    for turn in 0..EDGES {
-        let mut s = Seeded::new(seed << 32 | 0xed6f << 16 | turn);
-        let drawing = any_figure(&mut s);
-        let shots = shot_list(&mut s, &drawing);
-        let any = s.within(0, drawing.corners.len() / 2 + 1);
-        let edge = s.pick(&[any, any, any, any, usize::MAX]);
-        let few = s.within(0, 20);
-        let room = s.pick(&[60 + 2 * shots.len(), few]);
-        record.edge(&drawing, edge, &shots, room, turn as u32);
-    }
-    for turn in 0..DIVIDED {
-        let mut s = Seeded::new(seed << 32 | 0xd1f0 << 16 | turn);
-        let mut drawing = any_figure(&mut s);
-        let most = (u16::MAX / drawing.corners.iter().max().copied().unwrap_or(0).max(1)).max(1);
-        let times = s.pick(&[1, 2, 5]).min(most);
-        drawing.corners.iter_mut().for_each(|place| *place *= times);
-        let pieces = figure(&drawing).map_or(50, |f| f.pieces());
-        let rule = outlines::rule(&mut s, &drawing);
-        let any = s.within(0, 70_000) as u32;
-        let largest = s.pick(&[199, 200, 200, 201, 2 * rule.0.min(1000), 500, 2_000, 65_535, 65_536, any]);
-        let few = s.within(0, 60);
-        let numbers = s.pick(&[900, 2_000, 20_000, few]);
-        let wheels = pieces <= 1300 && s.once_in(2);
-        record.divided(wheels, &drawing, rule, largest, (pieces, numbers), turn as u32);
-    }
-    for turn in 0..TEXTS {
-        let mut s = Seeded::new(seed << 32 | 0xc1f1 << 16 | turn);
-        let list = shots::any(&mut s);
-        let bytes = if law::cif::bad_shots(&list) { 50 } else { law::cif::text(&list).len() };
-        let few = s.within(0, bytes);
-        let room = s.pick(&[bytes, bytes + 5, bytes - 1, few]);
-        record.cif_write(&list, room, turn as u32);
-        let mut text = texts::sound(&mut s);
-        let shots = text.iter().filter(|&&byte| byte == b'B').count();
-        if turn % 3 > 0 {
-            let way = s.below(texts::DAMAGES);
-            text = texts::damaged(&mut s, &text, way);
-        }
-        let few = s.within(0, 4 * shots);
-        let numbers = s.pick(&[4 * shots, 4 * shots + 9, few]);
-        record.cif_read(&text, numbers, turn as u32);
-    }
-    for turn in 0..INDEXES {
-        let mut s = Seeded::new(seed << 32 | 0x1de7 << 16 | turn);
-        let mut job = sound(&mut s);
-        if turn % 4 == 0 {
-            let (at, way) = (s.within(0, job.len()), s.below(DAMAGES));
-            job = damaged(&mut s, &job, at, way);
-        }
-        let count = Law.job_check(&job).numbers[2] as usize;
-        let drawing = any_drawing(&mut s);
-        let (k, few, short) = (s.within(0, count), s.within(0, count), s.within(0, job.len()));
-        let rooms = s.pick(&[(255, 4096), (255, 4096), (count + 1, job.len() + 10), (few, 4096), (255, short)]);
-        record.index(&job, &drawing, s.pick(&[k, k, k, usize::MAX]), rooms, turn as u32);
-        let (at, way) = (s.within(0, job.len()), s.below(DAMAGES));
-        record.salvage(&damaged(&mut s, &job, at, way), s.pick(&[4096, 4096, short]), turn as u32);
-    }
+    record.drawings(seed, progress);
+    record.jobs(seed);
+    record.elements(seed);
+    record.lists(seed);
+    record.edges(seed);
+    record.divided_drawings(seed);
+    record.texts(seed);
+    record.indexes(seed);
     record.words.push(12);
     let bytes: Vec<u8> = record.words.iter().flat_map(|word| word.to_le_bytes()).collect();
     std::fs::File::create(file).and_then(|mut f| f.write_all(&bytes)).unwrap_or_else(|e| panic!("{file}: {e}"));
