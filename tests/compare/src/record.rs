@@ -56,32 +56,19 @@ fn mix_wide(hash: u32, number: usize) -> u32 {
     mix(mix(hash, number as u32), (number as u64 >> 32) as u32)
 }
 
-impl Element for u8 {
-    fn of(word: u32) -> u8 {
-        (word >> 24) as u8
-    }
-    fn mixed(self, hash: u32) -> u32 {
-        mix(hash, self.into())
-    }
+macro_rules! numbers {
+    ($($number:ident)*) => {$(
+        impl Element for $number {
+            fn of(word: u32) -> $number {
+                (word >> (32 - $number::BITS)) as $number
+            }
+            fn mixed(self, hash: u32) -> u32 {
+                mix(hash, self.into())
+            }
+        }
+    )*};
 }
-
-impl Element for u16 {
-    fn of(word: u32) -> u16 {
-        (word >> 16) as u16
-    }
-    fn mixed(self, hash: u32) -> u32 {
-        mix(hash, self.into())
-    }
-}
-
-impl Element for u32 {
-    fn of(word: u32) -> u32 {
-        word
-    }
-    fn mixed(self, hash: u32) -> u32 {
-        mix(hash, self)
-    }
-}
+numbers! { u8 u16 u32 }
 
 impl Element for usize {
     fn of(word: u32) -> usize {
@@ -316,27 +303,8 @@ impl Record {
         let told = Law.index_open(job, index.inner());
         self.outcome(told, 2, &[index.hash()]);
 
-        for call in [41, 42] {
-            self.words.push(call);
-            self.size(job.len());
-            if call == 41 {
-                self.drawing_lengths(drawing);
-            } else {
-                self.size(k);
-            }
-            self.size(entries);
-            self.size(room);
-            self.words.push(mark);
-            self.bytes(job);
-            let (mut changed, mut out) = (Lent::new(entries, mark), Lent::new(room, mark));
-            let told = if call == 41 {
-                self.drawing(drawing);
-                Law.index_append(job, drawing, changed.inner(), out.inner())
-            } else {
-                Law.index_remove(job, k, changed.inner(), out.inner())
-            };
-            self.outcome(told, 3, &[changed.hash(), out.hash()]);
-        }
+        self.changed_index(job, Some(drawing), k, (entries, room), mark);
+        self.changed_index(job, None, k, (entries, room), mark);
 
         // by the index as it came in, and as opening left it
         for (mut index, count) in [(Lent::new(entries, mark), entries), (index, told.numbers[0] as usize)] {
@@ -349,6 +317,29 @@ impl Record {
             self.words.extend(index.inner().iter().map(|&entry| entry as u32));
             self.outcome(Law.index_pick(job, index.inner(), count, k), 3, &[]);
         }
+    }
+
+    /// A drawing appended to a job and its index, or, where there is none, outline k removed.
+    fn changed_index(&mut self, job: &[u8], drawing: Option<&Drawing>, k: usize, (entries, room): (usize, usize), mark: u32) {
+        self.words.push(if drawing.is_some() { 41 } else { 42 });
+        self.size(job.len());
+        match drawing {
+            Some(drawing) => self.drawing_lengths(drawing),
+            None => self.size(k),
+        }
+        self.size(entries);
+        self.size(room);
+        self.words.push(mark);
+        self.bytes(job);
+        let (mut index, mut out) = (Lent::new(entries, mark), Lent::new(room, mark));
+        let told = match drawing {
+            Some(drawing) => {
+                self.drawing(drawing);
+                Law.index_append(job, drawing, index.inner(), out.inner())
+            }
+            None => Law.index_remove(job, k, index.inner(), out.inner()),
+        };
+        self.outcome(told, 3, &[index.hash(), out.hash()]);
     }
 
     fn salvage(&mut self, job: &[u8], room: usize, mark: u32) {

@@ -17,35 +17,20 @@ pub fn marks<T: Element>(length: usize, seed: u64) -> Vec<T> {
     (0..length as u64).map(|n| T::of(n.wrapping_mul(0x9e37_79b9_7f4a_7c15) ^ seed)).collect()
 }
 
-impl Element for u8 {
-    fn canary(at: usize) -> u8 {
-        0xa5 ^ at as u8
-    }
+macro_rules! numbers {
+    ($($number:ty: $canary:literal)*) => {$(
+        impl Element for $number {
+            fn canary(at: usize) -> $number {
+                $canary ^ at as $number
+            }
 
-    fn of(bits: u64) -> u8 {
-        bits as u8
-    }
+            fn of(bits: u64) -> $number {
+                bits as $number
+            }
+        }
+    )*};
 }
-
-impl Element for u16 {
-    fn canary(at: usize) -> u16 {
-        0xa5c3 ^ at as u16
-    }
-
-    fn of(bits: u64) -> u16 {
-        bits as u16
-    }
-}
-
-impl Element for u32 {
-    fn canary(at: usize) -> u32 {
-        0xa5c3_5a3c ^ at as u32
-    }
-
-    fn of(bits: u64) -> u32 {
-        bits as u32
-    }
-}
+numbers! { u8: 0xa5 u16: 0xa5c3 u32: 0xa5c3_5a3c usize: 0xa5c3_5a3c_c3a5_3c5a }
 
 impl Element for Joined {
     fn canary(at: usize) -> Joined {
@@ -56,16 +41,6 @@ impl Element for Joined {
     fn of(bits: u64) -> Joined {
         let [x_low, y_low, x_high, y_high] = [0, 16, 32, 48].map(|from| (bits >> from) as u16);
         Joined { x_low, y_low, x_high, y_high, partner: bits as usize }
-    }
-}
-
-impl Element for usize {
-    fn canary(at: usize) -> usize {
-        0xa5c3_5a3c_c3a5_3c5a ^ at
-    }
-
-    fn of(bits: u64) -> usize {
-        bits as usize
     }
 }
 
