@@ -48,7 +48,7 @@ impl Element for Joined {
 const MARGIN: usize = 16;
 
 /// A buffer of some length between canaries.
-#[derive(Clone, PartialEq, Debug)]
+#[derive(Clone)]
 pub struct Room<T: Element> {
     whole: Vec<T>,
     len: usize,
@@ -93,7 +93,6 @@ pub fn lend_both<T: Element>(
 }
 
 /// What a fracture leaves: its answer, and the cost table and the list of shots that it was lent.
-#[derive(PartialEq, Debug)]
 pub struct Left {
     pub told: Told,
     pub table: Room<u32>,
