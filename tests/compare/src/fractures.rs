@@ -340,7 +340,7 @@ fn cheaper_entries(straight: &[u32], by_wheels: &[u32]) -> usize {
     by_wheels.iter().zip(straight).filter(|(wheel, straight)| wheel < straight).count()
 }
 
-/// A drawing of few lines, as a rule of one ring or of several by turns.
+/// A drawing that has few lines as a rule: an outline, or a figure of several rings.
 fn of_few_lines(s: &mut Seeded) -> Drawing {
     if s.once_in(2) {
         let sort = s.pick(&[0, 0, 1, 2, 6, 7, 7, 9]);
