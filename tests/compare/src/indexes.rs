@@ -25,6 +25,11 @@ pub fn worked_job() -> Vec<u8> {
     [header(25, 40, 3), written_outline(&Drawing::outline(&L)), written_outline(&framed()), written_outline(&unit())].concat()
 }
 
+/// What an index holds before a call. It is asked about too: a pick by a count that is not true reads it.
+fn index_marks(length: usize, seed: u64) -> Vec<u16> {
+    (0..length).map(|n| (n as u16).wrapping_mul(40_503) ^ seed as u16).collect()
+}
+
 /// A job, its index with all that it holds, and its count.
 struct State {
     job: Vec<u8>,
@@ -114,11 +119,11 @@ pub fn rows(plan: &Plan, progress: &Progress) {
     let Some(library) = plan.library else { return };
     let whole = worked_job();
     assert_eq!(whole.len(), 45);
-    let held = marks(5, 9);
+    let held = index_marks(5, 9);
     let (told, index) = open(library, &whole, &held, progress);
     assert_eq!((told, &index[..]), (Told::done(&[3]), &[3, 16, 36, held[3], held[4]][..]));
     for room in 0..6 {
-        let (told, _) = open(library, &whole, &marks(room, 3), progress);
+        let (told, _) = open(library, &whole, &index_marks(room, 3), progress);
         assert_eq!(told, if room < 3 { Told::refused(14) } else { Told::done(&[3]) });
     }
     for (k, part) in [(0, [3, 13]), (1, [16, 20]), (2, [36, 9])] {
@@ -139,9 +144,9 @@ pub fn rows(plan: &Plan, progress: &Progress) {
     // room of every length for both buffers
     for entries in 0..6 {
         for room in 0..60 {
-            let (told, ..) = change(library, Change::Append(&unit()), &whole, &marks(entries, 5), room, progress);
+            let (told, ..) = change(library, Change::Append(&unit()), &whole, &index_marks(entries, 5), room, progress);
             assert_eq!(told.number, if room < 54 || entries < 4 { 14 } else { 0 });
-            let (told, ..) = change(library, Change::Remove(0), &whole, &marks(entries, 5), room, progress);
+            let (told, ..) = change(library, Change::Remove(0), &whole, &index_marks(entries, 5), room, progress);
             assert_eq!(told.number, if room < 32 || entries < 2 { 14 } else { 0 });
         }
     }
@@ -168,7 +173,7 @@ pub fn rows(plan: &Plan, progress: &Progress) {
 fn passing_127(library: Library, progress: &Progress) {
     let job = [header(25, 40, 127), written_outline(&unit()).repeat(127)].concat();
     assert_eq!(job.len(), 1146);
-    let (told, index) = open(library, &job, &marks(255, 1), progress);
+    let (told, index) = open(library, &job, &index_marks(255, 1), progress);
     assert_eq!(told, Told::done(&[127]));
     assert!((0..127).all(|k| index[k] as usize == 3 + 9 * k));
     let mut state = State { job, index, count: 127 };
@@ -185,7 +190,7 @@ fn full(library: Library, progress: &Progress) {
     let job = [header(25, 40, 255), written_outline(&unit()).repeat(255)].concat();
     let short = Drawing { corners: unit().corners, rings: vec![3] };
     for (entries, room) in [(0, 0), (255, 4096), (300, 5000)] {
-        let index = marks(entries, 7);
+        let index = index_marks(entries, 7);
         assert_eq!(change(library, Change::Append(&unit()), &job, &index, room, progress).0, Told::refused(20));
         assert_eq!(change(library, Change::Append(&short), &job, &index, room, progress).0, Told::refused(2));
     }
@@ -193,14 +198,14 @@ fn full(library: Library, progress: &Progress) {
     let job = [header(25, 40, 21), written_outline(&wide).repeat(21)].concat();
     assert_eq!(job.len(), 4056);
     for (entries, room) in [(0, 0), (255, 4096), (255, 5000)] {
-        let index = marks(entries, 8);
+        let index = index_marks(entries, 8);
         assert_eq!(change(library, Change::Append(&wide), &job, &index, room, progress).0, Told::refused(12));
     }
     // up to the last byte: 4,096 bytes are taken, one more is not
     for (bytes, number) in [(40, 0), (41, 12)] {
         let figure = filling(bytes);
         assert_eq!(written_outline(&figure).len(), bytes);
-        assert_eq!(change(library, Change::Append(&figure), &job, &marks(255, 2), 4096, progress).0.number, number);
+        assert_eq!(change(library, Change::Append(&figure), &job, &index_marks(255, 2), 4096, progress).0.number, number);
     }
 }
 
@@ -244,7 +249,7 @@ fn history(library: Library, seed: u64, progress: &Progress) -> [usize; 3] {
         2 => [header(7, 9, 255), written_outline(&unit()).repeat(255)].concat(),
         _ => sound(&mut s),
     };
-    let (told, index) = open(library, &start, &marks(260, seed), progress);
+    let (told, index) = open(library, &start, &index_marks(260, seed), progress);
     assert_eq!(told.number, 0);
     let mut state = State { job: start, index, count: told.numbers[0] as usize };
     let mut counts = [0; 3];
