@@ -50,31 +50,43 @@ static void read_drawing(size_t corners_len, size_t rings_len) {
   for (size_t i = 0; i < rings_len; i++) rings[i] = (uint16_t)word();
 }
 
-/* ---- lent buffers: bytes written, the cost table, the list of shots or corners, ring lengths */
+/* ---- lent buffers: bytes written, the cost table, the list of shots or corners, ring lengths, the runs of an edge */
 
-#define ROOM(name, bits)                                                       \
-  static uint##bits##_t room_of_##name[MOST];                                  \
-  static uint##bits##_t *lend_##name(size_t length, uint32_t mark) {           \
+static uint32_t pattern(uint32_t mark, size_t at) { return mark + (uint32_t)at * 2654435761u; }
+
+static uint32_t mix(uint32_t hash, uint32_t word) { return (hash ^ word) * 16777619u; }
+
+/* a number of the machine's size, as two words */
+static uint32_t mix_wide(uint32_t hash, size_t number) {
+  return mix(mix(hash, (uint32_t)number), (uint32_t)((uint64_t)number >> 32));
+}
+
+#define FIRST_HASH 2166136261u
+
+#define ROOM(name, type, bits, mix_one)                                        \
+  static type room_of_##name[MOST];                                            \
+  static type *lend_##name(size_t length, uint32_t mark) {                     \
     for (size_t i = 0; i < length + 2 * MARGIN; i++)                           \
-      room_of_##name[i] = (uint##bits##_t)((mark + (uint32_t)i * 2654435761u) >> (32 - bits)); \
+      room_of_##name[i] = (type)(pattern(mark, i) >> (32 - bits));             \
     return room_of_##name + MARGIN;                                            \
   }                                                                            \
   static uint32_t hash_##name(size_t length) {                                 \
-    uint32_t h = 2166136261u;                                                  \
-    for (size_t i = 0; i < length + 2 * MARGIN; i++) h = (h ^ room_of_##name[i]) * 16777619u; \
+    uint32_t h = FIRST_HASH;                                                   \
+    for (size_t i = 0; i < length + 2 * MARGIN; i++) h = mix_one(h, room_of_##name[i]); \
     return h;                                                                  \
   }
-ROOM(out, 8)
-ROOM(table, 32)
-ROOM(list, 16)
-ROOM(lengths, 16)
+ROOM(out, uint8_t, 8, mix)
+ROOM(table, uint32_t, 32, mix)
+ROOM(list, uint16_t, 16, mix)
+ROOM(lengths, uint16_t, 16, mix)
+ROOM(runs, size_t, 32, mix_wide)
 
 /* a table of pairs, its entries field by field */
 static struct pw_joined room_of_pairs[MOST];
 
 static struct pw_joined *lend_pairs(size_t length, uint32_t mark) {
   for (size_t i = 0; i < length + 2 * MARGIN; i++) {
-    uint32_t x = mark + (uint32_t)i * 2654435761u;
+    uint32_t x = pattern(mark, i);
     struct pw_joined entry = {(uint16_t)x, (uint16_t)(x >> 16), (uint16_t)~x, (uint16_t)~(x >> 16), x};
     room_of_pairs[i] = entry;
   }
@@ -82,11 +94,11 @@ static struct pw_joined *lend_pairs(size_t length, uint32_t mark) {
 }
 
 static uint32_t hash_pairs(size_t length) {
-  uint32_t h = 2166136261u;
+  uint32_t h = FIRST_HASH;
   for (size_t i = 0; i < length + 2 * MARGIN; i++) {
     const struct pw_joined *e = &room_of_pairs[i];
-    uint32_t fields[6] = {e->x_low, e->y_low, e->x_high, e->y_high, (uint32_t)e->partner, (uint32_t)((uint64_t)e->partner >> 32)};
-    for (size_t f = 0; f < 6; f++) h = (h ^ fields[f]) * 16777619u;
+    h = mix(mix(mix(mix(h, e->x_low), e->y_low), e->x_high), e->y_high);
+    h = mix_wide(h, e->partner);
   }
   return h;
 }
@@ -112,50 +124,63 @@ static void expect(const char *what, uint64_t told) {
   }
 }
 
-/* By a rule that is named, by the default rule, or by pinwheels. */
-enum manner { NAMED, DEFAULT, PINWHEEL };
+/* What a fracture tells. */
+struct fractured {
+  uint32_t shots, cost, sliver, cuts;
+};
 
-static void fracture(enum manner manner) {
-  uint32_t threshold = manner == DEFAULT ? 0 : word(), weight = manner == DEFAULT ? 0 : word();
-  size_t corners_len = size(), rings_len = size(), table_len = size(), list_len = size();
-  uint32_t mark = word();
-  read_drawing(corners_len, rings_len);
-  uint32_t shots = 77, cost = 77, sliver = 77, cuts = 77;
-  uint32_t *table = lend_table(table_len, mark);
-  uint16_t *list = lend_list(list_len, mark);
-  expect("fracture", manner == NAMED      ? pw_fracture(corners, corners_len, rings, rings_len, threshold, weight,
-                                                        table, table_len, list, list_len, &shots, &cost, &sliver, &cuts)
-                     : manner == PINWHEEL ? pw_fracture_pinwheel(corners, corners_len, rings, rings_len, threshold, weight,
-                                                                 table, table_len, list, list_len, &shots, &cost, &sliver, &cuts)
-                                          : pw_fracture_default(corners, corners_len, rings, rings_len,
-                                                                table, table_len, list, list_len, &shots, &cost, &sliver, &cuts));
-  expect("shots", shots);
-  expect("cost", cost);
-  expect("sliver", sliver);
-  expect("cuts", cuts);
+static const struct fractured UNTOLD = {77, 77, 77, 77};
+
+static void expect_fractured(const struct fractured *told) {
+  expect("shots", told->shots);
+  expect("cost", told->cost);
+  expect("sliver", told->sliver);
+  expect("cuts", told->cuts);
+}
+
+/* What a fracture leaves in the table and the list. */
+static void expect_left(size_t table_len, size_t list_len) {
   expect("table", hash_table(table_len));
   expect("list", hash_list(list_len));
 }
 
-/* The same by a rule that is named or by pinwheels, with a largest side. */
-static void divided(enum manner manner) {
-  uint32_t threshold = word(), weight = word(), largest = word();
+/* By a rule that is named, by the default rule, or by pinwheels; by a rule and by pinwheels with a largest side. */
+enum manner { NAMED, DEFAULT, PINWHEEL, DIVIDED, PINWHEEL_DIVIDED };
+
+static void fracture(enum manner manner) {
+  uint32_t threshold = manner == DEFAULT ? 0 : word(), weight = manner == DEFAULT ? 0 : word();
+  uint32_t largest = manner == DIVIDED || manner == PINWHEEL_DIVIDED ? word() : 0;
   size_t corners_len = size(), rings_len = size(), table_len = size(), list_len = size();
-  uint32_t mark = word();
+  uint32_t mark = word(), number = 77;
   read_drawing(corners_len, rings_len);
-  uint32_t shots = 77, cost = 77, sliver = 77, cuts = 77;
+  struct fractured t = UNTOLD;
   uint32_t *table = lend_table(table_len, mark);
   uint16_t *list = lend_list(list_len, mark);
-  expect("divided", manner == NAMED ? pw_fracture_divided(corners, corners_len, rings, rings_len, threshold, weight, largest,
-                                                          table, table_len, list, list_len, &shots, &cost, &sliver, &cuts)
-                                    : pw_fracture_pinwheel_divided(corners, corners_len, rings, rings_len, threshold, weight, largest,
-                                                                   table, table_len, list, list_len, &shots, &cost, &sliver, &cuts));
-  expect("shots", shots);
-  expect("cost", cost);
-  expect("sliver", sliver);
-  expect("cuts", cuts);
-  expect("table", hash_table(table_len));
-  expect("list", hash_list(list_len));
+  switch (manner) {
+  case NAMED:
+    number = pw_fracture(corners, corners_len, rings, rings_len, threshold, weight,
+                         table, table_len, list, list_len, &t.shots, &t.cost, &t.sliver, &t.cuts);
+    break;
+  case DEFAULT:
+    number = pw_fracture_default(corners, corners_len, rings, rings_len,
+                                 table, table_len, list, list_len, &t.shots, &t.cost, &t.sliver, &t.cuts);
+    break;
+  case PINWHEEL:
+    number = pw_fracture_pinwheel(corners, corners_len, rings, rings_len, threshold, weight,
+                                  table, table_len, list, list_len, &t.shots, &t.cost, &t.sliver, &t.cuts);
+    break;
+  case DIVIDED:
+    number = pw_fracture_divided(corners, corners_len, rings, rings_len, threshold, weight, largest,
+                                 table, table_len, list, list_len, &t.shots, &t.cost, &t.sliver, &t.cuts);
+    break;
+  case PINWHEEL_DIVIDED:
+    number = pw_fracture_pinwheel_divided(corners, corners_len, rings, rings_len, threshold, weight, largest,
+                                          table, table_len, list, list_len, &t.shots, &t.cost, &t.sliver, &t.cuts);
+    break;
+  }
+  expect("fracture", number);
+  expect_fractured(&t);
+  expect_left(table_len, list_len);
 }
 
 static void cuts_ahead(void) {
@@ -240,20 +265,16 @@ static void expect_shift(const char *what, int32_t told) {
   expect(what, (uint64_t)(int64_t)told);
 }
 
-/* The runs of an edge; they are numbers of the machine's size. */
-static size_t runs_room[MOST];
-
 static void edge_runs(void) {
   size_t corners_len = size(), rings_len = size(), edge = size(), shots_len = size(), runs_len = size(), count = 77;
-  uint32_t mark = word(), h = 2166136261u;
+  uint32_t mark = word();
   read_drawing(corners_len, rings_len);
   uint16_t *shots = room_of_list;
   for (size_t i = 0; i < shots_len; i++) shots[i] = (uint16_t)word();
-  for (size_t i = 0; i < runs_len + 2 * MARGIN; i++) runs_room[i] = mark + (uint32_t)i * 2654435761u;
-  expect("edge", pw_edge(corners, corners_len, rings, rings_len, edge, shots, shots_len, runs_room + MARGIN, runs_len, &count));
+  expect("edge", pw_edge(corners, corners_len, rings, rings_len, edge, shots, shots_len, lend_runs(runs_len, mark), runs_len,
+                         &count));
   expect("runs", count);
-  for (size_t i = 0; i < runs_len + 2 * MARGIN; i++) h = (h ^ (uint32_t)runs_room[i]) * 16777619u;
-  expect("runs written", h);
+  expect("runs written", hash_runs(runs_len));
 }
 
 static void read_boundary(void) {
@@ -271,20 +292,17 @@ static void read_boundary(void) {
 
 static void fracture_boundary(void) {
   size_t len = size(), table_len = size(), list_len = size(), offset = 77;
-  uint32_t shots = 77, cost = 77, sliver = 77, cuts = 77, mark = word();
+  uint32_t mark = word();
+  struct fractured t = UNTOLD;
   int32_t shift_x = 77, shift_y = 77;
   read_bytes(len);
   expect("fracture boundary", pw_gdsii_fracture(bytes, len, lend_table(table_len, mark), table_len, lend_list(list_len, mark),
-                                                list_len, &shots, &cost, &sliver, &cuts, &shift_x, &shift_y, &offset));
-  expect("shots", shots);
-  expect("cost", cost);
-  expect("sliver", sliver);
-  expect("cuts", cuts);
+                                                list_len, &t.shots, &t.cost, &t.sliver, &t.cuts, &shift_x, &shift_y, &offset));
+  expect_fractured(&t);
   expect_shift("shift in x", shift_x);
   expect_shift("shift in y", shift_y);
   expect("offset", offset);
-  expect("table", hash_table(table_len));
-  expect("list", hash_list(list_len));
+  expect_left(table_len, list_len);
 }
 
 static void join(void) {
@@ -395,8 +413,8 @@ int main(void) {
     case 31: cuts_ahead(); break;
     case 23: edge_runs(); break;
     case 32: fracture(PINWHEEL); break;
-    case 50: divided(NAMED); break;
-    case 51: divided(PINWHEEL); break;
+    case 50: fracture(DIVIDED); break;
+    case 51: fracture(PINWHEEL_DIVIDED); break;
     case 45: write_text(); break;
     case 46: read_text(); break;
     case 40: index_open(); break;

@@ -2,15 +2,15 @@
 //! length around the limit, the full square, and many seeded drawings in both modes; small ones unit square
 //! by unit square.
 
-use crate::progress::Progress;
-use crate::room::Room;
+use crate::fractures::covers;
+use crate::progress::{Progress, Tally};
+use crate::room::{Left, Room};
 use crate::Plan;
 use drawings::document::B;
 use drawings::seeded::Seeded;
 use drawings::{figures, outlines};
 use law::division::{bad_largest, divided, ends};
 use law::figure::figure;
-use law::nano::Squares;
 use law::{Calls, Drawing, Law, Told};
 use std::sync::atomic::{AtomicUsize, Ordering};
 
@@ -25,33 +25,28 @@ struct Case<'a> {
 }
 
 impl Case<'_> {
-    fn by(&self, calls: &dyn Calls, table: &mut [u32], list: &mut [u16]) -> Told {
-        calls.fracture_divided(self.pinwheels, self.drawing, self.rule.0, self.rule.1, self.largest, table, list)
+    fn by(&self, calls: &dyn Calls) -> Left {
+        let (threshold, weight) = self.rule;
+        Left::lend(self.table, self.list, |table, list| {
+            calls.fracture_divided(self.pinwheels, self.drawing, threshold, weight, self.largest, table, list)
+        })
+    }
+
+    fn said(&self) -> String {
+        format!(
+            "divided: {:?}\n  rule {:?}, largest {}, pinwheels {}, table {}, list {}",
+            self.drawing, self.rule, self.largest, self.pinwheels, self.table.len(), self.list.len()
+        )
     }
 
     /// Compares the library with the law; gives the law's answer and list.
     fn compare(&self, plan: &Plan, progress: &Progress) -> (Told, Room<u16>) {
-        let (mut table, mut list) = (Room::new(self.table), Room::new(self.list));
-        let right = self.by(&Law, table.lent(), list.lent());
+        let right = self.by(&Law);
         if let Some(library) = plan.library {
-            let (mut its_table, mut its_list) = (Room::new(self.table), Room::new(self.list));
-            let told = self.by(library, its_table.lent(), its_list.lent());
-            let said = || {
-                format!(
-                    "divided: {:?}\n  rule {:?}, largest {}, pinwheels {}, table {}, list {}",
-                    self.drawing, self.rule, self.largest, self.pinwheels, self.table.len(), self.list.len()
-                )
-            };
-            assert!(told == right, "{}\n  answers {told:?} and not {right:?}", said());
-            if let Some((at, right, wrong)) = table.differs(&its_table) {
-                panic!("{}\n  table at {at}: {wrong} and not {right}", said());
-            }
-            if let Some((at, right, wrong)) = list.differs(&its_list) {
-                panic!("{}\n  list at {at}: {wrong} and not {right}", said());
-            }
+            right.hold("the library", &self.by(library), &|| self.said());
             progress.same();
         }
-        (right, list)
+        (right.told, right.list)
     }
 }
 
@@ -186,30 +181,6 @@ pub fn full_square(plan: &Plan, progress: &Progress) {
     progress.done("divided: the full square, 107,584 shots at 200 nm".into());
 }
 
-/// The divided shots against the raw corners, unit square by unit square, with cost and sliver reckoned anew.
-fn covers(drawing: &Drawing, rule: (u32, u32), largest: u32, told: Told, list: &[u16]) {
-    let squares = Squares::new(drawing);
-    let top = *drawing.corners.iter().max().unwrap() as usize + 1;
-    let shots: Vec<&[u16]> = list.chunks(4).take(told.numbers[0] as usize).collect();
-    let mut over = vec![0u32; top * top];
-    for s in &shots {
-        assert!((s[2] - s[0]) as u32 <= largest && (s[3] - s[1]) as u32 <= largest);
-        for x in s[0]..s[2] {
-            for y in s[1]..s[3] {
-                over[x as usize * top + y as usize] += 1;
-            }
-        }
-    }
-    for x in 0..top {
-        for y in 0..top {
-            assert_eq!(over[x * top + y], squares.filled(x as i32, y as i32) as u32, "cover at ({x}, {y}) of {drawing:?}");
-        }
-    }
-    let sliver: u64 = shots.iter().map(|s| squares.sliver([s[0], s[1], s[2], s[3]], rule.0) as u64).sum();
-    assert_eq!(told.numbers[2], sliver, "{drawing:?}, rule {rule:?}, largest {largest}");
-    assert_eq!(told.numbers[1], 1000 * shots.len() as u64 + rule.1 as u64 * sliver);
-}
-
 /// A largest side: at an end of its range or just beyond, around a side of the drawing, or any.
 fn any_largest(s: &mut Seeded, drawing: &Drawing, threshold: u32) -> u32 {
     let least = 200.max(2 * threshold.min(1000));
@@ -225,83 +196,85 @@ fn any_largest(s: &mut Seeded, drawing: &Drawing, threshold: u32) -> u32 {
     }
 }
 
+/// What is counted of the drawings from seeds, by every thread.
+struct Counts {
+    tally: Tally,
+    parted: AtomicUsize,
+    shots: AtomicUsize,
+    squares: AtomicUsize,
+}
+
+/// A drawing from a seed, perhaps drawn out to several times its size.
+fn any_drawing(s: &mut Seeded) -> Drawing {
+    let (outline, several) = (s.below(outlines::SORTS.len()), s.below(figures::SORTS.len()));
+    let mut drawing = match s.below(16) {
+        0 => figures::bad(s),
+        1..=8 => outlines::of_sort(s, outline),
+        _ => figures::of_sort(s, several),
+    };
+    let top = drawing.corners.iter().max().copied().unwrap_or(0).max(1);
+    let most = (u16::MAX / top).max(1);
+    let times = s.pick(&[1, 1, 2, 3, 7, most]).min(most);
+    drawing.corners.iter_mut().for_each(|place| *place *= times);
+    drawing
+}
+
+/// The drawing of a turn, in a list that the last one left: too short, one short, and long enough.
+fn one_drawing(plan: &Plan, turn: usize, list: &mut [u16], counts: &Counts, progress: &Progress) {
+    let mut s = Seeded::new(plan.seed << 32 | 0xd1f1 << 16 | turn as u64);
+    let drawing = any_drawing(&mut s);
+    let rule = outlines::rule(&mut s, &drawing);
+    let largest = any_largest(&mut s, &drawing, rule.0);
+    let pieces = figure(&drawing).map_or(100, |f| f.pieces());
+    let pinwheels = pieces <= 1300 && s.once_in(2);
+    let table = vec![turn as u32; s.pick(&[pieces, pieces, pieces, pieces + 5, pieces.saturating_sub(1)])];
+    let case = |numbers: usize| Case { pinwheels, drawing: &drawing, rule, largest, table: &table, list: &list[..numbers] };
+    let told = case(0).compare(plan, progress).0;
+    counts.tally.told(told.number);
+    assert!(told.number != 19 || bad_largest(rule.0, largest));
+    if told.number != 7 {
+        return;
+    }
+    let needed = 4 * told.numbers[0] as usize;
+    case(needed - 1).compare(plan, progress);
+    let long = case(needed + s.below(20));
+    let (told, its) = long.compare(plan, progress);
+    counts.tally.told(told.number);
+    hold_division(&long, told, &its.held()[..needed], counts);
+    if drawing.corners.iter().all(|&place| place < 900) && s.once_in(4) {
+        covers(&drawing, rule, Some(largest), told, its.held());
+        counts.squares.fetch_add(1, Ordering::Relaxed);
+    }
+    list[..its.held().len()].copy_from_slice(its.held());
+}
+
+/// Holds a divided list to what is listed before division, each shot divided.
+fn hold_division(case: &Case, told: Told, list: &[u16], counts: &Counts) {
+    assert_eq!(told.number, 0);
+    let mut whole = vec![0; 900];
+    let before = before_division(case.pinwheels, case.drawing, case.rule, &mut whole);
+    let shots = whole.chunks(4).take(before.numbers[0] as usize);
+    let parts: Vec<u16> = shots.flat_map(|s| divided(&[s[0], s[1], s[2], s[3]], case.largest)).flatten().collect();
+    assert_eq!(list, &parts[..]);
+    assert_eq!((told.numbers[2], told.numbers[3]), (before.numbers[2], before.numbers[3]));
+    counts.shots.fetch_add(list.len() / 4, Ordering::Relaxed);
+    counts.parted.fetch_add((before.numbers[0] < told.numbers[0]) as usize, Ordering::Relaxed);
+}
+
 /// Many seeded drawings, some of them drawn out to several times their size, in both modes.
 pub fn drawings(plan: &Plan, progress: &Progress) {
-    let (next, total) = (AtomicUsize::new(0), plan.jobs / 4);
-    let refused: Vec<AtomicUsize> = (0..20).map(|_| AtomicUsize::new(0)).collect();
-    let (parted, squares, shots) = (AtomicUsize::new(0), AtomicUsize::new(0), AtomicUsize::new(0));
-    std::thread::scope(|scope| {
-        for _ in 0..plan.threads {
-            scope.spawn(|| {
-                let mut list = vec![0xffffu16; 500_000];
-                loop {
-                    let turn = next.fetch_add(1, Ordering::Relaxed);
-                    if turn >= total {
-                        break;
-                    }
-                    let mut s = Seeded::new(plan.seed << 32 | 0xd1f1 << 16 | turn as u64);
-                    let (outline, several) = (s.below(outlines::SORTS.len()), s.below(figures::SORTS.len()));
-                    let mut drawing = match s.below(16) {
-                        0 => figures::bad(&mut s),
-                        1..=8 => outlines::of_sort(&mut s, outline),
-                        _ => figures::of_sort(&mut s, several),
-                    };
-                    let top = drawing.corners.iter().max().copied().unwrap_or(0).max(1);
-                    let most = (u16::MAX / top).max(1);
-                    let times = s.pick(&[1, 1, 2, 3, 7, most]).min(most);
-                    drawing.corners.iter_mut().for_each(|place| *place *= times);
-                    let rule = outlines::rule(&mut s, &drawing);
-                    let largest = any_largest(&mut s, &drawing, rule.0);
-                    let drawn = figure(&drawing).ok();
-                    let pieces = drawn.as_ref().map_or(100, |f| f.pieces());
-                    let pinwheels = pieces <= 1300 && s.once_in(2);
-                    let table = vec![turn as u32; s.pick(&[pieces, pieces, pieces, pieces + 5, pieces.saturating_sub(1)])];
-                    let ask = |numbers: usize| Case { pinwheels, drawing: &drawing, rule, largest, table: &table, list: &list[..numbers] }.compare(plan, progress);
-                    let told = ask(0).0;
-                    let needed = 4 * told.numbers[0] as usize;
-                    refused[told.number as usize].fetch_add(1, Ordering::Relaxed);
-                    if told.number == 7 {
-                        ask(needed - 1);
-                        let (told, its) = ask(needed + s.below(20));
-                        assert_eq!(told.number, 0);
-                        refused[0].fetch_add(1, Ordering::Relaxed);
-                        shots.fetch_add(needed / 4, Ordering::Relaxed);
-                        // what is listed before division, each shot divided
-                        let mut whole = vec![0; 900];
-                        let before = before_division(pinwheels, &drawing, rule, &mut whole);
-                        let parts: Vec<u16> = whole.chunks(4).take(before.numbers[0] as usize)
-                            .flat_map(|s| divided(&[s[0], s[1], s[2], s[3]], largest)).flatten().collect();
-                        assert_eq!(&its.held()[..needed], &parts[..]);
-                        assert_eq!((told.numbers[2], told.numbers[3]), (before.numbers[2], before.numbers[3]));
-                        parted.fetch_add((before.numbers[0] < told.numbers[0]) as usize, Ordering::Relaxed);
-                        if drawing.corners.iter().all(|&place| place < 900) && s.once_in(4) {
-                            covers(&drawing, rule, largest, told, its.held());
-                            squares.fetch_add(1, Ordering::Relaxed);
-                        }
-                        let held = its.held().len();
-                        list[..held].copy_from_slice(its.held());
-                    } else if told.number == 19 {
-                        assert!(bad_largest(rule.0, largest));
-                    }
-                    progress.at("divided drawings", turn, total);
-                }
-            });
-        }
-    });
-    let count = |n: usize| refused[n].load(Ordering::Relaxed);
-    if total >= 10_000 {
-        assert!([0, 1, 2, 6, 7, 19].iter().all(|&n| count(n) > 0), "an answer did not show");
-        assert!(parted.load(Ordering::Relaxed) > 1000 && squares.load(Ordering::Relaxed) > 100);
-    }
+    let total = plan.jobs / 4;
+    let none = || AtomicUsize::new(0);
+    let counts = Counts { tally: Tally::new(), parted: none(), shots: none(), squares: none() };
+    let list = || vec![0xffffu16; 500_000];
+    plan.turns_with("divided drawings", total, progress, list, |list, turn| one_drawing(plan, turn, list, &counts, progress));
+    let Counts { tally, parted, shots, squares } = counts;
+    let (parted, squares) = (parted.into_inner(), squares.into_inner());
+    tally.all_shown(&[0, 1, 2, 6, 7, 19], total >= 10_000);
+    assert!(total < 10_000 || (parted > 1000 && squares > 100), "{parted} with divided shots, {squares} held to their unit squares");
     progress.done(format!(
-        "divided: {total} drawings from seeds, {} fractured ({} with divided shots, {} shots; {} held to their unit squares), 1: {}, 19: {}, 6: {}",
-        count(0),
-        parted.into_inner(),
-        shots.into_inner(),
-        squares.into_inner(),
-        count(1),
-        count(19),
-        count(6)
+        "divided: {total} drawings from seeds, answers by number {tally}; {parted} with divided shots, {} shots; {squares} held to their unit squares",
+        shots.into_inner()
     ));
 }
 

@@ -1,9 +1,9 @@
 //! One edge and its shots compared: the worked rows, buffers of every length around the limit, and figures
 //! from seeds, of one ring and of several, each with the list of its own fracture and with other lists.
 
-use crate::progress::Progress;
-use crate::room::Room;
-use crate::Plan;
+use crate::progress::{Progress, Tally};
+use crate::room::{lend_both, marks};
+use crate::{Library, Plan};
 use drawings::seeded::Seeded;
 use drawings::{figures, outlines};
 use law::edge::{self, edges, landing, side, Run};
@@ -11,19 +11,13 @@ use law::figure::figure;
 use law::{Calls, Drawing, Law, Told};
 use std::sync::atomic::{AtomicUsize, Ordering};
 
-type Library = &'static (dyn Calls + Sync);
-
 /// Asks both for an edge with a buffer of this length, and gives the answer and the runs.
 fn ask(library: Library, drawing: &Drawing, edge: usize, shots: &[u16], length: usize, progress: &Progress) -> (Told, Vec<Run>) {
-    let marks: Vec<usize> = (0..length).map(|n| n.wrapping_mul(0x9e37_79b9_7f4a_7c15) ^ edge).collect();
-    let (mut right_runs, mut runs) = (Room::new(&marks), Room::new(&marks));
-    let right = Law.edge(drawing, edge, shots, right_runs.lent());
-    let told = library.edge(drawing, edge, shots, runs.lent());
     let said = || format!("edge {edge} of {drawing:?} with {shots:?} and {length} numbers");
-    assert!(told == right, "{}: {told:?} and not {right:?}", said());
-    assert!(right_runs.differs(&runs).is_none(), "{} left {:?}, not {:?}", said(), runs.held(), right_runs.held());
+    let (told, runs) =
+        lend_both(library, &marks(length, edge as u64), &said, |calls, runs| calls.edge(drawing, edge, shots, runs));
     progress.same();
-    (right, runs.held()[..4 * right.numbers[0] as usize].chunks(4).map(|r| [r[0], r[1], r[2], r[3]]).collect())
+    (told, runs.held()[..4 * told.numbers[0] as usize].chunks(4).map(|r| [r[0], r[1], r[2], r[3]]).collect())
 }
 
 /// Room for the list of any fracture without a largest side.
@@ -273,55 +267,41 @@ fn theorems(drawing: &Drawing, shots: &[u16]) {
 /// Every edge of figures from seeds, and one number past the last.
 pub fn figures(plan: &Plan, progress: &Progress) {
     let Some(library) = plan.library else { return };
-    let (next, total) = (AtomicUsize::new(0), plan.outlines / 4);
-    let counts: Vec<AtomicUsize> = (0..24).map(|_| AtomicUsize::new(0)).collect();
+    let total = plan.outlines / 4;
+    let tally = Tally::new();
     let (small, long, none) = (AtomicUsize::new(0), AtomicUsize::new(0), AtomicUsize::new(0));
-    std::thread::scope(|scope| {
-        for _ in 0..plan.threads {
-            scope.spawn(|| loop {
-                let turn = next.fetch_add(1, Ordering::Relaxed);
-                if turn >= total {
-                    break;
-                }
-                let mut s = Seeded::new(plan.seed << 32 | 0xed6e << 16 | turn as u64);
-                let (outline_sort, figure_sort) = (s.below(outlines::SORTS.len()), s.below(figures::SORTS.len()));
-                let drawing = match s.below(16) {
-                    0 => outlines::bad(&mut s),
-                    1 => figures::bad(&mut s),
-                    2..=6 => outlines::of_sort(&mut s, outline_sort),
-                    _ => figures::of_sort(&mut s, figure_sort),
-                };
-                let shots = shot_list(&mut s, &drawing);
-                for edge in 0..=drawing.corners.len() / 2 {
-                    let few = s.within(0, 24);
-                    let length = s.pick(&[AMPLE + 2 * shots.len(), AMPLE + 2 * shots.len(), few]);
-                    let (told, runs) = ask(library, &drawing, edge, &shots, length, progress);
-                    counts[told.number as usize].fetch_add(1, Ordering::Relaxed);
-                    long.fetch_max(runs.len(), Ordering::Relaxed);
-                    none.fetch_add(runs.iter().filter(|run| run[2] == 0).count(), Ordering::Relaxed);
-                }
-                let (mut table, mut list) = (vec![0; 14_400], vec![0; 900]);
-                if drawing.corners.iter().all(|&place| place < 400) && s.once_in(8) {
-                    let told = Law.fracture(&drawing, 25, 40, &mut table, &mut list);
-                    if told.number == 0 {
-                        theorems(&drawing, &list[..4 * told.numbers[0] as usize]);
-                        small.fetch_add(1, Ordering::Relaxed);
-                    }
-                }
-                progress.at("edges of figures", turn, total);
-            });
+    plan.turns("edges of figures", total, progress, |turn| {
+        let mut s = Seeded::new(plan.seed << 32 | 0xed6e << 16 | turn as u64);
+        let (outline_sort, figure_sort) = (s.below(outlines::SORTS.len()), s.below(figures::SORTS.len()));
+        let drawing = match s.below(16) {
+            0 => outlines::bad(&mut s),
+            1 => figures::bad(&mut s),
+            2..=6 => outlines::of_sort(&mut s, outline_sort),
+            _ => figures::of_sort(&mut s, figure_sort),
+        };
+        let shots = shot_list(&mut s, &drawing);
+        for edge in 0..=drawing.corners.len() / 2 {
+            let few = s.within(0, 24);
+            let length = s.pick(&[AMPLE + 2 * shots.len(), AMPLE + 2 * shots.len(), few]);
+            let (told, runs) = ask(library, &drawing, edge, &shots, length, progress);
+            tally.told(told.number);
+            long.fetch_max(runs.len(), Ordering::Relaxed);
+            none.fetch_add(runs.iter().filter(|run| run[2] == 0).count(), Ordering::Relaxed);
+        }
+        let (mut table, mut list) = (vec![0; 14_400], vec![0; 900]);
+        if drawing.corners.iter().all(|&place| place < 400) && s.once_in(8) {
+            let told = Law.fracture(&drawing, 25, 40, &mut table, &mut list);
+            if told.number == 0 {
+                theorems(&drawing, &list[..4 * told.numbers[0] as usize]);
+                small.fetch_add(1, Ordering::Relaxed);
+            }
         }
     });
-    let said: Vec<String> =
-        counts.iter().enumerate().map(|(n, c)| (n, c.load(Ordering::Relaxed))).filter(|c| c.1 > 0).map(|(n, c)| format!("{n}: {c}")).collect();
-    for number in [0, 2, 3, 4, 5, 14, 21, 23] {
-        assert!(total < 5_000 || counts[number].load(Ordering::Relaxed) > 0, "no edge answered {number}");
-    }
+    tally.all_shown(&[0, 2, 3, 4, 5, 14, 21, 23], total >= 5_000);
+    let (none, small) = (none.into_inner(), small.into_inner());
+    assert!(total < 5_000 || (none > 0 && small > 0), "{none} runs on no shot, {small} small figures");
     progress.done(format!(
-        "edges of {total} figures from seeds, answers by number {}; {} runs at most, {} on no shot; {} small figures nanometre by nanometre",
-        said.join(", "),
-        long.load(Ordering::Relaxed),
-        none.load(Ordering::Relaxed),
-        small.load(Ordering::Relaxed)
+        "edges of {total} figures from seeds, answers by number {tally}; {} runs at most, {none} on no shot; {small} small figures nanometre by nanometre",
+        long.into_inner()
     ));
 }

@@ -2,9 +2,9 @@
 //! in every order, every cutting of small grids, and many seeded drawings, of one ring and of several,
 //! in buffers full of what the last one left.
 
-use crate::progress::Progress;
-use crate::room::Room;
-use crate::Plan;
+use crate::progress::{Progress, Tally};
+use crate::room::Left;
+use crate::{Library, Plan};
 use drawings::document::{B, EIGHT, FRAMED, L, NUMBERS, RINGS, ROWS, UNTURNED, W2, WHEELS};
 use drawings::seeded::Seeded;
 use drawings::{figures, outlines};
@@ -15,13 +15,17 @@ use law::nano::Squares;
 use law::{Calls, Drawing, Law, Told};
 use std::collections::HashMap;
 use std::sync::atomic::{AtomicUsize, Ordering};
-use std::sync::Mutex;
 
-/// A baseline's answer, with the cuts of another: it does not count them.
-fn with_cuts(mut told: Told, right: Told) -> Told {
-    told.numbers[3] = right.numbers[3];
-    told
-}
+/// A baseline of lent: drawing, threshold, weight, table, list.
+type Baseline = fn(&Drawing, u32, u32, &mut [u32], &mut [u16]) -> Told;
+
+/// The baselines by straight cuts, and the one by pinwheels.
+const STRAIGHT: [(&str, Baseline); 3] = [
+    ("the baseline by heights", lent::baseline),
+    ("the baseline by rows", lent::baseline_rows),
+    ("the baseline by widths", lent::baseline_widths),
+];
+const PINWHEEL: [(&str, Baseline); 1] = [("the baseline by pinwheels", lent::baseline_wheels)];
 
 /// One fracture to compare: the drawing, the rule (none: the default), what is lent.
 pub struct Case<'a> {
@@ -32,74 +36,56 @@ pub struct Case<'a> {
 }
 
 impl Case<'_> {
-    fn by(&self, calls: &dyn Calls, table: &mut [u32], list: &mut [u16]) -> Told {
-        match self.rule {
+    fn by(&self, calls: &dyn Calls) -> Left {
+        Left::lend(self.table, self.list, |table, list| match self.rule {
             Some((threshold, weight)) => calls.fracture(self.drawing, threshold, weight, table, list),
             None => calls.fracture_default(self.drawing, table, list),
+        })
+    }
+
+    fn by_pinwheels(&self, calls: &dyn Calls) -> Left {
+        let (threshold, weight) = self.rule.unwrap_or(law::call::DEFAULT);
+        Left::lend(self.table, self.list, |table, list| calls.fracture_pinwheel(self.drawing, threshold, weight, table, list))
+    }
+
+    fn said(&self, from: &dyn Fn() -> String) -> String {
+        format!("{}\n  {:?}\n  rule {:?}, table {}, list {}", from(), self.drawing, self.rule, self.table.len(), self.list.len())
+    }
+
+    /// Holds baselines to what is right. They count no cuts: those of the right answer are taken.
+    fn hold_baselines(&self, baselines: &[(&str, Baseline)], right: &Left, progress: &Progress, from: &dyn Fn() -> String) {
+        let (threshold, weight) = self.rule.unwrap_or(law::call::DEFAULT);
+        for (name, baseline) in baselines {
+            let mut its = Left::lend(self.table, self.list, |table, list| baseline(self.drawing, threshold, weight, table, list));
+            its.told.numbers[3] = right.told.numbers[3];
+            right.hold(name, &its, &|| self.said(from));
+            progress.same();
         }
     }
 
-    /// Compares the library and the three baselines with the law; gives the law's answer, table and list.
-    pub fn compare(&self, plan: &Plan, progress: &Progress, from: &dyn Fn() -> String) -> (Told, Room<u32>, Room<u16>) {
-        let (mut table, mut list) = (Room::new(self.table), Room::new(self.list));
-        let right = self.by(&Law, table.lent(), list.lent());
-        let check = |who: &str, told: Told, its_table: Room<u32>, its_list: Room<u16>| {
-            let said = || format!("{who}: {}\n  {:?}\n  rule {:?}, table {}, list {}", from(), self.drawing, self.rule, self.table.len(), self.list.len());
-            assert!(told == right, "{}\n  answers {told:?} and not {right:?}", said());
-            if let Some((at, right, wrong)) = table.differs(&its_table) {
-                panic!("{}\n  table at {at}: {wrong} and not {right}", said());
-            }
-            if let Some((at, right, wrong)) = list.differs(&its_list) {
-                panic!("{}\n  list at {at}: {wrong} and not {right}", said());
-            }
-            progress.same();
-        };
+    /// Compares the library and the baselines by straight cuts with the law; gives what the law left.
+    pub fn compare(&self, plan: &Plan, progress: &Progress, from: &dyn Fn() -> String) -> Left {
+        let right = self.by(&Law);
         if let Some(library) = plan.library {
-            let (mut its_table, mut its_list) = (Room::new(self.table), Room::new(self.list));
-            let told = self.by(library, its_table.lent(), its_list.lent());
-            check("the library", told, its_table, its_list);
+            right.hold("the library", &self.by(library), &|| self.said(from));
+            progress.same();
             let (ahead, told) = (Law.cuts(self.drawing), library.cuts(self.drawing));
             assert!(told == ahead, "{}: {:?}\n  tells {told:?} ahead and not {ahead:?}", from(), self.drawing);
-            assert!(right.number != 0 || ahead.numbers[0] == right.numbers[3]);
+            assert!(right.told.number != 0 || ahead.numbers[0] == right.told.numbers[3]);
         }
-        let (threshold, weight) = self.rule.unwrap_or(law::call::DEFAULT);
-        let (mut its_table, mut its_list) = (Room::new(self.table), Room::new(self.list));
-        let told = lent::baseline(self.drawing, threshold, weight, its_table.lent(), its_list.lent());
-        check("the baseline by heights", with_cuts(told, right), its_table, its_list);
-        let (mut its_table, mut its_list) = (Room::new(self.table), Room::new(self.list));
-        let told = lent::baseline_rows(self.drawing, threshold, weight, its_table.lent(), its_list.lent());
-        check("the baseline by rows", with_cuts(told, right), its_table, its_list);
-        let (mut its_table, mut its_list) = (Room::new(self.table), Room::new(self.list));
-        let told = lent::baseline_widths(self.drawing, threshold, weight, its_table.lent(), its_list.lent());
-        check("the baseline by widths", with_cuts(told, right), its_table, its_list);
-        (right, table, list)
+        self.hold_baselines(&STRAIGHT, &right, progress, from);
+        right
     }
 
-    /// Compares the library and the baseline by pinwheels with the law in the pinwheel mode; gives the law's answer, table and list.
-    pub fn compare_pinwheel(&self, plan: &Plan, progress: &Progress, from: &dyn Fn() -> String) -> (Told, Room<u32>, Room<u16>) {
-        let (threshold, weight) = self.rule.unwrap_or(law::call::DEFAULT);
-        let (mut table, mut list) = (Room::new(self.table), Room::new(self.list));
-        let right = Law.fracture_pinwheel(self.drawing, threshold, weight, table.lent(), list.lent());
-        let check = |who: &str, told: Told, its_table: Room<u32>, its_list: Room<u16>| {
-            let said = || format!("{who} by pinwheels: {}\n  {:?}\n  rule {:?}, table {}, list {}", from(), self.drawing, self.rule, self.table.len(), self.list.len());
-            assert!(told == right, "{}\n  answers {told:?} and not {right:?}", said());
-            if let Some((at, right, wrong)) = table.differs(&its_table) {
-                panic!("{}\n  table at {at}: {wrong} and not {right}", said());
-            }
-            if let Some((at, right, wrong)) = list.differs(&its_list) {
-                panic!("{}\n  list at {at}: {wrong} and not {right}", said());
-            }
-            progress.same();
-        };
+    /// The same in the pinwheel mode, with its baseline.
+    pub fn compare_pinwheel(&self, plan: &Plan, progress: &Progress, from: &dyn Fn() -> String) -> Left {
+        let right = self.by_pinwheels(&Law);
         if let Some(library) = plan.library {
-            let (mut its_table, mut its_list) = (Room::new(self.table), Room::new(self.list));
-            let told = library.fracture_pinwheel(self.drawing, threshold, weight, its_table.lent(), its_list.lent());
-            check("the library", told, its_table, its_list);
+            right.hold("the library by pinwheels", &self.by_pinwheels(library), &|| self.said(from));
+            progress.same();
         }
-        let (mut its_table, mut its_list) = (Room::new(self.table), Room::new(self.list));
-        let told = lent::baseline_wheels(self.drawing, threshold, weight, its_table.lent(), its_list.lent());
-        check("the baseline", with_cuts(told, right), its_table, its_list);
-        (right, table, list)
+        self.hold_baselines(&PINWHEEL, &right, progress, from);
+        right
     }
 }
 
@@ -110,7 +96,7 @@ pub fn wheel_rows(plan: &Plan, progress: &Progress) {
         let (table, list) = (vec![7; row.room.0], vec![9; row.room.1]);
         let case = Case { drawing: &drawing, rule: Some(row.rule), table: &table, list: &list };
         let from = || format!("the document's row: {}", row.name);
-        let (told, _, list) =
+        let Left { told, list, .. } =
             if wheels { case.compare_pinwheel(plan, progress, &from) } else { case.compare(plan, progress, &from) };
         let [shots, cost, sliver, ..] = told.numbers;
         assert_eq!((told.number, [shots, cost, sliver]), row.outcome, "{}", from());
@@ -161,17 +147,17 @@ pub fn rows(plan: &Plan, progress: &Progress) {
     for (drawing, cuts) in counted() {
         assert_eq!(Law.cuts(&drawing), Told::done(&[cuts]), "{drawing:?}");
         let case = Case { drawing: &drawing, rule: Some((25, 40)), table: &[7; 14_400], list: &[9; 900] };
-        let told = case.compare(plan, progress, &|| format!("{cuts} cuts")).0;
+        let told = case.compare(plan, progress, &|| format!("{cuts} cuts")).told;
         assert_eq!((told.number, told.numbers[3]), (0, cuts), "{drawing:?}");
         // refused 7, with no cuts
         let short = Case { list: &[9; 3], ..case };
-        assert_eq!(short.compare(plan, progress, &|| format!("{cuts} cuts, a short list")).0.numbers[3], 0);
+        assert_eq!(short.compare(plan, progress, &|| format!("{cuts} cuts, a short list")).told.numbers[3], 0);
     }
     for row in ROWS.iter().chain(&RINGS) {
         let drawing = row.drawing();
         let (table, list) = (vec![7; row.room.0], vec![9; row.room.1]);
         let case = Case { drawing: &drawing, rule: Some(row.rule), table: &table, list: &list };
-        let (told, _, list) = case.compare(plan, progress, &|| format!("the documents' row: {}", row.name));
+        let Left { told, list, .. } = case.compare(plan, progress, &|| format!("the documents' row: {}", row.name));
         let [shots, cost, sliver, ..] = told.numbers;
         assert_eq!((told.number, [shots, cost, sliver]), row.outcome, "the documents' row: {}", row.name);
         assert_eq!(&list.held()[..row.list.len()], row.list, "the documents' row: {}", row.name);
@@ -180,9 +166,9 @@ pub fn rows(plan: &Plan, progress: &Progress) {
     }
     for (drawing, told, shots) in by_default() {
         let case = Case { drawing: &drawing, rule: None, table: &[7; 14_400], list: &[9; 900] };
-        let (said, _, list) = case.compare(plan, progress, &|| format!("no rule named: {drawing:?}"));
-        assert_eq!((said.number, &said.numbers[..3]), (0, &told[..]), "no rule named: {drawing:?}");
-        assert_eq!(&list.held()[..shots.len()], shots, "no rule named: {drawing:?}");
+        let left = case.compare(plan, progress, &|| format!("no rule named: {drawing:?}"));
+        assert_eq!((left.told.number, &left.told.numbers[..3]), (0, &told[..]), "no rule named: {drawing:?}");
+        assert_eq!(&left.list.held()[..shots.len()], shots, "no rule named: {drawing:?}");
     }
     for (bytes, number) in NUMBERS {
         let told = Law.number(bytes, 0);
@@ -226,11 +212,11 @@ const SORTS: usize = outlines::SORTS.len() + figures::SORTS.len();
 /// number that wraps, takes one of these.
 pub fn every_ring_length(plan: &Plan, progress: &Progress) {
     let (table, list) = (vec![7; 14_400], vec![9; 900]);
-    let mut refused = [0; 16];
-    let mut ask = |corners: &[u16], rings: &[u16]| {
+    let tally = Tally::new();
+    let ask = |corners: &[u16], rings: &[u16]| {
         let drawing = Drawing { corners: corners.to_vec(), rings: rings.to_vec() };
         let case = Case { drawing: &drawing, rule: Some((25, 40)), table: &table[..700], list: &list[..64] };
-        refused[case.compare(plan, progress, &|| "ring lengths".into()).0.number as usize] += 1;
+        tally.told(case.compare(plan, progress, &|| "ring lengths".into()).told.number);
     };
     for length in 0..=u16::MAX {
         // most values in one place only; those around a limit in each
@@ -255,9 +241,8 @@ pub fn every_ring_length(plan: &Plan, progress: &Progress) {
         ask(&EIGHT[..numbers], &vec![4; numbers / 8]);
         ask(&EIGHT[..numbers], &[(numbers / 2) as u16]);
     }
-    assert!(refused[0] > 10 && refused[2] > 60_000 && refused[3] > 10, "{refused:?}");
-    let asked: usize = refused.iter().sum();
-    progress.done(format!("ring lengths of every value: {asked} fractures, {} refused by 2", refused[2]));
+    assert!(tally.of(0) > 10 && tally.of(2) > 60_000 && tally.of(3) > 10, "answers by number {tally}");
+    progress.done(format!("ring lengths of every value: {} fractures, answers by number {tally}", tally.sum()));
 }
 
 /// Every order of some rings; of more than four only those that begin elsewhere, forwards and backwards.
@@ -292,16 +277,15 @@ pub fn every_order(plan: &Plan, progress: &Progress) {
         let rings: Vec<Vec<u16>> = drawing.apart().unwrap().iter().map(|ring| ring.to_vec()).collect();
         let from = || format!("every order, seed {seed}");
         let first = Case { drawing: &drawing, rule: Some(rule), table: &table, list: &list };
-        let (right, right_table, right_list) = first.compare(plan, progress, &from);
+        let right = first.compare(plan, progress, &from);
         for order in orders(&rings) {
             let drawing = Drawing::of(&order);
             let case = Case { drawing: &drawing, rule: Some(rule), table: &table, list: &list };
-            let (told, its_table, its_list) = case.compare(plan, progress, &from);
-            assert_eq!(told, right, "{} {drawing:?}", from());
-            assert!(right_table.differs(&its_table).is_none() && right_list.differs(&its_list).is_none(), "{}", from());
+            right.hold("another order", &case.compare(plan, progress, &from), &|| case.said(&from));
             count += 1;
         }
     }
+    assert!(count > 0);
     progress.done(format!("rings in every order: {count} fractures"));
 }
 
@@ -320,7 +304,7 @@ pub fn every_length(plan: &Plan, progress: &Progress) {
         let places: Vec<u16> = (0..905).map(|_| s.any() as u16).collect();
         let from = || format!("every length, seed {seed}");
         let ample = Case { drawing: &drawing, rule: Some(rule), table: &marks, list: &places };
-        let shots = ample.compare(plan, progress, &from).0.numbers[0] as usize;
+        let shots = ample.compare(plan, progress, &from).told.numbers[0] as usize;
         for length in 0..=pieces + 3 {
             let case = Case { drawing: &drawing, rule: Some(rule), table: &marks[..length], list: &places };
             case.compare(plan, progress, &from);
@@ -334,23 +318,58 @@ pub fn every_length(plan: &Plan, progress: &Progress) {
             count += 2;
         }
     }
+    assert!(count > 0, "no drawing of few pieces");
     progress.done(format!("tables and lists of every length: {count} fractures"));
 }
 
-/// Every cutting of small grids: none is cheaper than what the table says of its piece, and one
-/// costs as much.
+/// Holds a table to every cutting of its pieces: none is cheaper than what the table says of its piece, and one costs
+/// as much. Gives how many cuttings there are.
+fn hold_cuttings(fracture: &Fracture, table: &[u32], said: &dyn Fn() -> String) -> usize {
+    let (mut known, mut cuttings) = (HashMap::new(), 0);
+    for (entry, piece) in fracture.pieces().into_iter().enumerate() {
+        let all = prices(fracture, piece, &mut known);
+        cuttings += all.len();
+        assert_eq!(*all.iter().min().unwrap(), table[entry] as u64, "{}, {piece:?}", said());
+    }
+    cuttings
+}
+
+/// The pieces that pinwheels make cheaper; none is dearer by them.
+fn cheaper_entries(straight: &[u32], by_wheels: &[u32]) -> usize {
+    assert!(by_wheels.iter().zip(straight).all(|(wheel, straight)| wheel <= straight));
+    by_wheels.iter().zip(straight).filter(|(wheel, straight)| wheel < straight).count()
+}
+
+/// A drawing that has few lines as a rule: an outline, or a figure of several rings.
+fn of_few_lines(s: &mut Seeded) -> Drawing {
+    if s.once_in(2) {
+        let sort = s.pick(&[0, 0, 1, 2, 6, 7, 7, 9]);
+        outlines::of_sort(s, sort)
+    } else {
+        let sort = s.pick(&[0, 0, 1, 2, 2, 3, 3, 4, 5, 6, 9]);
+        figures::of_sort(s, sort)
+    }
+}
+
+/// The document's W2, whose frame a pinwheel makes cheaper: the law's tables against every cutting, as grids from
+/// seeds hardly ever show such a piece. The rows hold the library to the law on it.
+fn w2_cheaper() -> usize {
+    let drawing = Drawing::outline(&W2);
+    let figure = figure(&drawing).expect("W2 is sound");
+    let case = Case { drawing: &drawing, rule: Some((25, 40)), table: &vec![0; figure.pieces()], list: &[0; 900] };
+    let (straight, by_wheels) = (case.by(&Law), case.by_pinwheels(&Law));
+    hold_cuttings(&Fracture::new(&figure, 25, 40), straight.table.held(), &|| "W2".into());
+    hold_cuttings(&Fracture::with_pinwheels(&figure, 25, 40), by_wheels.table.held(), &|| "W2 by pinwheels".into());
+    cheaper_entries(straight.table.held(), by_wheels.table.held())
+}
+
+/// Every cutting of small grids.
 pub fn every_cutting(plan: &Plan, progress: &Progress) {
-    let (mut grids, mut ringed, mut cuttings, mut turned, mut cheaper) = (0, 0, 0, 0, 0);
+    let (mut grids, mut ringed, mut cuttings, mut turned) = (0, 0, 0, 0);
+    let mut cheaper = w2_cheaper();
     for seed in 0..1500u64 {
         let mut s = Seeded::new(plan.seed << 32 | 0xc077 << 16 | seed);
-        // outlines and figures of few lines
-        let drawing = if s.once_in(2) {
-            let sort = s.pick(&[0, 0, 1, 2, 6, 7, 7, 9]);
-            outlines::of_sort(&mut s, sort)
-        } else {
-            let sort = s.pick(&[0, 0, 1, 2, 2, 3, 3, 4, 5, 6, 9]);
-            figures::of_sort(&mut s, sort)
-        };
+        let drawing = of_few_lines(&mut s);
         let Ok(figure) = figure(&drawing) else { continue };
         let (columns, rows) = (figure.xs.len() - 1, figure.ys.len() - 1);
         // 4 by 4 cells have over two million cuttings: a few of those
@@ -361,57 +380,60 @@ pub fn every_cutting(plan: &Plan, progress: &Progress) {
         let (threshold, weight) = (threshold.min(1000), weight.min(1000));
         let table = vec![0; figure.pieces()];
         let case = Case { drawing: &drawing, rule: Some((threshold, weight)), table: &table, list: &[0; 900] };
-        let (_, table, _) = case.compare(plan, progress, &|| format!("every cutting, seed {seed}"));
-        let fracture = Fracture::new(&figure, threshold, weight);
-        let mut known = HashMap::new();
-        for (entry, piece) in fracture.pieces().into_iter().enumerate() {
-            let all = prices(&fracture, piece, &mut known);
-            cuttings += all.len();
-            let least = *all.iter().min().unwrap();
-            assert_eq!(least, table.held()[entry] as u64, "every cutting, seed {seed}, {drawing:?}, {piece:?}");
-        }
+        let from = || format!("every cutting, seed {seed}, {drawing:?}");
+        let straight = case.compare(plan, progress, &from).table;
+        cuttings += hold_cuttings(&Fracture::new(&figure, threshold, weight), straight.held(), &from);
         // the same with pinwheels among them: none below 4 lines each way
         if columns.min(rows) > 2 && columns * rows <= 12 {
-            let (_, by_wheels, _) = case.compare_pinwheel(plan, progress, &|| format!("every cutting, seed {seed}"));
-            let fracture = Fracture::with_pinwheels(&figure, threshold, weight);
-            let mut known = HashMap::new();
-            for (entry, piece) in fracture.pieces().into_iter().enumerate() {
-                let all = prices(&fracture, piece, &mut known);
-                turned += all.len();
-                let least = *all.iter().min().unwrap();
-                assert_eq!(least, by_wheels.held()[entry] as u64, "every cutting by pinwheels, seed {seed}, {drawing:?}, {piece:?}");
-                assert!(by_wheels.held()[entry] <= table.held()[entry]);
-                cheaper += (by_wheels.held()[entry] < table.held()[entry]) as usize;
-            }
+            let by_wheels = case.compare_pinwheel(plan, progress, &from).table;
+            turned += hold_cuttings(&Fracture::with_pinwheels(&figure, threshold, weight), by_wheels.held(), &from);
+            cheaper += cheaper_entries(straight.held(), by_wheels.held());
         }
         grids += 1;
         ringed += (drawing.rings.len() > 1) as usize;
         progress.at("every cutting", seed as usize, 1500);
     }
     assert!(ringed > 100, "only {ringed} small grids of several rings");
+    assert!(turned > 0 && cheaper > 0, "{turned} cuttings with pinwheels among them, {cheaper} pieces cheaper so");
     progress.done(format!(
-        "every cutting of {grids} small grids ({ringed} of several rings): {cuttings} cuttings, none cheaper; {turned} with pinwheels among them, {cheaper} pieces cheaper so"
+        "every cutting of W2 and of {grids} small grids ({ringed} of several rings): {cuttings} cuttings, none cheaper; {turned} with pinwheels among them, {cheaper} pieces cheaper so"
     ));
 }
 
 /// The shots against the raw corners, unit square by unit square: each inside square lies in exactly
-/// one shot, each other in none; cost and sliver are reckoned anew from the list.
-fn covers(drawing: &Drawing, rule: (u32, u32), told: Told, list: &[u16]) {
+/// one shot, each other in none; no side is above the largest, if there is one; cost and sliver are reckoned
+/// anew from the list.
+pub fn covers(drawing: &Drawing, rule: (u32, u32), largest: Option<u32>, told: Told, list: &[u16]) {
     let squares = Squares::new(drawing);
-    let top = *drawing.corners.iter().max().unwrap() as i32;
+    let top = *drawing.corners.iter().max().unwrap() as usize + 1;
     let shots: Vec<&[u16]> = list.chunks(4).take(told.numbers[0] as usize).collect();
-    for x in 0..=top {
-        for y in 0..=top {
-            let over = shots
-                .iter()
-                .filter(|s| s[0] as i32 <= x && x < s[2] as i32 && s[1] as i32 <= y && y < s[3] as i32)
-                .count();
-            assert_eq!(over, squares.filled(x, y) as usize, "cover at ({x}, {y}) of {drawing:?}");
+    let mut over = vec![0u32; top * top];
+    for s in &shots {
+        assert!((s[2] - s[0]).max(s[3] - s[1]) as u32 <= largest.unwrap_or(65_535), "{s:?} of {drawing:?}, largest {largest:?}");
+        for x in s[0]..s[2] {
+            for y in s[1]..s[3] {
+                over[x as usize * top + y as usize] += 1;
+            }
+        }
+    }
+    for x in 0..top {
+        for y in 0..top {
+            assert_eq!(over[x * top + y], squares.filled(x as i32, y as i32) as u32, "cover at ({x}, {y}) of {drawing:?}");
         }
     }
     let sliver: u64 = shots.iter().map(|s| squares.sliver([s[0], s[1], s[2], s[3]], rule.0) as u64).sum();
-    assert_eq!(told.numbers[2], sliver);
+    assert_eq!(told.numbers[2], sliver, "{drawing:?}, rule {rule:?}, largest {largest:?}");
     assert_eq!(told.numbers[1], 1000 * shots.len() as u64 + rule.1 as u64 * sliver);
+}
+
+/// The shots of a drawing from a seed, as the library fractures it; none if it refuses.
+pub fn fractured(s: &mut Seeded, library: Library) -> Vec<u16> {
+    let (outline, figure) = (s.below(outlines::SORTS.len()), s.below(figures::SORTS.len()));
+    let drawing = if s.once_in(2) { outlines::of_sort(s, outline) } else { figures::of_sort(s, figure) };
+    let mut list = vec![0; 900];
+    let told = library.fracture(&drawing, 25, 40, &mut [0; 14_400], &mut list);
+    list.truncate(if told.number == 0 { 4 * told.numbers[0] as usize } else { 0 });
+    list
 }
 
 /// A length for a lent buffer: ample, just enough, one short, or any.
@@ -425,88 +447,86 @@ fn length(s: &mut Seeded, enough: usize, most: usize) -> usize {
     }
 }
 
+/// What is counted of the drawings from seeds, by every thread.
+struct Counts {
+    tally: Tally,
+    ringed: AtomicUsize,
+    shots: AtomicUsize,
+    squares: AtomicUsize,
+    turned: AtomicUsize,
+    cheaper: AtomicUsize,
+}
+
+impl Counts {
+    fn new() -> Counts {
+        let none = || AtomicUsize::new(0);
+        Counts { tally: Tally::new(), ringed: none(), shots: none(), squares: none(), turned: none(), cheaper: none() }
+    }
+}
+
+/// A drawing from a seed, sound or bad, and its sort.
+fn any_drawing(s: &mut Seeded, seed: usize) -> (Drawing, usize) {
+    let sort = seed % (SORTS + 7);
+    let drawing = match sort.checked_sub(SORTS) {
+        None => of_sort(s, sort),
+        Some(0..=2) => outlines::bad(s),
+        Some(_) => figures::bad(s),
+    };
+    (drawing, sort)
+}
+
+/// The drawing of a seed in the buffers that the last one left.
+fn one_drawing(plan: &Plan, seed: usize, (table, list): &mut (Vec<u32>, Vec<u16>), counts: &Counts, progress: &Progress) {
+    let add = |count: &AtomicUsize, more: usize| count.fetch_add(more, Ordering::Relaxed);
+    let mut s = Seeded::new(plan.seed << 32 | 0x0071 << 24 | seed as u64);
+    let (drawing, sort) = any_drawing(&mut s, seed);
+    let from = || format!("drawing, seed {seed}, sort {sort}");
+    let rule = outlines::rule(&mut s, &drawing);
+    let drawn = figure(&drawing).ok();
+    assert!(drawn.is_some() || sort >= SORTS, "{}: not sound", from());
+    let pieces = drawn.as_ref().map_or(100, |f| f.pieces());
+    let cells = drawn.as_ref().map_or(3, |f| (f.xs.len() - 1) * (f.ys.len() - 1));
+    let (entries, numbers) = (length(&mut s, pieces, 14_400), length(&mut s, cells, 900));
+    let rule = if s.once_in(8) { None } else { Some(rule) };
+    let case = Case { drawing: &drawing, rule, table: &table[..entries], list: &list[..numbers] };
+    let left = case.compare(plan, progress, &from);
+    let told = left.told;
+    counts.tally.told(told.number);
+    add(&counts.ringed, (told.number == 0 && drawing.rings.len() > 1) as usize);
+    add(&counts.shots, told.numbers[0] as usize);
+    if told.number == 0 && drawing.corners.iter().all(|&place| place < 200) {
+        covers(&drawing, rule.unwrap_or(law::call::DEFAULT), None, told, left.list.held());
+        add(&counts.squares, 1);
+    }
+    // the law tries every pinwheel of every piece: of few lines, and now and then of many
+    if pieces <= 1300 || seed % 257 == 0 {
+        let its = case.compare_pinwheel(plan, progress, &from).told;
+        add(&counts.turned, (its.number == 0) as usize);
+        if told.number == 0 && its.number == 0 {
+            assert!(its.numbers[1] <= told.numbers[1], "{}", from());
+            add(&counts.cheaper, (its.numbers[1] < told.numbers[1]) as usize);
+        }
+    }
+    // what this drawing left is what the next one finds
+    table[..entries].copy_from_slice(left.table.held());
+    list[..numbers].copy_from_slice(left.list.held());
+}
+
 /// Many seeded outlines and figures, sound and bad, each in the buffers that the last one left.
 pub fn outlines(plan: &Plan, progress: &Progress) {
-    let next = AtomicUsize::new(0);
-    let refused = Mutex::new([0usize; 16]);
-    let (squares, shots, ringed) = (AtomicUsize::new(0), AtomicUsize::new(0), AtomicUsize::new(0));
-    let (turned, cheaper) = (AtomicUsize::new(0), AtomicUsize::new(0));
-    std::thread::scope(|scope| {
-        for _ in 0..plan.threads {
-            scope.spawn(|| {
-                let mut tally = [0usize; 16];
-                let (mut table, mut list) = (vec![0xffff_ffffu32; 14_500], vec![0xffffu16; 1000]);
-                loop {
-                    let from = next.fetch_add(64, Ordering::Relaxed);
-                    if from >= plan.outlines {
-                        break;
-                    }
-                    for seed in from..(from + 64).min(plan.outlines) {
-                        let mut s = Seeded::new(plan.seed << 32 | 0x0071 << 24 | seed as u64);
-                        let sort = seed % (SORTS + 7);
-                        let drawing = match sort.checked_sub(SORTS) {
-                            None => of_sort(&mut s, sort),
-                            Some(0..=2) => outlines::bad(&mut s),
-                            Some(_) => figures::bad(&mut s),
-                        };
-                        let rule = outlines::rule(&mut s, &drawing);
-                        let drawn = figure(&drawing).ok();
-                        assert!(drawn.is_some() || sort >= SORTS, "drawing, seed {seed}, sort {sort}: not sound");
-                        let pieces = drawn.as_ref().map_or(100, |f| f.pieces());
-                        let cells = drawn.as_ref().map_or(3, |f| (f.xs.len() - 1) * (f.ys.len() - 1));
-                        let (entries, numbers) = (length(&mut s, pieces, 14_400), length(&mut s, cells, 900));
-                        let default = s.once_in(8);
-                        let case = Case {
-                            drawing: &drawing,
-                            rule: if default { None } else { Some(rule) },
-                            table: &table[..entries],
-                            list: &list[..numbers],
-                        };
-                        let (told, its_table, its_list) =
-                            case.compare(plan, progress, &|| format!("drawing, seed {seed}, sort {sort}"));
-                        tally[told.number as usize] += 1;
-                        ringed.fetch_add((told.number == 0 && drawing.rings.len() > 1) as usize, Ordering::Relaxed);
-                        if told.number == 0 && drawing.corners.iter().all(|&place| place < 200) {
-                            let rule = if default { law::call::DEFAULT } else { rule };
-                            covers(&drawing, rule, told, its_list.held());
-                            squares.fetch_add(1, Ordering::Relaxed);
-                        }
-                        shots.fetch_add(told.numbers[0] as usize, Ordering::Relaxed);
-                        // the law tries every pinwheel of every piece: of few lines, and now and then of many
-                        if pieces <= 1300 || seed % 257 == 0 {
-                            let (its, ..) = case.compare_pinwheel(plan, progress, &|| format!("drawing, seed {seed}, sort {sort}"));
-                            turned.fetch_add((its.number == 0) as usize, Ordering::Relaxed);
-                            if told.number == 0 && its.number == 0 {
-                                assert!(its.numbers[1] <= told.numbers[1], "drawing, seed {seed}, sort {sort}");
-                                cheaper.fetch_add((its.numbers[1] < told.numbers[1]) as usize, Ordering::Relaxed);
-                            }
-                        }
-                        // what this drawing left is what the next one finds
-                        table[..entries].copy_from_slice(its_table.held());
-                        list[..numbers].copy_from_slice(its_list.held());
-                    }
-                    progress.at("drawings", from, plan.outlines);
-                }
-                let mut all = refused.lock().unwrap();
-                all.iter_mut().zip(tally).for_each(|(sum, mine)| *sum += mine);
-            });
-        }
-    });
-    let refused = refused.into_inner().unwrap();
-    if plan.outlines >= 10_000 {
-        assert!(refused[..8].iter().all(|&count| count > 0), "a refusal of 1 to 7 did not show: {refused:?}");
-    }
-    let numbers: Vec<String> = (1..8).map(|n| format!("{n}: {}", refused[n])).collect();
+    let total = plan.outlines;
+    let counts = Counts::new();
+    let buffers = || (vec![0xffff_ffffu32; 14_500], vec![0xffffu16; 1000]);
+    plan.turns_with("drawings", total, progress, buffers, |lent, seed| one_drawing(plan, seed, lent, &counts, progress));
+    let Counts { tally, ringed, shots, squares, turned, cheaper } = counts;
+    let (squares, turned, cheaper) = (squares.into_inner(), turned.into_inner(), cheaper.into_inner());
+    tally.all_shown(&[0, 1, 2, 3, 4, 5, 6, 7], total >= 10_000);
+    assert!(total < 1_000 || (squares > 0 && turned > 0), "{squares} held to their unit squares, {turned} by pinwheels");
+    assert!(total < 10_000 || cheaper > 0, "no drawing is cheaper by pinwheels");
     progress.done(format!(
-        "drawings, seeds 0 to {} under {}: {} fractured ({} of several rings; {} shots; {} held to their unit squares; {} by pinwheels too, {} cheaper so), refused {}",
-        plan.outlines - 1,
+        "drawings, {total} seeds under {}: answers by number {tally}; {} of several rings; {} shots; {squares} held to their unit squares; {turned} by pinwheels too, {cheaper} cheaper so",
         plan.seed,
-        refused[0],
         ringed.into_inner(),
-        shots.into_inner(),
-        squares.into_inner(),
-        turned.into_inner(),
-        cheaper.into_inner(),
-        numbers.join(", ")
+        shots.into_inner()
     ));
 }

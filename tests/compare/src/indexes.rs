@@ -2,18 +2,15 @@
 //! true, and histories of a thousand calls each, refused ones among them, from jobs of no outline up to 255 and back.
 
 use crate::progress::Progress;
-use crate::room::Room;
-use crate::Plan;
+use crate::room::{lend_both, marks, Room};
+use crate::{Library, Plan};
 use drawings::document::{FRAMED, L};
 use drawings::figures;
 use drawings::jobs::{damaged, outline, small, sound, DAMAGES};
 use drawings::seeded::Seeded;
 use law::bytes::{header, job, written_outline};
 use law::{Calls, Drawing, Law, Told};
-use std::sync::atomic::{AtomicUsize, Ordering};
 use std::sync::Mutex;
-
-type Library = &'static (dyn Calls + Sync);
 
 fn unit() -> Drawing {
     Drawing::outline(&[0, 0, 1, 0, 1, 1, 0, 1])
@@ -28,13 +25,9 @@ pub fn worked_job() -> Vec<u8> {
     [header(25, 40, 3), written_outline(&Drawing::outline(&L)), written_outline(&framed()), written_outline(&unit())].concat()
 }
 
-/// What an index holds before a call, by its length.
+/// What an index holds before a call. It is asked about too: a pick by a count that is not true reads it.
 fn index_marks(length: usize, seed: u64) -> Vec<u16> {
     (0..length).map(|n| (n as u16).wrapping_mul(40_503) ^ seed as u16).collect()
-}
-
-fn out_marks(length: usize, seed: u64) -> Vec<u8> {
-    (0..length).map(|n| (n as u8).wrapping_mul(157) ^ seed as u8).collect()
 }
 
 /// A job, its index with all that it holds, and its count.
@@ -46,13 +39,10 @@ struct State {
 
 /// Asks both to open a job; the answer, and the index afterwards.
 fn open(library: Library, job: &[u8], index: &[u16], progress: &Progress) -> (Told, Vec<u16>) {
-    let (mut right_index, mut ours) = (Room::new(index), Room::new(index));
-    let right = Law.index_open(job, right_index.lent());
-    let told = library.index_open(job, ours.lent());
-    assert!(told == right, "opening {job:x?} with {} entries: {told:?} and not {right:?}", index.len());
-    assert!(right_index.differs(&ours).is_none(), "opening {job:x?} left {:?}, not {:?}", ours.held(), right_index.held());
+    let said = || format!("opening {job:x?} with {} entries", index.len());
+    let (told, index) = lend_both(library, index, &said, |calls, index| calls.index_open(job, index));
     progress.same();
-    (right, ours.held().to_vec())
+    (told, index.held().to_vec())
 }
 
 /// What is done to a job.
@@ -79,7 +69,7 @@ impl Change<'_> {
 
 /// Asks both for a change; the answer, and index and buffer afterwards.
 fn change(library: Library, by: Change, job: &[u8], index: &[u16], room: usize, progress: &Progress) -> (Told, Vec<u16>, Vec<u8>) {
-    let marks = out_marks(room, job.len() as u64);
+    let marks = marks(room, job.len() as u64);
     let (mut right_index, mut ours) = (Room::new(index), Room::new(index));
     let (mut right_out, mut out) = (Room::new(&marks), Room::new(&marks));
     let right = by.call(&Law, job, right_index.lent(), right_out.lent());
@@ -129,9 +119,9 @@ pub fn rows(plan: &Plan, progress: &Progress) {
     let Some(library) = plan.library else { return };
     let whole = worked_job();
     assert_eq!(whole.len(), 45);
-    let marks = index_marks(5, 9);
-    let (told, index) = open(library, &whole, &marks, progress);
-    assert_eq!((told, &index[..]), (Told::done(&[3]), &[3, 16, 36, marks[3], marks[4]][..]));
+    let held = index_marks(5, 9);
+    let (told, index) = open(library, &whole, &held, progress);
+    assert_eq!((told, &index[..]), (Told::done(&[3]), &[3, 16, 36, held[3], held[4]][..]));
     for room in 0..6 {
         let (told, _) = open(library, &whole, &index_marks(room, 3), progress);
         assert_eq!(told, if room < 3 { Told::refused(14) } else { Told::done(&[3]) });
@@ -143,10 +133,10 @@ pub fn rows(plan: &Plan, progress: &Progress) {
         assert_eq!(pick(library, &whole, &index[..entries], count, k, progress), Told::refused(13));
     }
     let (told, after, out) = change(library, Change::Remove(1), &whole, &index, 60, progress);
-    assert_eq!((told, &after[..]), (Told::done(&[25, 2]), &[3, 16, 36, marks[3], marks[4]][..]));
+    assert_eq!((told, &after[..]), (Told::done(&[25, 2]), &[3, 16, 36, held[3], held[4]][..]));
     assert_eq!(&out[..25], &[&[0x19, 0x28, 2][..], &whole[3..16], &whole[36..]].concat()[..]);
     let (told, after, out) = change(library, Change::Append(&unit()), &whole, &index, 60, progress);
-    assert_eq!((told, &after[..]), (Told::done(&[54, 4]), &[3, 16, 36, 45, marks[4]][..]));
+    assert_eq!((told, &after[..]), (Told::done(&[54, 4]), &[3, 16, 36, 45, held[4]][..]));
     assert_eq!(&out[..54], &[&[0x19, 0x28, 4][..], &whole[3..], &whole[36..]].concat()[..]);
     for (k, right) in [(3, 13), (usize::MAX, 13), (2, 0)] {
         assert_eq!(change(library, Change::Remove(k), &whole, &index, 60, progress).0.number, right);
@@ -333,20 +323,10 @@ fn history(library: Library, seed: u64, progress: &Progress) -> [usize; 3] {
 pub fn histories(plan: &Plan, progress: &Progress) {
     let Some(library) = plan.library else { return };
     let count = (plan.jobs / 3000).clamp(8, 40);
-    let next = AtomicUsize::new(0);
     let tally = Mutex::new([0usize; 3]);
-    std::thread::scope(|scope| {
-        for _ in 0..plan.threads {
-            scope.spawn(|| loop {
-                let turn = next.fetch_add(1, Ordering::Relaxed);
-                if turn >= count {
-                    break;
-                }
-                let mine = history(library, plan.seed << 32 | 0x1de8 << 16 | turn as u64, progress);
-                tally.lock().unwrap().iter_mut().zip(mine).for_each(|(sum, mine)| *sum += mine);
-                progress.at("histories", turn, count);
-            });
-        }
+    plan.turns("histories", count, progress, |turn| {
+        let mine = history(library, plan.seed << 32 | 0x1de8 << 16 | turn as u64, progress);
+        tally.lock().unwrap().iter_mut().zip(mine).for_each(|(sum, mine)| *sum += mine);
     });
     let [up, down, refused] = tally.into_inner().unwrap();
     assert!(up > 0 && down > 0 && refused > 0, "no history passed K = 127 both ways: {up}, {down}, {refused} refused");

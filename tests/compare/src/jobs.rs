@@ -2,9 +2,9 @@
 //! the writers and unpacking with buffers of every length, jobs at the limits, jobs with rings with
 //! every byte set to every value, and jobs damaged at every byte.
 
-use crate::progress::Progress;
-use crate::room::Room;
-use crate::Plan;
+use crate::progress::{Progress, Tally};
+use crate::room::{lend_both, marks, Room};
+use crate::{Library, Plan};
 use drawings::document::{ring_faults, FRAMED, FRAMED_JOB, GUILTY, JOB, L};
 use drawings::figures;
 use drawings::jobs::{damaged as damage, outline, small, sound, DAMAGES};
@@ -12,9 +12,6 @@ use drawings::seeded::Seeded;
 use law::bytes::{header, job, written_outline};
 use law::{Calls, Drawing, Law, Told};
 use std::sync::atomic::{AtomicUsize, Ordering};
-use std::sync::Mutex;
-
-type Library = &'static (dyn Calls + Sync);
 
 /// The documents' rows, every string of up to three bytes, then places at and past the end.
 pub fn numbers(plan: &Plan, progress: &Progress) {
@@ -28,26 +25,17 @@ pub fn numbers(plan: &Plan, progress: &Progress) {
         assert_eq!(library.number(bytes, at), Told::of(number, &[0, 0, guilty as u64]), "number at {at} of {bytes:x?}");
         progress.same();
     }
-    let next = AtomicUsize::new(0);
-    std::thread::scope(|scope| {
-        for _ in 0..plan.threads {
-            scope.spawn(|| loop {
-                let first = next.fetch_add(1, Ordering::Relaxed);
-                if first > 255 {
-                    break;
-                }
-                for rest in 0..65_536usize {
-                    let bytes = [first as u8, (rest >> 8) as u8, rest as u8];
-                    compare(&bytes, 0);
-                    if rest < 256 {
-                        compare(&[first as u8, rest as u8], 0);
-                        compare(&[0x80, first as u8, rest as u8, 0x80, 0x80, 0x01], 1);
-                    }
-                }
-                compare(&[first as u8], 0);
-                progress.same_many(65_536 + 513);
-            });
+    plan.turns("numbers", 256, progress, |first| {
+        for rest in 0..65_536usize {
+            let bytes = [first as u8, (rest >> 8) as u8, rest as u8];
+            compare(&bytes, 0);
+            if rest < 256 {
+                compare(&[first as u8, rest as u8], 0);
+                compare(&[0x80, first as u8, rest as u8, 0x80, 0x80, 0x01], 1);
+            }
         }
+        compare(&[first as u8], 0);
+        progress.same_many(65_536 + 513);
     });
     for length in 0..6 {
         let bytes = vec![0x81; length];
@@ -128,7 +116,7 @@ fn zeros_row(library: Library, s: &mut Seeded, progress: &Progress) {
 pub fn writers(plan: &Plan, progress: &Progress) {
     let Some(library) = plan.library else { return };
     let mut count = 0;
-    let marks: Vec<u8> = (0..260).map(|n| (n * 7 + 3) as u8).collect();
+    let marks = marks(260, 3);
     let values = [0, 1, 127, 128, 129, 255, 256, 999, 1000, 1001, 16_383, 16_384, u32::MAX];
     for threshold in values {
         for weight in values {
@@ -180,20 +168,15 @@ pub fn writers(plan: &Plan, progress: &Progress) {
 }
 
 fn write(library: Library, marks: &[u8], progress: &Progress, call: &dyn Fn(&dyn Calls, &mut [u8]) -> Told) {
-    let (mut right, mut out) = (Room::new(marks), Room::new(marks));
-    let (wanted, told) = (call(&Law, right.lent()), call(library, out.lent()));
-    assert!(told == wanted, "a writer with {} bytes answers {told:?} and not {wanted:?}", marks.len());
-    assert!(right.differs(&out).is_none(), "a writer with {} bytes left {:?}, not {:?}", marks.len(), out.held(), right.held());
+    lend_both(library, marks, &|| format!("a writer with {} bytes", marks.len()), call);
     progress.same();
 }
 
 /// Unpacks a part to lists of these lengths, for corners and for rings; gives the answer.
 fn unpack(library: Library, part: &[u8], lengths: (usize, usize), seed: u64, progress: &Progress) -> Told {
-    let marks = |length: usize, step: u16| -> Vec<u16> {
-        (0..length).map(|n| (n as u16).wrapping_mul(step) ^ seed as u16).collect()
-    };
-    let (mut right, mut list) = (Room::new(&marks(lengths.0, 257)), Room::new(&marks(lengths.0, 257)));
-    let (mut right_rings, mut rings) = (Room::new(&marks(lengths.1, 771)), Room::new(&marks(lengths.1, 771)));
+    let (held, held_rings) = (marks(lengths.0, seed), marks(lengths.1, !seed));
+    let (mut right, mut list) = (Room::new(&held), Room::new(&held));
+    let (mut right_rings, mut rings) = (Room::new(&held_rings), Room::new(&held_rings));
     let wanted = Law.unpack(part, right.lent(), right_rings.lent());
     let told = library.unpack(part, list.lent(), rings.lent());
     let said = || format!("unpacking {part:x?} to {lengths:?}");
@@ -341,95 +324,84 @@ pub fn every_byte(plan: &Plan, progress: &Progress) {
         .enumerate()
         .flat_map(|(which, job)| (0..=job.len()).map(move |at| (which, at)))
         .collect();
-    let next = AtomicUsize::new(0);
-    let tally = Mutex::new([0usize; 16]);
-    std::thread::scope(|scope| {
-        for _ in 0..plan.threads {
-            scope.spawn(|| {
-                let mut mine = [0usize; 16];
-                while let Some(&(which, at)) = damages.get(next.fetch_add(1, Ordering::Relaxed)) {
-                    let job = &jobs[which];
-                    let mut s = Seeded::new(plan.seed << 32 | 0xeb18 << 16 | (which << 10 | at) as u64);
-                    let mut all_of = |bytes: &[u8]| {
-                        let told = ask(library, bytes, &mut s, progress);
-                        mine[told.number as usize] += 1;
-                        // one byte form: what is still sound is written back to the same bytes
-                        if told.number == 0 {
-                            round_trip(library, bytes);
-                        }
-                        let part = bytes.get(head.len()..).unwrap_or(&[]);
-                        unpack(library, part, (64, 8), at as u64, progress);
-                    };
-                    all_of(&job[..at]);
-                    for byte in 0..=255 {
-                        // at the end of the job this is a byte behind it
-                        let rest = job.get(at + 1..).unwrap_or(&[]);
-                        all_of(&[&job[..at], &[byte], rest].concat());
-                    }
-                    progress.at("every byte", which, jobs.len());
-                }
-                tally.lock().unwrap().iter_mut().zip(mine).for_each(|(sum, mine)| *sum += mine);
-            });
+    let tally = Tally::new();
+    plan.turns("every byte", damages.len(), progress, |turn| {
+        let (which, at) = damages[turn];
+        let job = &jobs[which];
+        let mut s = Seeded::new(plan.seed << 32 | 0xeb18 << 16 | (which << 10 | at) as u64);
+        let mut all_of = |bytes: &[u8]| {
+            let told = ask(library, bytes, &mut s, progress);
+            tally.told(told.number);
+            // one byte form: what is still sound is written back to the same bytes
+            if told.number == 0 {
+                round_trip(library, bytes);
+            }
+            let part = bytes.get(head.len()..).unwrap_or(&[]);
+            unpack(library, part, (64, 8), at as u64, progress);
+        };
+        all_of(&job[..at]);
+        for byte in 0..=255 {
+            // at the end of the job this is a byte behind it
+            let rest = job.get(at + 1..).unwrap_or(&[]);
+            all_of(&[&job[..at], &[byte], rest].concat());
         }
     });
-    let tally = tally.into_inner().unwrap();
-    assert!(tally[0] > 0 && (8..12).all(|n| tally[n] > 0), "a refusal of 8 to 11 did not show: {tally:?}");
-    let numbers: Vec<String> = (8..12).map(|n| format!("{n}: {}", tally[n])).collect();
+    tally.all_shown(&[0, 8, 9, 10, 11], true);
     progress.done(format!(
-        "{} jobs with rings, every byte set to every value: {} jobs, {} sound, refused {}",
+        "{} jobs with rings, every byte set to every value: {} jobs, answers by number {tally}",
         jobs.len(),
-        tally.iter().sum::<usize>(),
-        tally[0],
-        numbers.join(", ")
+        tally.sum()
     ));
 }
 
 /// Sound jobs, and each of them damaged at every byte in one way after the other.
 pub fn damaged(plan: &Plan, progress: &Progress) {
     let Some(library) = plan.library else { return };
-    let next = AtomicUsize::new(0);
-    let done = AtomicUsize::new(0);
-    let tally = Mutex::new([0usize; 16]);
+    let (next, done) = (AtomicUsize::new(0), AtomicUsize::new(0));
+    let tally = Tally::new();
+    // until so many damaged jobs were asked, and not so many turns: sound jobs are of every length
+    let thread = || {
+        while done.load(Ordering::Relaxed) < plan.jobs {
+            let asked = damaged_of(library, plan.seed, next.fetch_add(1, Ordering::Relaxed) as u64, &tally, progress);
+            let count = done.fetch_add(asked, Ordering::Relaxed);
+            progress.at("damaged jobs", count, plan.jobs);
+        }
+    };
     std::thread::scope(|scope| {
         for _ in 0..plan.threads {
-            scope.spawn(|| {
-                let mut mine = [0usize; 16];
-                while done.load(Ordering::Relaxed) < plan.jobs {
-                    let seed = next.fetch_add(1, Ordering::Relaxed) as u64;
-                    let mut s = Seeded::new(plan.seed << 32 | 0x1051 << 16 | seed);
-                    let bytes = match seed {
-                        0 => JOB.to_vec(),
-                        1 => FRAMED_JOB.to_vec(),
-                        _ => sound(&mut s),
-                    };
-                    assert_eq!(ask(library, &bytes, &mut s, progress).number, 0, "sound job, seed {seed}");
-                    round_trip(library, &bytes);
-                    // the worked examples in every way at every byte, the others in one way each
-                    let ways = if bytes.len() < 60 { DAMAGES } else { 1 };
-                    let step = 1 + bytes.len() / 400;
-                    for at in (0..=bytes.len()).step_by(step) {
-                        for turn in 0..ways {
-                            let way = if ways > 1 { turn } else { s.below(DAMAGES) };
-                            let new = damage(&mut s, &bytes, at, way);
-                            mine[ask(library, &new, &mut s, progress).number as usize] += 1;
-                        }
-                    }
-                    let count = done.fetch_add((bytes.len() / step + 1) * ways, Ordering::Relaxed);
-                    progress.at("damaged jobs", count, plan.jobs);
-                }
-                tally.lock().unwrap().iter_mut().zip(mine).for_each(|(sum, mine)| *sum += mine);
-            });
+            scope.spawn(&thread);
         }
     });
-    let tally = tally.into_inner().unwrap();
-    let numbers: Vec<String> = (8..13).map(|n| format!("{n}: {}", tally[n])).collect();
+    let jobs = next.into_inner();
+    // the two worked jobs, in every way at every byte, show these already
+    tally.all_shown(&[0, 8, 9, 10, 11], plan.jobs > 0);
     progress.done(format!(
-        "{} sound jobs, seeds 0 to {} under {}, and {} damaged ones: {} still sound, refused {}",
-        next.load(Ordering::Relaxed),
-        next.load(Ordering::Relaxed) - 1,
+        "{jobs} sound jobs, seeds 0 to {} under {}, and {} damaged ones: answers by number {tally}",
+        jobs - 1,
         plan.seed,
-        tally.iter().sum::<usize>(),
-        tally[0],
-        numbers.join(", ")
+        tally.sum()
     ));
+}
+
+/// The sound job of a seed (of the first two the worked ones), and what it is damaged to; gives how many.
+fn damaged_of(library: Library, plan_seed: u64, seed: u64, tally: &Tally, progress: &Progress) -> usize {
+    let mut s = Seeded::new(plan_seed << 32 | 0x1051 << 16 | seed);
+    let bytes = match seed {
+        0 => JOB.to_vec(),
+        1 => FRAMED_JOB.to_vec(),
+        _ => sound(&mut s),
+    };
+    assert_eq!(ask(library, &bytes, &mut s, progress).number, 0, "sound job, seed {seed}");
+    round_trip(library, &bytes);
+    // the worked examples in every way at every byte, the others in one way each
+    let ways = if bytes.len() < 60 { DAMAGES } else { 1 };
+    let step = 1 + bytes.len() / 400;
+    for at in (0..=bytes.len()).step_by(step) {
+        for turn in 0..ways {
+            let way = if ways > 1 { turn } else { s.below(DAMAGES) };
+            let new = damage(&mut s, &bytes, at, way);
+            tally.told(ask(library, &new, &mut s, progress).number);
+        }
+    }
+    (bytes.len() / step + 1) * ways
 }

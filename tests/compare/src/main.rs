@@ -22,6 +22,10 @@ mod texts;
 
 use law::Calls;
 use progress::Progress;
+use std::sync::atomic::{AtomicUsize, Ordering};
+
+/// The library under test, called from every thread.
+pub type Library = &'static (dyn Calls + Sync);
 
 /// What to compare, and on how much.
 pub struct Plan {
@@ -30,7 +34,38 @@ pub struct Plan {
     pub seed: u64,
     pub threads: usize,
     pub record: Option<String>,
-    pub library: Option<&'static (dyn Calls + Sync)>,
+    pub library: Option<Library>,
+}
+
+impl Plan {
+    /// The turns of a part, 0 to below `total`, shared out among the threads. What a turn compares comes from
+    /// its number alone, so that it is the same by however many threads.
+    pub fn turns(&self, part: &str, total: usize, progress: &Progress, turn: impl Fn(usize) + Sync) {
+        self.turns_with(part, total, progress, || (), |(), n| turn(n));
+    }
+
+    /// The same with something that each thread keeps from one turn to the next, as buffers that are lent again.
+    pub fn turns_with<K>(
+        &self, part: &str, total: usize, progress: &Progress, first: impl Fn() -> K + Sync, turn: impl Fn(&mut K, usize) + Sync,
+    ) {
+        let next = AtomicUsize::new(0);
+        let thread = || {
+            let mut kept = first();
+            loop {
+                let n = next.fetch_add(1, Ordering::Relaxed);
+                if n >= total {
+                    break;
+                }
+                turn(&mut kept, n);
+                progress.at(part, n, total);
+            }
+        };
+        std::thread::scope(|scope| {
+            for _ in 0..self.threads {
+                scope.spawn(&thread);
+            }
+        });
+    }
 }
 
 fn plan() -> Plan {

@@ -10,7 +10,8 @@
 //! 31 cuts ahead, 32 fracture by pinwheels, 50 and 51 the same as 2 and 32 with a largest side,
 //! 45 write a CIF text, 46 read one,
 //! 40 to 43 opening, appending to, removing from and picking by an index, 44 salvage. A shift has its sign.
-//! An entry of a table of pairs is hashed field by field, its partner as two words.
+//! An entry of a table of pairs is hashed field by field. Its partner, and each number of an edge's runs, is hashed as
+//! two words.
 
 use crate::edges::shot_list;
 use crate::progress::Progress;
@@ -37,17 +38,77 @@ struct Record {
     calls: usize,
 }
 
-fn pattern(mark: u32, at: usize, bits: u32) -> u32 {
-    mark.wrapping_add((at as u32).wrapping_mul(2_654_435_761)) >> (32 - bits)
+/// What a lent buffer is made of.
+trait Element: Copy {
+    /// From a word of the pattern.
+    fn of(word: u32) -> Self;
+
+    /// The hash with this element behind it.
+    fn mixed(self, hash: u32) -> u32;
+}
+
+fn mix(hash: u32, word: u32) -> u32 {
+    (hash ^ word).wrapping_mul(16_777_619)
+}
+
+/// A number of the machine's size, as two words.
+fn mix_wide(hash: u32, number: usize) -> u32 {
+    mix(mix(hash, number as u32), (number as u64 >> 32) as u32)
+}
+
+macro_rules! numbers {
+    ($($number:ident)*) => {$(
+        impl Element for $number {
+            fn of(word: u32) -> $number {
+                (word >> (32 - $number::BITS)) as $number
+            }
+            fn mixed(self, hash: u32) -> u32 {
+                mix(hash, self.into())
+            }
+        }
+    )*};
+}
+numbers! { u8 u16 u32 }
+
+impl Element for usize {
+    fn of(word: u32) -> usize {
+        word as usize
+    }
+    fn mixed(self, hash: u32) -> u32 {
+        mix_wide(hash, self)
+    }
+}
+
+impl Element for Joined {
+    fn of(word: u32) -> Joined {
+        let (low, high) = (word as u16, (word >> 16) as u16);
+        Joined { x_low: low, y_low: high, x_high: !low, y_high: !high, partner: word as usize }
+    }
+    fn mixed(self, hash: u32) -> u32 {
+        let corners = [self.x_low, self.y_low, self.x_high, self.y_high];
+        mix_wide(corners.into_iter().fold(hash, |hash, place| mix(hash, place.into())), self.partner)
+    }
 }
 
 /// A lent buffer filled with its pattern, the margins too.
-fn lend<T: Copy>(length: usize, mark: u32, bits: u32, from: fn(u32) -> T) -> Vec<T> {
-    (0..length + 2 * MARGIN).map(|at| from(pattern(mark, at, bits))).collect()
-}
+struct Lent<T>(Vec<T>);
 
-fn hash(elements: impl Iterator<Item = u32>) -> u64 {
-    elements.fold(2_166_136_261u32, |h, element| (h ^ element).wrapping_mul(16_777_619)) as u64
+impl<T: Element> Lent<T> {
+    fn new(length: usize, mark: u32) -> Lent<T> {
+        let pattern = |at: u32| mark.wrapping_add(at.wrapping_mul(2_654_435_761));
+        Lent((0..(length + 2 * MARGIN) as u32).map(|at| T::of(pattern(at))).collect())
+    }
+
+    /// What is lent, without the margins.
+    fn inner(&mut self) -> &mut [T] {
+        let end = self.0.len() - MARGIN;
+        &mut self.0[MARGIN..end]
+    }
+
+    /// Over the margins too.
+    fn hash(&self) -> u64 {
+        self.0.iter().fold(2_166_136_261, |hash, element| element.mixed(hash)).into()
+    }
 }
 
 impl Record {
@@ -78,45 +139,39 @@ impl Record {
         self.calls += 1;
     }
 
-    /// By pinwheels (with a rule), by a rule, or by the default rule.
-    fn fracture(&mut self, wheels: bool, drawing: &Drawing, rule: Option<(u32, u32)>, entries: usize, numbers: usize, mark: u32) {
-        let mut table = lend(entries, mark, 32, |x| x);
-        let mut list = lend(numbers, mark, 16, |x| x as u16);
-        let (inner_table, inner_list) = (&mut table[MARGIN..MARGIN + entries], &mut list[MARGIN..MARGIN + numbers]);
-        let told = match rule {
-            Some((threshold, weight)) if wheels => {
-                self.words.extend([32, threshold, weight]);
-                Law.fracture_pinwheel(drawing, threshold, weight, inner_table, inner_list)
-            }
-            Some((threshold, weight)) => {
-                self.words.extend([2, threshold, weight]);
-                Law.fracture(drawing, threshold, weight, inner_table, inner_list)
-            }
-            None => {
-                self.words.push(3);
-                Law.fracture_default(drawing, inner_table, inner_list)
-            }
-        };
+    /// A fracture: the words of its call before the lengths, and what the law answers and leaves.
+    fn fractured(
+        &mut self, words: &[u32], drawing: &Drawing, (entries, numbers): (usize, usize), mark: u32,
+        by: impl FnOnce(&mut [u32], &mut [u16]) -> Told,
+    ) {
+        self.words.extend(words);
         self.drawing_lengths(drawing);
         self.size(entries);
         self.size(numbers);
         self.words.push(mark);
         self.drawing(drawing);
-        self.outcome(told, 4, &[hash(table.into_iter()), hash(list.into_iter().map(u32::from))]);
+        let (mut table, mut list) = (Lent::new(entries, mark), Lent::new(numbers, mark));
+        let told = by(table.inner(), list.inner());
+        self.outcome(told, 4, &[table.hash(), list.hash()]);
     }
 
-    fn divided(&mut self, wheels: bool, drawing: &Drawing, rule: (u32, u32), largest: u32, (entries, numbers): (usize, usize), mark: u32) {
-        let mut table = lend(entries, mark, 32, |x| x);
-        let mut list = lend(numbers, mark, 16, |x| x as u16);
-        let (inner_table, inner_list) = (&mut table[MARGIN..MARGIN + entries], &mut list[MARGIN..MARGIN + numbers]);
-        let told = Law.fracture_divided(wheels, drawing, rule.0, rule.1, largest, inner_table, inner_list);
-        self.words.extend([if wheels { 51 } else { 50 }, rule.0, rule.1, largest]);
-        self.drawing_lengths(drawing);
-        self.size(entries);
-        self.size(numbers);
-        self.words.push(mark);
-        self.drawing(drawing);
-        self.outcome(told, 4, &[hash(table.into_iter()), hash(list.into_iter().map(u32::from))]);
+    /// By a rule or by the default rule.
+    fn fracture(&mut self, drawing: &Drawing, rule: Option<(u32, u32)>, rooms: (usize, usize), mark: u32) {
+        match rule {
+            Some((t, w)) => self.fractured(&[2, t, w], drawing, rooms, mark, |table, list| Law.fracture(drawing, t, w, table, list)),
+            None => self.fractured(&[3], drawing, rooms, mark, |table, list| Law.fracture_default(drawing, table, list)),
+        }
+    }
+
+    fn pinwheels(&mut self, drawing: &Drawing, (t, w): (u32, u32), rooms: (usize, usize), mark: u32) {
+        self.fractured(&[32, t, w], drawing, rooms, mark, |table, list| Law.fracture_pinwheel(drawing, t, w, table, list));
+    }
+
+    fn divided(&mut self, wheels: bool, drawing: &Drawing, (t, w): (u32, u32), largest: u32, rooms: (usize, usize), mark: u32) {
+        let call = if wheels { 51 } else { 50 };
+        self.fractured(&[call, t, w, largest], drawing, rooms, mark, |table, list| {
+            Law.fracture_divided(wheels, drawing, t, w, largest, table, list)
+        });
     }
 
     fn cuts(&mut self, drawing: &Drawing) {
@@ -164,11 +219,9 @@ impl Record {
         self.size(lengths);
         self.words.push(mark);
         self.bytes(part);
-        let mut list = lend(numbers, mark, 16, |x| x as u16);
-        let mut rings = lend(lengths, mark, 16, |x| x as u16);
-        let told = Law.unpack(part, &mut list[MARGIN..MARGIN + numbers], &mut rings[MARGIN..MARGIN + lengths]);
-        let hashes = [list, rings].map(|buffer| hash(buffer.into_iter().map(u32::from)));
-        self.outcome(told, 3, &hashes);
+        let (mut list, mut rings) = (Lent::new(numbers, mark), Lent::new(lengths, mark));
+        let told = Law.unpack(part, list.inner(), rings.inner());
+        self.outcome(told, 3, &[list.hash(), rings.hash()]);
     }
 
     fn boundary(&mut self, element: &[u8], (numbers, entries, shots): (usize, usize, usize), mark: u32) {
@@ -177,9 +230,9 @@ impl Record {
         self.size(numbers);
         self.words.push(mark);
         self.bytes(element);
-        let mut list = lend(numbers, mark, 16, |x| x as u16);
-        let told = Law.gdsii_read(element, &mut list[MARGIN..MARGIN + numbers]);
-        self.outcome(told, 4, &[hash(list.into_iter().map(u32::from))]);
+        let mut list = Lent::new(numbers, mark);
+        let told = Law.gdsii_read(element, list.inner());
+        self.outcome(told, 4, &[list.hash()]);
 
         self.words.push(11);
         self.size(element.len());
@@ -187,10 +240,9 @@ impl Record {
         self.size(shots);
         self.words.push(mark);
         self.bytes(element);
-        let mut table = lend(entries, mark, 32, |x| x);
-        let mut list = lend(shots, mark, 16, |x| x as u16);
-        let told = Law.gdsii_fracture(element, &mut table[MARGIN..MARGIN + entries], &mut list[MARGIN..MARGIN + shots]);
-        self.outcome(told, 7, &[hash(table.into_iter()), hash(list.into_iter().map(u32::from))]);
+        let (mut table, mut list) = (Lent::new(entries, mark), Lent::new(shots, mark));
+        let told = Law.gdsii_fracture(element, table.inner(), list.inner());
+        self.outcome(told, 7, &[table.hash(), list.hash()]);
     }
 
     fn join(&mut self, list: &[u16], entries: usize, mark: u32) {
@@ -199,19 +251,9 @@ impl Record {
         self.size(entries);
         self.words.push(mark);
         self.words.extend(list.iter().map(|&number| number as u32));
-        let mut table = lend(entries, mark, 32, |x| Joined {
-            x_low: x as u16,
-            y_low: (x >> 16) as u16,
-            x_high: !x as u16,
-            y_high: !(x >> 16) as u16,
-            partner: x as usize,
-        });
-        let told = Law.join(list, &mut table[MARGIN..MARGIN + entries]);
-        let fields = table.into_iter().flat_map(|e| {
-            let partner = e.partner as u64;
-            [e.x_low.into(), e.y_low.into(), e.x_high.into(), e.y_high.into(), partner as u32, (partner >> 32) as u32]
-        });
-        self.outcome(told, 1, &[hash(fields)]);
+        let mut table = Lent::new(entries, mark);
+        let told = Law.join(list, table.inner());
+        self.outcome(told, 1, &[table.hash()]);
     }
 
     fn edge(&mut self, drawing: &Drawing, edge: usize, shots: &[u16], room: usize, mark: u32) {
@@ -223,9 +265,9 @@ impl Record {
         self.words.push(mark);
         self.drawing(drawing);
         self.words.extend(shots.iter().map(|&number| number as u32));
-        let mut runs = lend(room, mark, 32, |x| x as usize);
-        let told = Law.edge(drawing, edge, shots, &mut runs[MARGIN..MARGIN + room]);
-        self.outcome(told, 1, &[hash(runs.into_iter().map(|run| run as u32))]);
+        let mut runs = Lent::new(room, mark);
+        let told = Law.edge(drawing, edge, shots, runs.inner());
+        self.outcome(told, 1, &[runs.hash()]);
     }
 
     fn cif_write(&mut self, list: &[u16], room: usize, mark: u32) {
@@ -234,9 +276,9 @@ impl Record {
         self.size(room);
         self.words.push(mark);
         self.words.extend(list.iter().map(|&number| number as u32));
-        let mut out = lend(room, mark, 8, |x| x as u8);
-        let told = Law.cif_write(list, &mut out[MARGIN..MARGIN + room]);
-        self.outcome(told, 1, &[hash(out.into_iter().map(u32::from))]);
+        let mut out = Lent::new(room, mark);
+        let told = Law.cif_write(list, out.inner());
+        self.outcome(told, 1, &[out.hash()]);
     }
 
     fn cif_read(&mut self, text: &[u8], numbers: usize, mark: u32) {
@@ -245,59 +287,59 @@ impl Record {
         self.size(numbers);
         self.words.push(mark);
         self.bytes(text);
-        let mut list = lend(numbers, mark, 16, |x| x as u16);
-        let told = Law.cif_read(text, &mut list[MARGIN..MARGIN + numbers]);
-        self.outcome(told, 2, &[hash(list.into_iter().map(u32::from))]);
+        let mut list = Lent::new(numbers, mark);
+        let told = Law.cif_read(text, list.inner());
+        self.outcome(told, 2, &[list.hash()]);
     }
 
     /// All that can be asked of a job and an index of so many entries, with a buffer of so many bytes.
     fn index(&mut self, job: &[u8], drawing: &Drawing, k: usize, (entries, room): (usize, usize), mark: u32) {
-        let lent_index = || lend(entries, mark, 16, |x| x as u16);
-        let inner = MARGIN..MARGIN + entries;
         self.words.push(40);
         self.size(job.len());
         self.size(entries);
         self.words.push(mark);
         self.bytes(job);
-        let mut index = lent_index();
-        let told = Law.index_open(job, &mut index[inner.clone()]);
-        self.outcome(told, 2, &[hash(index.iter().map(|&entry| entry as u32))]);
+        let mut index = Lent::new(entries, mark);
+        let told = Law.index_open(job, index.inner());
+        self.outcome(told, 2, &[index.hash()]);
 
-        for call in [41, 42] {
-            self.words.push(call);
-            self.size(job.len());
-            if call == 41 {
-                self.drawing_lengths(drawing);
-            } else {
-                self.size(k);
-            }
-            self.size(entries);
-            self.size(room);
-            self.words.push(mark);
-            self.bytes(job);
-            let mut changed = lent_index();
-            let mut out = lend(room, mark, 8, |x| x as u8);
-            let inner_out = &mut out[MARGIN..MARGIN + room];
-            let told = if call == 41 {
-                self.drawing(drawing);
-                Law.index_append(job, drawing, &mut changed[inner.clone()], inner_out)
-            } else {
-                Law.index_remove(job, k, &mut changed[inner.clone()], inner_out)
-            };
-            self.outcome(told, 3, &[hash(changed.into_iter().map(u32::from)), hash(out.into_iter().map(u32::from))]);
-        }
+        self.changed_index(job, Some(drawing), k, (entries, room), mark);
+        self.changed_index(job, None, k, (entries, room), mark);
 
         // by the index as it came in, and as opening left it
-        for (index, count) in [(lent_index(), entries), (index, told.numbers[0] as usize)] {
+        for (mut index, count) in [(Lent::new(entries, mark), entries), (index, told.numbers[0] as usize)] {
             self.words.push(43);
             self.size(job.len());
             self.size(entries);
             self.size(count);
             self.size(k);
             self.bytes(job);
-            self.words.extend(index[inner.clone()].iter().map(|&entry| entry as u32));
-            self.outcome(Law.index_pick(job, &index[inner.clone()], count, k), 3, &[]);
+            self.words.extend(index.inner().iter().map(|&entry| entry as u32));
+            self.outcome(Law.index_pick(job, index.inner(), count, k), 3, &[]);
         }
+    }
+
+    /// A drawing appended to a job and its index, or, where there is none, outline k removed.
+    fn changed_index(&mut self, job: &[u8], drawing: Option<&Drawing>, k: usize, (entries, room): (usize, usize), mark: u32) {
+        self.words.push(if drawing.is_some() { 41 } else { 42 });
+        self.size(job.len());
+        match drawing {
+            Some(drawing) => self.drawing_lengths(drawing),
+            None => self.size(k),
+        }
+        self.size(entries);
+        self.size(room);
+        self.words.push(mark);
+        self.bytes(job);
+        let (mut index, mut out) = (Lent::new(entries, mark), Lent::new(room, mark));
+        let told = match drawing {
+            Some(drawing) => {
+                self.drawing(drawing);
+                Law.index_append(job, drawing, index.inner(), out.inner())
+            }
+            None => Law.index_remove(job, k, index.inner(), out.inner()),
+        };
+        self.outcome(told, 3, &[index.hash(), out.hash()]);
     }
 
     fn salvage(&mut self, job: &[u8], room: usize, mark: u32) {
@@ -306,9 +348,9 @@ impl Record {
         self.size(room);
         self.words.push(mark);
         self.bytes(job);
-        let mut out = lend(room, mark, 8, |x| x as u8);
-        let told = Law.salvage(job, &mut out[MARGIN..MARGIN + room]);
-        self.outcome(told, 5, &[hash(out.into_iter().map(u32::from))]);
+        let mut out = Lent::new(room, mark);
+        let told = Law.salvage(job, out.inner());
+        self.outcome(told, 5, &[out.hash()]);
     }
 
     fn writers(&mut self, s: &mut Seeded) {
@@ -318,9 +360,9 @@ impl Record {
         self.words.extend([8, threshold, weight, outlines]);
         self.size(room);
         self.words.push(mark);
-        let mut out = lend(room, mark, 8, |x| x as u8);
-        let told = Law.write_header(threshold, weight, outlines, &mut out[MARGIN..MARGIN + room]);
-        self.outcome(told, 1, &[hash(out.into_iter().map(u32::from))]);
+        let mut out = Lent::new(room, mark);
+        let told = Law.write_header(threshold, weight, outlines, out.inner());
+        self.outcome(told, 1, &[out.hash()]);
 
         let drawing = any_drawing(s);
         let any = s.within(0, 210);
@@ -330,9 +372,9 @@ impl Record {
         self.size(room);
         self.words.push(mark);
         self.drawing(&drawing);
-        let mut out = lend(room, mark, 8, |x| x as u8);
-        let told = Law.write_outline(&drawing, &mut out[MARGIN..MARGIN + room]);
-        self.outcome(told, 1, &[hash(out.into_iter().map(u32::from))]);
+        let mut out = Lent::new(room, mark);
+        let told = Law.write_outline(&drawing, out.inner());
+        self.outcome(told, 1, &[out.hash()]);
     }
 }
 
@@ -361,118 +403,162 @@ fn any_figure(s: &mut Seeded) -> Drawing {
     }
 }
 
+/// The cases from seeds.
+impl Record {
+    /// Drawings of every sort, fractured by a rule or by the default rule, and by pinwheels, and their cuts ahead.
+    fn drawings(&mut self, seed: u64, progress: &Progress) {
+        for turn in 0..OUTLINES {
+            let mut s = Seeded::new(seed << 32 | 0x4ec0 << 16 | turn);
+            let drawing = any_figure(&mut s);
+            let pieces = figure(&drawing).map_or(50, |f| f.pieces());
+            let entries = s.pick(&[pieces, pieces, pieces + 3, pieces - 1]);
+            let few = s.within(0, 60);
+            let numbers = s.pick(&[900, 900, 901, few]);
+            let rule = if s.once_in(8) { None } else { Some(outlines::rule(&mut s, &drawing)) };
+            let mark = s.any() as u32;
+            self.fracture(&drawing, rule, (entries, numbers), mark);
+            if let Some(rule) = rule.filter(|_| pieces <= 1300 || turn % 67 == 0) {
+                self.pinwheels(&drawing, rule, (entries, numbers), mark);
+            }
+            self.cuts(&drawing);
+            progress.at("recording", turn as usize, OUTLINES as usize);
+        }
+    }
+
+    /// Jobs, sound and damaged, and the writers.
+    fn jobs(&mut self, seed: u64) {
+        for turn in 0..JOBS {
+            let mut s = Seeded::new(seed << 32 | 0x10b5 << 16 | turn);
+            let mut job = sound(&mut s);
+            if turn % 4 > 0 {
+                let (at, way) = (s.within(0, job.len()), s.below(DAMAGES));
+                job = damaged(&mut s, &job, at, way);
+            }
+            self.job(&job, &mut s);
+            self.writers(&mut s);
+        }
+    }
+
+    /// Boundary elements, sound and damaged.
+    fn elements(&mut self, seed: u64) {
+        for turn in 0..ELEMENTS {
+            let mut s = Seeded::new(seed << 32 | 0x6d52 << 16 | turn);
+            let mut element = elements::any(&mut s);
+            if turn % 2 > 0 {
+                let (at, way) = (s.within(0, element.len()), s.below(elements::DAMAGES));
+                element = elements::damaged(&mut s, &element, at, way);
+            }
+            // the long ones, which fill the record, are the comparison's alone
+            if element.len() > 2_000 {
+                continue;
+            }
+            let few = (s.within(0, 64), s.within(0, 300), s.within(0, 60));
+            let rooms = s.pick(&[(64, 14_400, 900), few]);
+            self.boundary(&element, rooms, turn as u32);
+        }
+    }
+
+    /// Lists of shots to join.
+    fn lists(&mut self, seed: u64) {
+        for turn in 0..LISTS {
+            let mut s = Seeded::new(seed << 32 | 0x10f2 << 16 | turn);
+            let list = shots::any(&mut s);
+            let room = list.len() / 4;
+            let few = s.within(0, room);
+            let entries = s.pick(&[room, room, room + 1, room + 9, few]);
+            self.join(&list, entries, turn as u32);
+        }
+    }
+
+    /// One edge each of drawings, with a shot list.
+    fn edges(&mut self, seed: u64) {
+        for turn in 0..EDGES {
+            let mut s = Seeded::new(seed << 32 | 0xed6f << 16 | turn);
+            let drawing = any_figure(&mut s);
+            let shots = shot_list(&mut s, &drawing);
+            let any = s.within(0, drawing.corners.len() / 2 + 1);
+            let edge = s.pick(&[any, any, any, any, usize::MAX]);
+            let few = s.within(0, 20);
+            let room = s.pick(&[60 + 2 * shots.len(), few]);
+            self.edge(&drawing, edge, &shots, room, turn as u32);
+        }
+    }
+
+    /// Drawings, some of them drawn out, with a largest side.
+    fn divided_drawings(&mut self, seed: u64) {
+        for turn in 0..DIVIDED {
+            let mut s = Seeded::new(seed << 32 | 0xd1f0 << 16 | turn);
+            let mut drawing = any_figure(&mut s);
+            let most = (u16::MAX / drawing.corners.iter().max().copied().unwrap_or(0).max(1)).max(1);
+            let times = s.pick(&[1, 2, 5]).min(most);
+            drawing.corners.iter_mut().for_each(|place| *place *= times);
+            let pieces = figure(&drawing).map_or(50, |f| f.pieces());
+            let rule = outlines::rule(&mut s, &drawing);
+            let any = s.within(0, 70_000) as u32;
+            let largest = s.pick(&[199, 200, 200, 201, 2 * rule.0.min(1000), 500, 2_000, 65_535, 65_536, any]);
+            let few = s.within(0, 60);
+            let numbers = s.pick(&[900, 2_000, 20_000, few]);
+            let wheels = pieces <= 1300 && s.once_in(2);
+            self.divided(wheels, &drawing, rule, largest, (pieces, numbers), turn as u32);
+        }
+    }
+
+    /// Lists written as CIF texts, and texts read, sound and damaged.
+    fn texts(&mut self, seed: u64) {
+        for turn in 0..TEXTS {
+            let mut s = Seeded::new(seed << 32 | 0xc1f1 << 16 | turn);
+            let list = shots::any(&mut s);
+            let bytes = if law::cif::bad_shots(&list) { 50 } else { law::cif::text(&list).len() };
+            let few = s.within(0, bytes);
+            let room = s.pick(&[bytes, bytes + 5, bytes - 1, few]);
+            self.cif_write(&list, room, turn as u32);
+            let mut text = texts::sound(&mut s);
+            let shots = text.iter().filter(|&&byte| byte == b'B').count();
+            if turn % 3 > 0 {
+                let way = s.below(texts::DAMAGES);
+                text = texts::damaged(&mut s, &text, way);
+            }
+            let few = s.within(0, 4 * shots);
+            let numbers = s.pick(&[4 * shots, 4 * shots + 9, few]);
+            self.cif_read(&text, numbers, turn as u32);
+        }
+    }
+
+    /// Jobs and their index, and jobs damaged and saved.
+    fn indexes(&mut self, seed: u64) {
+        for turn in 0..INDEXES {
+            let mut s = Seeded::new(seed << 32 | 0x1de7 << 16 | turn);
+            let mut job = sound(&mut s);
+            if turn % 4 == 0 {
+                let (at, way) = (s.within(0, job.len()), s.below(DAMAGES));
+                job = damaged(&mut s, &job, at, way);
+            }
+            let count = Law.job_check(&job).numbers[2] as usize;
+            let drawing = any_drawing(&mut s);
+            let (k, few, short) = (s.within(0, count), s.within(0, count), s.within(0, job.len()));
+            let rooms = s.pick(&[(255, 4096), (255, 4096), (count + 1, job.len() + 10), (few, 4096), (255, short)]);
+            self.index(&job, &drawing, s.pick(&[k, k, k, usize::MAX]), rooms, turn as u32);
+            let (at, way) = (s.within(0, job.len()), s.below(DAMAGES));
+            self.salvage(&damaged(&mut s, &job, at, way), s.pick(&[4096, 4096, short]), turn as u32);
+        }
+    }
+}
+
+/// Writes the record to a file.
 pub fn write(file: &str, seed: u64, progress: &Progress) {
     let mut record = Record { words: Vec::new(), calls: 0 };
     for number in 0..6 {
         record.words.extend([1, number]);
         record.outcome(Law.preset(number), 2, &[]);
     }
-    for turn in 0..OUTLINES {
-        let mut s = Seeded::new(seed << 32 | 0x4ec0 << 16 | turn);
-        let drawing = any_figure(&mut s);
-        let pieces = figure(&drawing).map_or(50, |f| f.pieces());
-        let entries = s.pick(&[pieces, pieces, pieces + 3, pieces - 1]);
-        let few = s.within(0, 60);
-        let numbers = s.pick(&[900, 900, 901, few]);
-        let rule = if s.once_in(8) { None } else { Some(outlines::rule(&mut s, &drawing)) };
-        let mark = s.any() as u32;
-        record.fracture(false, &drawing, rule, entries, numbers, mark);
-        if rule.is_some() && (pieces <= 1300 || turn % 67 == 0) {
-            record.fracture(true, &drawing, rule, entries, numbers, mark);
-        }
-        record.cuts(&drawing);
-        progress.at("recording", turn as usize, OUTLINES as usize);
-    }
-    for turn in 0..JOBS {
-        let mut s = Seeded::new(seed << 32 | 0x10b5 << 16 | turn);
-        let mut job = sound(&mut s);
-        if turn % 4 > 0 {
-            let (at, way) = (s.within(0, job.len()), s.below(DAMAGES));
-            job = damaged(&mut s, &job, at, way);
-        }
-        record.job(&job, &mut s);
-        record.writers(&mut s);
-    }
-    for turn in 0..ELEMENTS {
-        let mut s = Seeded::new(seed << 32 | 0x6d52 << 16 | turn);
-        let mut element = elements::any(&mut s);
-        if turn % 2 > 0 {
-            let (at, way) = (s.within(0, element.len()), s.below(elements::DAMAGES));
-            element = elements::damaged(&mut s, &element, at, way);
-        }
-        // the long ones, which fill the record, are the comparison's alone
-        if element.len() > 2_000 {
-            continue;
-        }
-        let few = (s.within(0, 64), s.within(0, 300), s.within(0, 60));
-        let rooms = s.pick(&[(64, 14_400, 900), few]);
-        record.boundary(&element, rooms, turn as u32);
-    }
-    for turn in 0..LISTS {
-        let mut s = Seeded::new(seed << 32 | 0x10f2 << 16 | turn);
-        let list = shots::any(&mut s);
-        let room = list.len() / 4;
-        let few = s.within(0, room);
-        let entries = s.pick(&[room, room, room + 1, room + 9, few]);
-        record.join(&list, entries, turn as u32);
-    }
-    for turn in 0..EDGES {
-        let mut s = Seeded::new(seed << 32 | 0xed6f << 16 | turn);
-        let drawing = any_figure(&mut s);
-        let shots = shot_list(&mut s, &drawing);
-        let any = s.within(0, drawing.corners.len() / 2 + 1);
-        let edge = s.pick(&[any, any, any, any, usize::MAX]);
-        let few = s.within(0, 20);
-        let room = s.pick(&[60 + 2 * shots.len(), few]);
-        record.edge(&drawing, edge, &shots, room, turn as u32);
-    }
-    for turn in 0..DIVIDED {
-        let mut s = Seeded::new(seed << 32 | 0xd1f0 << 16 | turn);
-        let mut drawing = any_figure(&mut s);
-        let most = (u16::MAX / drawing.corners.iter().max().copied().unwrap_or(0).max(1)).max(1);
-        let times = s.pick(&[1, 2, 5]).min(most);
-        drawing.corners.iter_mut().for_each(|place| *place *= times);
-        let pieces = figure(&drawing).map_or(50, |f| f.pieces());
-        let rule = outlines::rule(&mut s, &drawing);
-        let any = s.within(0, 70_000) as u32;
-        let largest = s.pick(&[199, 200, 200, 201, 2 * rule.0.min(1000), 500, 2_000, 65_535, 65_536, any]);
-        let few = s.within(0, 60);
-        let numbers = s.pick(&[900, 2_000, 20_000, few]);
-        let wheels = pieces <= 1300 && s.once_in(2);
-        record.divided(wheels, &drawing, rule, largest, (pieces, numbers), turn as u32);
-    }
-    for turn in 0..TEXTS {
-        let mut s = Seeded::new(seed << 32 | 0xc1f1 << 16 | turn);
-        let list = shots::any(&mut s);
-        let bytes = if law::cif::bad_shots(&list) { 50 } else { law::cif::text(&list).len() };
-        let few = s.within(0, bytes);
-        let room = s.pick(&[bytes, bytes + 5, bytes - 1, few]);
-        record.cif_write(&list, room, turn as u32);
-        let mut text = texts::sound(&mut s);
-        let shots = text.iter().filter(|&&byte| byte == b'B').count();
-        if turn % 3 > 0 {
-            let way = s.below(texts::DAMAGES);
-            text = texts::damaged(&mut s, &text, way);
-        }
-        let few = s.within(0, 4 * shots);
-        let numbers = s.pick(&[4 * shots, 4 * shots + 9, few]);
-        record.cif_read(&text, numbers, turn as u32);
-    }
-    for turn in 0..INDEXES {
-        let mut s = Seeded::new(seed << 32 | 0x1de7 << 16 | turn);
-        let mut job = sound(&mut s);
-        if turn % 4 == 0 {
-            let (at, way) = (s.within(0, job.len()), s.below(DAMAGES));
-            job = damaged(&mut s, &job, at, way);
-        }
-        let count = Law.job_check(&job).numbers[2] as usize;
-        let drawing = any_drawing(&mut s);
-        let (k, few, short) = (s.within(0, count), s.within(0, count), s.within(0, job.len()));
-        let rooms = s.pick(&[(255, 4096), (255, 4096), (count + 1, job.len() + 10), (few, 4096), (255, short)]);
-        record.index(&job, &drawing, s.pick(&[k, k, k, usize::MAX]), rooms, turn as u32);
-        let (at, way) = (s.within(0, job.len()), s.below(DAMAGES));
-        record.salvage(&damaged(&mut s, &job, at, way), s.pick(&[4096, 4096, short]), turn as u32);
-    }
+    record.drawings(seed, progress);
+    record.jobs(seed);
+    record.elements(seed);
+    record.lists(seed);
+    record.edges(seed);
+    record.divided_drawings(seed);
+    record.texts(seed);
+    record.indexes(seed);
     record.words.push(12);
     let bytes: Vec<u8> = record.words.iter().flat_map(|word| word.to_le_bytes()).collect();
     std::fs::File::create(file).and_then(|mut f| f.write_all(&bytes)).unwrap_or_else(|e| panic!("{file}: {e}"));

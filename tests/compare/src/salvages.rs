@@ -3,24 +3,19 @@
 
 use crate::indexes::worked_job;
 use crate::progress::Progress;
-use crate::room::Room;
-use crate::Plan;
+use crate::room::{lend_both, marks};
+use crate::{Library, Plan};
 use drawings::jobs::{damaged as damage, sound, DAMAGES};
 use drawings::seeded::Seeded;
 use law::bytes::{header, job};
-use law::{Calls, Law, Told};
-
-type Library = &'static (dyn Calls + Sync);
+use law::Told;
 
 /// Asks both with a buffer of this length; the answer, and the bytes written. What is written is a sound job whose
 /// outlines are the first of what was read, and saving it again changes nothing.
 fn ask(library: Library, bytes: &[u8], room: usize, progress: &Progress) -> (Told, Vec<u8>) {
-    let marks: Vec<u8> = (0..room).map(|n| (n as u8).wrapping_mul(91) ^ bytes.len() as u8).collect();
-    let (mut right_out, mut out) = (Room::new(&marks), Room::new(&marks));
-    let right = Law.salvage(bytes, right_out.lent());
-    let told = library.salvage(bytes, out.lent());
-    assert!(told == right, "saving {bytes:x?} to {room}: {told:?} and not {right:?}");
-    assert!(right_out.differs(&out).is_none(), "saving {bytes:x?} left {:x?}, not {:x?}", out.held(), right_out.held());
+    let marks = marks(room, bytes.len() as u64);
+    let said = || format!("saving {bytes:x?} to {room}");
+    let (right, out) = lend_both(library, &marks, &said, |calls, out| calls.salvage(bytes, out));
     progress.same();
     let written = out.held()[..right.numbers[0] as usize].to_vec();
     if right.number == 0 {

@@ -3,28 +3,12 @@
 //! rules. Answers and both buffers are compared whole, what lies beyond what is written among them.
 
 use crate::progress::Progress;
-use crate::Plan;
+use crate::room::{marks, Left};
+use crate::{Library, Plan};
 use drawings::seeded::Seeded;
 use drawings::{figures, outlines};
-use law::{Calls, Drawing, Told};
+use law::Drawing;
 use std::sync::atomic::{AtomicUsize, Ordering};
-
-type Library = &'static (dyn Calls + Sync);
-
-/// What a fracture leaves: its answer, and both buffers, lent with the same contents each time.
-#[derive(PartialEq, Debug, Clone)]
-struct Left {
-    told: Told,
-    table: Vec<u32>,
-    list: Vec<u16>,
-}
-
-fn fracture(library: Library, drawing: &Drawing, rule: (u32, u32), room: (usize, usize)) -> Left {
-    let mut table: Vec<u32> = (0..room.0 as u32).map(|n| n.wrapping_mul(0x9e37_79b9)).collect();
-    let mut list: Vec<u16> = (0..room.1 as u32).map(|n| (n.wrapping_mul(0x85eb_ca6b) >> 7) as u16).collect();
-    let told = library.fracture(drawing, rule.0, rule.1, &mut table, &mut list);
-    Left { told, table, list }
-}
 
 /// The rings of a drawing whose lengths announce just its corners, each as pairs; none of another.
 fn rings(drawing: &Drawing) -> Option<Vec<Vec<[u16; 2]>>> {
@@ -79,60 +63,90 @@ fn moved(rings: &[Vec<[u16; 2]>]) -> Vec<(Drawing, [i32; 2])> {
     all
 }
 
+/// A figure from a seed, by a rule, and the lengths of what is lent: table and list.
+struct Figure {
+    library: Library,
+    drawing: Drawing,
+    rule: (u32, u32),
+    room: (usize, usize),
+}
+
+impl Figure {
+    /// What a fracture leaves in buffers that are lent with the same contents each time.
+    fn fracture(&self, drawing: &Drawing, (threshold, weight): (u32, u32)) -> Left {
+        let (table, list) = (marks(self.room.0, 0), marks(self.room.1, 0));
+        Left::lend(&table, &list, |table, list| self.library.fracture(drawing, threshold, weight, table, list))
+    }
+
+    /// Redrawn it leaves the same; gives how often it was.
+    fn hold_redrawn(&self, left: &Left, rings: &[Vec<[u16; 2]>], s: &mut Seeded) -> usize {
+        let all = redrawn(rings, s);
+        for other in &all {
+            let said = || format!("{:?} by {:?}, redrawn as {other:?}", self.drawing, self.rule);
+            left.hold("the library", &self.fracture(other, self.rule), &said);
+        }
+        all.len()
+    }
+
+    /// Moved it leaves the same, its shots moved; gives how often it was.
+    fn hold_moved(&self, left: &Left, rings: &[Vec<[u16; 2]>]) -> usize {
+        let all = moved(rings);
+        let written = if left.told.number == 0 { 4 * left.told.numbers[0] as usize } else { 0 };
+        for (other, by) in &all {
+            let mut again = self.fracture(other, self.rule);
+            for (n, place) in again.list.lent()[..written].iter_mut().enumerate() {
+                *place = (*place as i32 - by[n % 2]) as u16;
+            }
+            left.hold("the library", &again, &|| format!("{:?} by {:?}, moved by {by:?}", self.drawing, self.rule));
+        }
+        all.len()
+    }
+
+    /// By a dearer rule no entry and no cost is lower; gives whether that rule was not refused.
+    fn hold_dearer(&self, left: &Left, s: &mut Seeded) -> bool {
+        let (drawing, rule) = (&self.drawing, self.rule);
+        let dearer = (s.within(rule.0 as usize, 1_000) as u32, s.within(rule.1 as usize, 1_000) as u32);
+        let other = self.fracture(drawing, dearer);
+        if other.told.number == 0 {
+            assert!(left.told.numbers[1] <= other.told.numbers[1], "{drawing:?}: {rule:?} costs more than {dearer:?}");
+            let mut entries = left.table.held().iter().zip(other.table.held());
+            assert!(entries.all(|(entry, by_dearer)| entry <= by_dearer), "{drawing:?}: an entry by {dearer:?} is lower");
+        }
+        other.told.number == 0
+    }
+}
+
+fn any_drawing(s: &mut Seeded, turn: usize) -> Drawing {
+    let (outline, figure) = (s.below(outlines::SORTS.len()), s.below(figures::SORTS.len()));
+    match turn % 8 {
+        0 => figures::bad(s),
+        1 | 2 | 3 => outlines::of_sort(s, outline),
+        _ => figures::of_sort(s, figure),
+    }
+}
+
 pub fn figures(plan: &Plan, progress: &Progress) {
     let Some(library) = plan.library else { return };
-    let (next, total) = (AtomicUsize::new(0), plan.outlines / 20);
-    let (accepted, redrawings, moves, pairs) = (AtomicUsize::new(0), AtomicUsize::new(0), AtomicUsize::new(0), AtomicUsize::new(0));
-    std::thread::scope(|scope| {
-        for _ in 0..plan.threads {
-            scope.spawn(|| loop {
-                let turn = next.fetch_add(1, Ordering::Relaxed);
-                if turn >= total {
-                    break;
-                }
-                let mut s = Seeded::new(plan.seed << 32 | 0x5a3e << 16 | turn as u64);
-                let (outline, figure) = (s.below(outlines::SORTS.len()), s.below(figures::SORTS.len()));
-                let drawing = match turn % 8 {
-                    0 => figures::bad(&mut s),
-                    1 | 2 | 3 => outlines::of_sort(&mut s, outline),
-                    _ => figures::of_sort(&mut s, figure),
-                };
-                let Some(rings) = rings(&drawing) else { continue };
-                let rule = outlines::rule(&mut s, &drawing);
-                let room = (s.pick(&[14_400, 14_400, 14_400, 100]), s.pick(&[900, 900, 900, 15]));
-                let left = fracture(library, &drawing, rule, room);
-                for other in redrawn(&rings, &mut s) {
-                    let again = fracture(library, &other, rule, room);
-                    assert!(again == left, "{drawing:?} by {rule:?}, redrawn as {other:?}: {:?} and not {:?}", again.told, left.told);
-                    redrawings.fetch_add(1, Ordering::Relaxed);
-                }
-                for (other, by) in moved(&rings) {
-                    let mut again = fracture(library, &other, rule, room);
-                    if left.told.number == 0 {
-                        for (n, place) in again.list[..4 * left.told.numbers[0] as usize].iter_mut().enumerate() {
-                            *place = (*place as i32 - by[n % 2]) as u16;
-                        }
-                    }
-                    assert!(again == left, "{drawing:?} by {rule:?}, moved by {by:?}: {:?} and not {:?}", again.told, left.told);
-                    moves.fetch_add(1, Ordering::Relaxed);
-                }
-                if left.told.number == 0 {
-                    accepted.fetch_add(1, Ordering::Relaxed);
-                    let dearer = (s.within(rule.0 as usize, 1_000) as u32, s.within(rule.1 as usize, 1_000) as u32);
-                    let other = fracture(library, &drawing, dearer, room);
-                    if other.told.number == 0 {
-                        assert!(left.told.numbers[1] <= other.told.numbers[1], "{drawing:?}: {rule:?} costs more than {dearer:?}");
-                        assert!(left.table.iter().zip(&other.table).all(|(a, b)| a <= b), "{drawing:?}: an entry by {dearer:?} is lower");
-                        pairs.fetch_add(1, Ordering::Relaxed);
-                    }
-                }
-                progress.same_many(1);
-                progress.at("figures drawn otherwise", turn, total);
-            });
+    let total = plan.outlines / 20;
+    let [accepted, redrawings, moves, pairs] = [0; 4].map(AtomicUsize::new);
+    let add = |count: &AtomicUsize, more: usize| count.fetch_add(more, Ordering::Relaxed);
+    plan.turns("figures drawn otherwise", total, progress, |turn| {
+        let mut s = Seeded::new(plan.seed << 32 | 0x5a3e << 16 | turn as u64);
+        let drawing = any_drawing(&mut s, turn);
+        let Some(rings) = rings(&drawing) else { return };
+        let rule = outlines::rule(&mut s, &drawing);
+        let room = (s.pick(&[14_400, 14_400, 14_400, 100]), s.pick(&[900, 900, 900, 15]));
+        let figure = Figure { library, drawing, rule, room };
+        let left = figure.fracture(&figure.drawing, rule);
+        add(&redrawings, figure.hold_redrawn(&left, &rings, &mut s));
+        add(&moves, figure.hold_moved(&left, &rings));
+        if left.told.number == 0 {
+            add(&accepted, 1);
+            add(&pairs, figure.hold_dearer(&left, &mut s) as usize);
         }
+        progress.same();
     });
-    let of = |n: AtomicUsize| n.into_inner();
-    let (accepted, redrawings, moves, pairs) = (of(accepted), of(redrawings), of(moves), of(pairs));
+    let [accepted, redrawings, moves, pairs] = [accepted, redrawings, moves, pairs].map(AtomicUsize::into_inner);
     assert!(total < 1_000 || (accepted > total / 4 && accepted < total && pairs > total / 8), "figures of one sort alone");
     progress.done(format!(
         "same drawing, same shots: {total} figures from seeds, {accepted} accepted; {redrawings} times redrawn, {moves} times moved, {pairs} times by a dearer rule"

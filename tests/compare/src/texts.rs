@@ -1,47 +1,28 @@
 //! CIF texts compared: Item 12's rows, texts damaged at every byte and cut at every length, buffers and lists
 //! of every length around the limit, lists from seeds and the lists of fractures; each with canaries.
 
-use crate::progress::Progress;
-use crate::room::{Element, Room};
-use crate::Plan;
+use crate::fractures::fractured;
+use crate::progress::{Progress, Tally};
+use crate::room::{lend_both, marks};
+use crate::{Library, Plan};
 use drawings::seeded::Seeded;
-use drawings::{figures, outlines, shots, texts};
-use law::{Calls, Law, Told};
-use std::sync::atomic::{AtomicUsize, Ordering};
-
-type Library = &'static (dyn Calls + Sync);
+use drawings::{shots, texts};
+use law::Told;
 
 const L: [u16; 8] = [0, 0, 60, 80, 60, 0, 100, 20];
 
-fn same<T: Element>(right: (Told, Room<T>), told: (Told, Room<T>), said: impl Fn() -> String) -> (Told, Room<T>) {
-    assert!(told.0 == right.0, "{}: {:?} and not {:?}", said(), told.0, right.0);
-    if let Some((at, right, left)) = right.1.differs(&told.1) {
-        panic!("{} left {left:?}, not {right:?}, at {at}", said());
-    }
-    told
-}
-
 /// Writes a list to a buffer of so many bytes, and gives the answer and the text.
 fn write(library: Library, list: &[u16], room: usize, seed: u64, progress: &Progress) -> (Told, Vec<u8>) {
-    let held: Vec<u8> = (0..room).map(|n| (n as u64 ^ seed).wrapping_mul(0x9e37_79b9_7f4a_7c15) as u8).collect();
-    let call = |calls: &dyn Calls| {
-        let mut out = Room::new(&held);
-        (calls.cif_write(list, out.lent()), out)
-    };
-    let (told, out) = same(call(&Law), call(library), || format!("writing {list:?} to {room} bytes"));
+    let said = || format!("writing {list:?} to {room} bytes");
+    let (told, out) = lend_both(library, &marks(room, seed), &said, |calls, out| calls.cif_write(list, out));
     progress.same();
     (told, out.held()[..told.numbers[0] as usize].to_vec())
 }
 
 /// Reads a text to a list of so many numbers, and gives the answer and the shots.
 fn read(library: Library, text: &[u8], room: usize, seed: u64, progress: &Progress) -> (Told, Vec<u16>) {
-    let held: Vec<u16> = (0..room).map(|n| (n as u64 ^ seed).wrapping_mul(0x9e37_79b9_7f4a_7c15) as u16).collect();
-    let call = |calls: &dyn Calls| {
-        let mut list = Room::new(&held);
-        (calls.cif_read(text, list.lent()), list)
-    };
     let said = || format!("reading {:?} to {room} numbers", String::from_utf8_lossy(text));
-    let (told, list) = same(call(&Law), call(library), said);
+    let (told, list) = lend_both(library, &marks(room, seed), &said, |calls, list| calls.cif_read(text, list));
     progress.same();
     (told, list.held()[..4 * told.numbers[0] as usize].to_vec())
 }
@@ -176,64 +157,33 @@ pub fn longest(plan: &Plan, progress: &Progress) {
 /// Lists from seeds, and the lists of fractures, written and read back; then their texts damaged.
 pub fn lists(plan: &Plan, progress: &Progress) {
     let Some(library) = plan.library else { return };
-    let (next, total) = (AtomicUsize::new(0), plan.jobs);
-    let counts: Vec<AtomicUsize> = (0..23).map(|_| AtomicUsize::new(0)).collect();
-    std::thread::scope(|scope| {
-        for _ in 0..plan.threads {
-            scope.spawn(|| loop {
-                let turn = next.fetch_add(1, Ordering::Relaxed);
-                if turn >= total {
-                    break;
-                }
-                let mut s = Seeded::new(plan.seed << 32 | 0xc1f0 << 16 | turn as u64);
-                let list = if turn % 8 == 0 { fractured(&mut s, library) } else { shots::any(&mut s) };
-                for number in written(library, &mut s, &list, turn as u64, progress) {
-                    counts[number as usize].fetch_add(1, Ordering::Relaxed);
-                }
-                progress.at("CIF texts", turn, total);
-            });
-        }
+    let total = plan.jobs;
+    let tally = Tally::new();
+    plan.turns("CIF texts", total, progress, |turn| {
+        let mut s = Seeded::new(plan.seed << 32 | 0xc1f0 << 16 | turn as u64);
+        let list = if turn % 8 == 0 { fractured(&mut s, library) } else { shots::any(&mut s) };
+        written(library, &mut s, &list, turn as u64, &tally, progress);
     });
-    let count = |n: usize| counts[n].load(Ordering::Relaxed);
-    for number in [0, 14, 21, 22] {
-        assert!(total < 10_000 || count(number) > 0, "no call answered {number}");
-    }
-    progress.done(format!(
-        "CIF: {total} lists from seeds, their texts read back and damaged; 0: {}, 14: {}, 21: {}, 22: {}",
-        count(0),
-        count(14),
-        count(21),
-        count(22)
-    ));
+    tally.all_shown(&[0, 14, 21, 22], total >= 10_000);
+    progress.done(format!("CIF: {total} lists from seeds, their texts read back and damaged; answers by number {tally}"));
 }
 
-/// One list: written with room around the limit, read back, and read damaged. Gives the numbers told.
-fn written(library: Library, s: &mut Seeded, list: &[u16], seed: u64, progress: &Progress) -> Vec<u32> {
+/// One list: written with room around the limit, read back, and read damaged.
+fn written(library: Library, s: &mut Seeded, list: &[u16], seed: u64, tally: &Tally, progress: &Progress) {
     let bytes = if law::cif::bad_shots(list) { 40 } else { law::cif::text(list).len() };
     let few = s.below(bytes + 1);
     let room = s.pick(&[bytes, bytes, bytes - 1, bytes + 1, 6_553.max(bytes), few]);
     let (told, text) = write(library, list, room, seed, progress);
-    let mut numbers = vec![told.number];
+    tally.told(told.number);
     if told.number != 0 {
-        return numbers;
+        return;
     }
     let few = s.below(list.len() + 1);
     let room = s.pick(&[list.len(), list.len(), list.len() + 1, list.len() + 9, few]);
     let (told, back) = read(library, &text, room, seed, progress);
     assert!(told.number == 14 || back == list, "{list:?} was read back as {back:?}");
-    numbers.push(told.number);
+    tally.told(told.number);
     let way = s.below(texts::DAMAGES);
     let spoilt = texts::damaged(s, &text, way);
-    numbers.push(read(library, &spoilt, room, seed, progress).0.number);
-    numbers
-}
-
-/// The shots of a figure, as the library fractures it.
-fn fractured(s: &mut Seeded, library: Library) -> Vec<u16> {
-    let (outline, figure) = (s.below(outlines::SORTS.len()), s.below(figures::SORTS.len()));
-    let drawing = if s.once_in(2) { outlines::of_sort(s, outline) } else { figures::of_sort(s, figure) };
-    let mut list = vec![0; 900];
-    let told = library.fracture(&drawing, 25, 40, &mut [0; 14_400], &mut list);
-    list.truncate(if told.number == 0 { 4 * told.numbers[0] as usize } else { 0 });
-    list
+    tally.told(read(library, &spoilt, room, seed, progress).0.number);
 }

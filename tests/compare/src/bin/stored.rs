@@ -121,7 +121,7 @@ fn worked(name: &str) -> Option<&'static str> {
         "worked" => Some(PRINTED),
         "frame-with-a-window" | "window-and-frame" => Some(FRAMED_PRINTED),
         "frame-with-a-window-at-40" => Some(FRAMED_PRINTED_AT_40),
-        // one shot of 20 by 10, below 25 both ways: 10 + 10 + 20 + 20 nm of sliver
+        // one shot of 20 by 10, below 25 both ways: such a fleck is charged once, on its longer sides, 20 + 20 nm of sliver
         "touching-squares" => Some("job 1\noutline 0 shots 1 cost 2600 sliver 40\n0 0 20 10\n"),
         // Item 5: the byte at fault
         "empty-refused-8" => Some("job refused 8 at 0\n"),
