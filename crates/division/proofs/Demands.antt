@@ -27,7 +27,7 @@
 --   shots-most, cost-most == at most 116,964 shots and a cost of 2,214,084,000: both fit 32 bits
 use Prim.Native.Nat.{ℕ, suc, _+_, _*_, _≤_, _<_}
 use mathlib.Core.Path.{_≡_, refl, sym, _∙_, ap, subst}
-use mathlib.Core.Bool.{Bool, true}
+use mathlib.Core.Bool.{Bool, true, false}
 use mathlib.Core.Logic.{_⊎_, inl, inr}
 use mathlib.Core.List.{List, [], _∷_, map, List·Memᴰ as Member}
 use native.Mathlib.Omega.{arith}
