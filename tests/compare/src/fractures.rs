@@ -52,12 +52,11 @@ impl Case<'_> {
         format!("{}\n  {:?}\n  rule {:?}, table {}, list {}", from(), self.drawing, self.rule, self.table.len(), self.list.len())
     }
 
-    /// Holds baselines to what is right. They count no cuts: those of the right answer are taken.
+    /// Holds baselines to what is right: answer, cuts, table and list.
     fn hold_baselines(&self, baselines: &[(&str, Baseline)], right: &Left, progress: &Progress, from: &dyn Fn() -> String) {
         let (threshold, weight) = self.rule.unwrap_or(law::call::DEFAULT);
         for (name, baseline) in baselines {
-            let mut its = Left::lend(self.table, self.list, |table, list| baseline(self.drawing, threshold, weight, table, list));
-            its.told.numbers[3] = right.told.numbers[3];
+            let its = Left::lend(self.table, self.list, |table, list| baseline(self.drawing, threshold, weight, table, list));
             right.hold(name, &its, &|| self.said(from));
             progress.same();
         }

@@ -10,29 +10,29 @@ use law::joining::Joined;
 use law::{Calls, Drawing, Told};
 
 type Fractures = unsafe extern "C" fn(
-    *const u16, usize, *const u16, usize, u32, u32, *mut u32, usize, *mut u16, usize, *mut u32, *mut u32, *mut u32,
+    *const u16, usize, *const u16, usize, u32, u32, *mut u32, usize, *mut u16, usize, *mut u32, *mut u32, *mut u32, *mut u32,
 ) -> u32;
 
 extern "C" {
     fn baseline_fracture(
         corners: *const u16, corners_len: usize, rings: *const u16, rings_len: usize, threshold: u32, weight: u32,
         table: *mut u32, table_len: usize, list: *mut u16, list_len: usize,
-        shots: *mut u32, cost: *mut u32, sliver: *mut u32,
+        shots: *mut u32, cost: *mut u32, sliver: *mut u32, cuts: *mut u32,
     ) -> u32;
     fn baseline_rows_fracture(
         corners: *const u16, corners_len: usize, rings: *const u16, rings_len: usize, threshold: u32, weight: u32,
         table: *mut u32, table_len: usize, list: *mut u16, list_len: usize,
-        shots: *mut u32, cost: *mut u32, sliver: *mut u32,
+        shots: *mut u32, cost: *mut u32, sliver: *mut u32, cuts: *mut u32,
     ) -> u32;
     fn baseline_wheels_fracture(
         corners: *const u16, corners_len: usize, rings: *const u16, rings_len: usize, threshold: u32, weight: u32,
         table: *mut u32, table_len: usize, list: *mut u16, list_len: usize,
-        shots: *mut u32, cost: *mut u32, sliver: *mut u32,
+        shots: *mut u32, cost: *mut u32, sliver: *mut u32, cuts: *mut u32,
     ) -> u32;
     fn baseline_widths_fracture(
         corners: *const u16, corners_len: usize, rings: *const u16, rings_len: usize, threshold: u32, weight: u32,
         table: *mut u32, table_len: usize, list: *mut u16, list_len: usize,
-        shots: *mut u32, cost: *mut u32, sliver: *mut u32,
+        shots: *mut u32, cost: *mut u32, sliver: *mut u32, cuts: *mut u32,
     ) -> u32;
 }
 
@@ -141,17 +141,17 @@ fn signed(number: i32) -> u64 {
 fn fracture_by(
     call: Fractures, drawing: &Drawing, threshold: u32, weight: u32, table: &mut [u32], list: &mut [u16],
 ) -> Told {
-    let (mut shots, mut cost, mut sliver) = (MARK, MARK, MARK);
+    let (mut shots, mut cost, mut sliver, mut cuts) = (MARK, MARK, MARK, MARK);
     // The slices are valid for their lengths, and exclusive where they are written.
     let number = unsafe {
         call(
             drawing.corners.as_ptr(), drawing.corners.len(), drawing.rings.as_ptr(), drawing.rings.len(),
             threshold, weight,
             table.as_mut_ptr(), table.len(), list.as_mut_ptr(), list.len(),
-            &mut shots, &mut cost, &mut sliver,
+            &mut shots, &mut cost, &mut sliver, &mut cuts,
         )
     };
-    Told::of(number, &[shots as u64, cost as u64, sliver as u64])
+    Told::of(number, &[shots as u64, cost as u64, sliver as u64, cuts as u64])
 }
 
 /// One fracture by the baseline that weighs horizontal cuts from each settled piece on.
