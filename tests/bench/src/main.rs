@@ -3,8 +3,8 @@
 //!     bench [--rounds N]
 //!
 //! The library and the three C++ baselines (see baseline/baseline.cpp: by rows, by heights, by widths)
-//! take turns, round by round, on the same drawings and in the same buffers; the best round of each
-//! counts. The last column is the library's time over that of the fastest baseline on that line.
+//! take turns, round by round (400 of a millisecond), on the same drawings and in the same buffers; the best
+//! round of each counts. Pinwheels and jobs have a tenth of the rounds. The last column is the library's time over that of the fastest baseline on that line.
 //! Table (14,400 entries) and list (900 numbers) are lent whole and not cleared between calls: each
 //! call finds what the last one left. Every call is whole: checks, grid, fill, emission.
 
@@ -30,13 +30,14 @@ fn round(drawings: &[Drawing], fracture: Fracture, table: &mut [u32], list: &mut
     start.elapsed().as_secs_f64() * 1e9 / (turns * drawings.len()) as f64
 }
 
-/// So many turns that a round takes some ten milliseconds.
+/// So many turns that a round takes about a millisecond: short enough to fit between two turns of whatever else a shared machine
+/// does, so that the best of many rounds is one that nothing disturbed.
 fn turns(drawings: &[Drawing], fracture: Fracture, table: &mut [u32], list: &mut [u16]) -> usize {
     let mut turns = 1;
     loop {
         let took = round(drawings, fracture, table, list, turns) * (turns * drawings.len()) as f64;
-        if took > 5e6 {
-            return (turns as f64 * 1e7 / took).ceil() as usize;
+        if took > 5e5 {
+            return (turns as f64 * 1e6 / took).ceil() as usize;
         }
         turns *= 4;
     }
@@ -121,7 +122,7 @@ fn main() {
     let words: Vec<String> = std::env::args().collect();
     let rounds = match words.get(1).map(String::as_str) {
         Some("--rounds") => words[2].parse().unwrap(),
-        _ => 40,
+        _ => 400,
     };
     let lines = lines();
     let library = lent::library();
@@ -158,6 +159,8 @@ fn main() {
         Some(library) => library,
         None => &Law,
     };
+    // what follows takes longer for each round
+    let rounds = rounds.div_ceil(10);
     by_pinwheels(calls, who, rounds);
     println!("\n| Job, by the {who} | bytes | outlines | ns |\n|---|---:|---:|---:|");
     let mut rings = [0; 8];
