@@ -101,7 +101,7 @@ fn load() -> String {
 /// The same by pinwheels, beside the C++ baseline that weighs them in the same way.
 fn by_pinwheels(calls: &dyn Calls, who: &str, rounds: usize) {
     let ours: Fracture = &|drawing, table, list| calls.fracture_pinwheel(drawing, 25, 40, table, list);
-    let wheels: Fracture = &|drawing, table, list| lent::baseline_wheels(drawing, 25, 40, table, list);
+    let wheels: Fracture = &|drawing, table, list| baseline::baseline_wheels(drawing, 25, 40, table, list);
     println!("\n| By pinwheels | {who} | C++ by pinwheels | to it |\n|---|---:|---:|---:|");
     let (mut table, mut list) = (vec![0u32; 14_400], vec![0u16; 900]);
     for line in &wheel_lines() {
@@ -125,14 +125,14 @@ fn main() {
         _ => 400,
     };
     let lines = lines();
-    let library = lent::library();
+    let library = library::library();
     let ours: Fracture = &|drawing, table, list| match library {
         Some(library) => library.fracture(drawing, 25, 40, table, list),
         None => Law.fracture(drawing, 25, 40, table, list),
     };
-    let heights: Fracture = &|drawing, table, list| lent::baseline(drawing, 25, 40, table, list);
-    let rows: Fracture = &|drawing, table, list| lent::baseline_rows(drawing, 25, 40, table, list);
-    let widths: Fracture = &|drawing, table, list| lent::baseline_widths(drawing, 25, 40, table, list);
+    let heights: Fracture = &|drawing, table, list| baseline::baseline(drawing, 25, 40, table, list);
+    let rows: Fracture = &|drawing, table, list| baseline::baseline_rows(drawing, 25, 40, table, list);
+    let widths: Fracture = &|drawing, table, list| baseline::baseline_widths(drawing, 25, 40, table, list);
     let who = if library.is_some() { "library" } else { "plain Rust" };
     println!("ns per fracture, whole call, rule 25, 40; best of {rounds} rounds in turn; buffers not cleared between calls");
     println!("machine: {}, load before {}", std::env::consts::ARCH, load());

@@ -16,16 +16,16 @@ use law::{Calls, Drawing, Law, Told};
 use std::collections::HashMap;
 use std::sync::atomic::{AtomicUsize, Ordering};
 
-/// A baseline of lent: drawing, threshold, weight, table, list.
+/// A baseline: drawing, threshold, weight, table, list.
 type Baseline = fn(&Drawing, u32, u32, &mut [u32], &mut [u16]) -> Told;
 
 /// The baselines by straight cuts, and the one by pinwheels.
 const STRAIGHT: [(&str, Baseline); 3] = [
-    ("the baseline by heights", lent::baseline),
-    ("the baseline by rows", lent::baseline_rows),
-    ("the baseline by widths", lent::baseline_widths),
+    ("the baseline by heights", baseline::baseline),
+    ("the baseline by rows", baseline::baseline_rows),
+    ("the baseline by widths", baseline::baseline_widths),
 ];
-const PINWHEEL: [(&str, Baseline); 1] = [("the baseline by pinwheels", lent::baseline_wheels)];
+const PINWHEEL: [(&str, Baseline); 1] = [("the baseline by pinwheels", baseline::baseline_wheels)];
 
 /// One fracture to compare: the drawing, the rule (none: the default), what is lent.
 pub struct Case<'a> {

@@ -75,7 +75,7 @@ fn plan() -> Plan {
         seed: 1,
         threads: std::thread::available_parallelism().map_or(1, |n| n.get()),
         record: None,
-        library: lent::library(),
+        library: library::library(),
     };
     let mut without = false;
     let mut words = std::env::args().skip(1);
@@ -91,7 +91,7 @@ fn plan() -> Plan {
             _ => panic!("unknown word {word}"),
         }
     }
-    assert!(without || plan.library.is_some(), "the library is not linked (PINAREWHEMI_ARCHIVE)");
+    assert!(without || plan.library.is_some(), "the library is not linked (PINAREWHEMI_PACKAGE)");
     if without {
         plan.library = None;
     }

@@ -52,9 +52,9 @@ fn numbers(drawing: &Drawing) -> String {
 fn main() {
     let words: Vec<String> = std::env::args().skip(1).collect();
     let words: Vec<&str> = words.iter().map(String::as_str).collect();
-    let library = lent::library().expect("the library is not linked (PINAREWHEMI_ARCHIVE)");
+    let library = library::library().expect("the library is not linked (PINAREWHEMI_PACKAGE)");
     let ours: Fracture = &|drawing, table, list| library.fracture(drawing, 25, 40, table, list);
-    let widths: Fracture = &|drawing, table, list| lent::baseline_widths(drawing, 25, 40, table, list);
+    let widths: Fracture = &|drawing, table, list| baseline::baseline_widths(drawing, 25, 40, table, list);
     let mut lent = Buffers { table: vec![0; 14_400], list: vec![0; 900] };
     for (name, drawing) in &bench::guarded() {
         match words[..] {

@@ -24,7 +24,7 @@ fn square(columns: usize, rows: usize, margin: u16) -> Vec<[u16; 4]> {
 }
 
 fn main() {
-    let library = lent::library().expect("the library is not linked (PINAREWHEMI_ARCHIVE)");
+    let library = library::library().expect("the library is not linked (PINAREWHEMI_PACKAGE)");
     let mut shuffled = square(328, 328, 0);
     Seeded::new(1).shuffle(&mut shuffled);
     let lists = [

@@ -60,7 +60,7 @@ fn lists(library: Library) -> Vec<(String, Vec<u16>)> {
 
 fn main() {
     let folder = std::env::args().nth(1).expect("texts DIR");
-    let library = lent::library().expect("the library is not linked (PINAREWHEMI_ARCHIVE)");
+    let library = library::library().expect("the library is not linked (PINAREWHEMI_PACKAGE)");
     std::fs::create_dir_all(&folder).unwrap();
     for (name, list) in lists(library) {
         let name = name.replace(", ", "-").replace(' ', "-");

@@ -1,5 +1,4 @@
-//! Compiles the C++ baselines with g++ -O3, and links the archive of the proved library where
-//! PINAREWHEMI_ARCHIVE names it.
+//! Compiles the C++ baselines with g++ -O3.
 
 use std::env;
 use std::path::{Path, PathBuf};
@@ -12,7 +11,7 @@ fn run(command: &mut Command) {
 
 fn main() {
     let out = PathBuf::from(env::var("OUT_DIR").unwrap());
-    let source = Path::new("../baseline/baseline.cpp");
+    let source = Path::new("baseline.cpp");
     println!("cargo:rerun-if-changed={}", source.display());
     println!("cargo:rerun-if-changed=build.rs");
     let (object, archive) = (out.join("baseline.o"), out.join("libbaseline.a"));
@@ -25,14 +24,4 @@ fn main() {
     run(Command::new("ar").arg("crs").arg(&archive).arg(&object));
     println!("cargo:rustc-link-search=native={}", out.display());
     println!("cargo:rustc-link-lib=static=baseline");
-
-    println!("cargo:rustc-check-cfg=cfg(archive)");
-    println!("cargo:rerun-if-env-changed=PINAREWHEMI_ARCHIVE");
-    if let Ok(library) = env::var("PINAREWHEMI_ARCHIVE") {
-        let library = PathBuf::from(library);
-        println!("cargo:rerun-if-changed={}", library.display());
-        println!("cargo:rustc-link-search=native={}", library.parent().unwrap().display());
-        println!("cargo:rustc-link-lib=static=capi");
-        println!("cargo:rustc-cfg=archive");
-    }
 }
