@@ -120,7 +120,7 @@ fn by_pinwheels(calls: &dyn Calls, who: &str, rounds: usize) {
 
 fn main() {
     let words: Vec<String> = std::env::args().collect();
-    let rounds = match words.get(1).map(String::as_str) {
+    let rounds: usize = match words.get(1).map(String::as_str) {
         Some("--rounds") => words[2].parse().unwrap(),
         _ => 400,
     };
