@@ -3,10 +3,12 @@ writing included on both sides. A row of the table each, to be run one by one:
 
     PYTHONPATH=layer:bindings/python /usr/bin/python3 layer/tests/measure.py [--figures 10000,100000,1000000] [--runs N] ROW ..
 
-Without a ROW it names them; `all` is every one. Printed is a line of a Markdown table for each row and number of figures;
-with --runs the fastest of so many runs counts. Every road is a process of its own, and so is the making of its layer:
-this one stays small. Memory is the peak (VmHWM) of the largest process; where there are several, in brackets how many
-and the sum of their peaks, in which pages that they share count more than once.
+Without a ROW it names them; `all` is every one. Printed is a line of a Markdown table for each row and number of figures.
+Both sides run in turn, so often as --runs says (else twice), and the fastest run of each counts; beside the seconds of
+the clock stand those of the processors, which other work on the machine changes less, and the load when the row was done.
+Every road is a process of its own, and so is the making of its layer: this one stays small. Memory is the peak (VmHWM)
+of the largest process; where there are several, in brackets how many and the sum of their peaks, in which pages that
+they share count more than once.
 
 `quality` is the table of docs/LAYER.md: cost, shots and sliver against KLayout's decompositions, figure by figure."""
 
@@ -17,12 +19,13 @@ import subprocess
 import sys
 import tempfile
 import time
+from typing import NamedTuple
 
 HERE = os.path.abspath(__file__)
 COMMAND = os.path.join(os.path.dirname(os.path.dirname(HERE)), "pinarewhemi-layer")
 RULE = 25, 40
 # How often memory is looked at, in seconds.
-LOOK = 0.02
+LOOK = 0.01
 
 
 def database():
@@ -47,13 +50,23 @@ def figure(db, chance):
             return found[0]
 
 
+def new_figure(db, chance, seen):
+    """A figure that was not seen, wherever it stood."""
+    while True:
+        drawn = figure(db, chance)
+        form = drawn.moved(-drawn.bbox().left, -drawn.bbox().bottom)
+        if form not in seen:
+            seen.add(form)
+            return drawn
+
+
 def five_to_a_cell(db, layout, layer, distinct, chance):
-    """Cells with five figures each, 150 nm apart."""
-    cells = []
+    """Cells with five figures each, 150 nm apart, no two of all alike."""
+    cells, seen = [], set()
     for number in range(max(1, distinct // 5)):
         cell = layout.create_cell(f"C{number}")
         for column in range(5):
-            cell.shapes(layer).insert(figure(db, chance).moved(150 * column, 0))
+            cell.shapes(layer).insert(new_figure(db, chance, seen).moved(150 * column, 0))
         cells.append(cell)
     return cells
 
@@ -215,31 +228,62 @@ def look(peaks, processes):
                         peaks[process] = int(line.split()[1]) * 1.024e-3
 
 
+class Measured(NamedTuple):
+    """A run: seconds by the clock, seconds of processors, and the peak of each process in MB, the largest first."""
+
+    seconds: float
+    worked: float
+    peaks: list
+
+
+def worked_by(processes):
+    """The seconds of processors that some processes took so far."""
+    ticks = 0
+    for process in processes:
+        with open(f"/proc/{process}/stat") as file:
+            ticks += sum(map(int, file.read().rpartition(")")[2].split()[11:13]))
+    return ticks / os.sysconf("SC_CLK_TCK")
+
+
 def measured(words, beside=()):
-    """Seconds, and the peak of each process in MB, the largest first: of a run, and of processes that work for it."""
-    peaks = {}
+    """A run, and processes beside it that work for it."""
+    peaks, before = {}, worked_by(beside)
     began = time.monotonic()
     child = subprocess.Popen([sys.executable, *words], stdout=subprocess.DEVNULL)
-    while child.poll() is None:
+    ended = 0
+    while not ended:
         look(peaks, [*below(child.pid), *beside])
-        with contextlib.suppress(subprocess.TimeoutExpired):
-            child.wait(LOOK)
+        time.sleep(LOOK)
+        ended, status, used = os.wait4(child.pid, os.WNOHANG)
     took = time.monotonic() - began
+    child.returncode = os.waitstatus_to_exitcode(status)
     if child.returncode not in (0, 1):
         raise SystemExit(f"{' '.join(words)} ended with {child.returncode}")
-    return took, sorted(peaks.values(), reverse=True)
+    worked = used.ru_utime + used.ru_stime + worked_by(beside) - before
+    # the kernel's own number, of the largest of the command and what it started: looking may have missed the last rise
+    peaks[child.pid] = max(peaks.get(child.pid, 0), used.ru_maxrss * 1.024e-3 if len(peaks) == 1 else 0)
+    return Measured(took, worked, sorted(peaks.values(), reverse=True))
 
 
-def best(words, runs, beside=()):
-    """The fastest of some runs."""
-    return min(measured(words, beside) for _ in range(runs))
+def in_turn(ours, theirs, runs):
+    """Both sides in turn, so often; the fastest run of each. A side is its words, and the processes beside it."""
+    held = [(measured(*ours), measured(*theirs)) for _ in range(runs)]
+    return min(one for one, _ in held), min(other for _, other in held)
 
 
 def megabytes(peaks):
     return f"{peaks[0]:.0f}" + (f" ({len(peaks)}: {sum(peaks):.0f})" if len(peaks) > 1 else "")
 
 
-HEAD = ("figures", "layer", "ours", "against", "ours, s", "theirs, s", "time", "goal", "ours, MB", "theirs, MB", "memory", "goal")
+HEAD = (
+    "figures", "layer", "ours", "against", "ours, s", "theirs, s", "time", "goal", "processors",
+    "ours, MB", "theirs, MB", "memory", "goal", "load",
+)
+
+
+def load():
+    """How many processes wanted a processor in the last minute, ours among them."""
+    return f"{os.getloadavg()[0]:.1f}"
 
 
 def print_row(*words):
@@ -263,18 +307,18 @@ class Row:
         given, out = os.path.join(folder, "in.oas"), os.path.join(folder, "out.oas")
         measured([HERE, "make", self.sort, str(count), given])
         command = [COMMAND, given, "--layer", "4/0", "--rule", *map(str, RULE), "--out", out]
+        theirs = [HERE, "road", self.theirs, given, out] if isinstance(self.theirs, str) else [*command, *self.theirs]
         with contextlib.ExitStack() as around:
             ours, beside = list(self.ours), ()
             if "--scheduler" in ours:
                 address, beside = around.enter_context(two_dask_workers(folder))
                 ours.append(address)
-            mine = best([*command, *ours], runs, beside)
-        theirs = [HERE, "road", self.theirs, given, out] if isinstance(self.theirs, str) else [*command, *self.theirs]
-        other = best(theirs, runs)
+            mine, other = in_turn(([*command, *ours], beside), (theirs,), runs)
         print_row(
             f"{count:,}", self.layer, " ".join(self.ours) or "1 worker", self.against,
-            f"{mine[0]:.2f}", f"{other[0]:.2f}", f"{mine[0] / other[0]:.2f}", self.goals[0],
-            megabytes(mine[1]), megabytes(other[1]), f"{mine[1][0] / other[1][0]:.2f}", self.goals[1],
+            f"{mine.seconds:.2f}", f"{other.seconds:.2f}", f"{mine.seconds / other.seconds:.2f}", self.goals[0],
+            f"{mine.worked:.2f}, {other.worked:.2f}",
+            megabytes(mine.peaks), megabytes(other.peaks), f"{mine.peaks[0] / other.peaks[0]:.2f}", self.goals[1], load(),
         )
 
 
@@ -387,7 +431,7 @@ def main(words):
     if words[:1] and words[0] in INSIDE:
         INSIDE[words[0]](*words[1:])
         return
-    counts, runs, rows = None, 1, []
+    counts, runs, rows = None, 2, []
     words = iter(words)
     for word in words:
         if word == "--figures":

@@ -13,7 +13,7 @@ from unittest import mock
 
 import pinarewhemi
 from pinarewhemi_layer import jobs, windows, workers
-from pinarewhemi_layer.core import Told, tally
+from pinarewhemi_layer.core import Told, survey
 
 from . import layers
 from .test_layer import WithFolder, db
@@ -53,7 +53,7 @@ class Windows(WithFolder):
             source = windows.Source("", (), (4, 0), None)
             windows.hold(source, layout, top, index)
             with mock.patch.object(windows, "SHAPES", shapes):
-                planned = windows.plan(db, layout, top, tally(db, layout, top), index)
+                planned = windows.plan(db, layout, top, survey(db, layout, top)[0], index)
             self.assertGreater(len(planned), 2)
             pieces = [windows.take((source, window._replace(margin=margin))) for window in planned]
             gathered = windows.gather_windows(db, top, pieces)
