@@ -4,8 +4,8 @@ writing included on both sides. A row of the table each, to be run one by one:
     PYTHONPATH=layer:bindings/python /usr/bin/python3 layer/tests/measure.py [--figures 10000,100000,1000000] [--runs N] ROW ..
 
 Without a ROW it names them; `all` is every one. Printed is a line of a Markdown table for each row and number of figures.
-The sides of all rows over one layer run in turn, as often as --runs says (else twice), and the fastest run of each
-counts; beside the seconds of the clock stand those of the processors and their ratio, which other work on the machine
+The sides of all rows over one layer run in turn, as often as --runs says (else twice), and the fewest seconds of each
+count; beside the seconds of the clock stand those of the processors and their ratio, which other work on the machine
 changes less, and the load when the rows were done.
 Every road is a process of its own, and so is the making of its layer: this one stays small. Memory is the peak (VmHWM)
 of the largest process; where there are several, in brackets how many and the sum of their peaks, in which pages that
@@ -236,6 +236,10 @@ class Measured(NamedTuple):
     worked: float
     peaks: list
 
+    def better(self, other):
+        """The fewest seconds of two runs, by the clock and of processors, and the peaks of the larger one."""
+        return Measured(min(self.seconds, other.seconds), min(self.worked, other.worked), max(self.peaks, other.peaks))
+
 
 def worked_by(processes):
     """The seconds of processors that some processes took so far."""
@@ -320,7 +324,7 @@ def run_side(side, given, out, dask):
 
 
 def run_rows(rows, count, runs, folder):
-    """The rows of one layer: all their sides in turn, so often, and of each the fastest run."""
+    """The rows of one layer: all their sides in turn, so often, and of each the best."""
     given, out = os.path.join(folder, "in.oas"), os.path.join(folder, "out.oas")
     measured([HERE, "make", rows[0].sort, str(count), given])
     sides = dict.fromkeys(side for row in rows for side in (row.ours, row.theirs))
@@ -329,7 +333,7 @@ def run_rows(rows, count, runs, folder):
         for _ in range(runs):
             for side, before in sides.items():
                 one = run_side(side, given, out, dask)
-                sides[side] = min(before or one, one)
+                sides[side] = one.better(before or one)
     for row in rows:
         row.print(count, sides[row.ours], sides[row.theirs])
 
@@ -473,7 +477,7 @@ def quality():
 
     print_quality("Unions of one to five boxes of 8 to 70 nm", 2000, figure)
     print_quality("Figures as layouts have them", 4000, drawn)
-    print_quality("Bars that cross", 4000, crossing)
+    print_quality("Bars that cross", 10000, crossing)
 
 
 # What a process of its own does for another.
