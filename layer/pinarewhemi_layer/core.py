@@ -311,15 +311,17 @@ class Placing:
         shapes = [cell.shapes(layer) for layer in self.layers]
         placed = {form: self.cell_of(form) for form, copies in often.items() if self.worth(form, copies)}
         # one instance for all: a new one each time takes thrice the time
-        instance = self.db.CellInstArray(0, self.db.Trans())
+        trans, insert = self.db.Trans, cell.insert
+        instance = self.db.CellInstArray(0, trans())
         numbers = iter(figures)
         for form, x, y in zip(numbers, numbers, numbers):
-            if form in placed:
-                instance.cell_index = placed[form]
-                instance.trans = self.db.Trans(x, y)
-                cell.insert(instance)
-            else:
+            index = placed.get(form)
+            if index is None:
                 self.draw(form, x, y, *shapes)
+            else:
+                instance.cell_index = index
+                instance.trans = trans(x, y)
+                insert(instance)
 
     def worth(self, form, copies):
         """Whether placing a cell of its shots takes fewer elements than drawing them for each copy."""
