@@ -114,16 +114,15 @@ def runner_of(given):
     return workers.Alone(), 1
 
 
-def gathered_of(db, given, source, layout, top, index, runner, show):
+def gathered_of(db, given, source, layout, top, index, copies, runner, show):
     """The figures of the layer, by the road that suits it or that was asked for."""
     from . import windows
-    from .core import gather, merged, tally
+    from .core import gather, merged
 
-    copies = tally(db, layout, top)
     flat, held = windows.counts(db, layout, copies, index)
     if given.hierarchy or (not given.windows and flat >= windows.LITTLE * held):
         show("merging", 0, 1)
-        return gather(db, layout, top, merged(db, layout, top, index), show)
+        return gather(db, layout, merged(db, layout, top, index, copies), copies, show)
     windows.hold(source, layout, top, index)
     tasks = [(source, window) for window in windows.plan(db, layout, top, copies, index)]
     return windows.gather_windows(db, top, runner.run(windows.take, tasks, stage(show, "windows")))
@@ -153,12 +152,12 @@ def run(given, show):
         if given.keep:
             core.refuse_taken(db, layout, top, layer)
         core.prune(db, layout, top)
-        units = core.prepare(db, layout, top)
+        units, copies = core.prepare(db, layout, top)
     except core.Told as fault:
         raise core.Told(f"{given.file}: {fault}") from None
     runner, workers = runner_of(given)
     try:
-        gathered = gathered_of(db, given, source, layout, top, index, runner, show)
+        gathered = gathered_of(db, given, source, layout, top, index, copies, runner, show)
         shown = stage(show, "distinct")
         answers = jobs.spread_answers(fracturer, gathered.forms, units, parted, workers, runner, given.jobs, shown)
     finally:

@@ -153,29 +153,36 @@ def prune(db, layout, top):
 def prepare(db, layout, top):
     """Makes the layout one in which every figure below the top has its true size: magnified and oddly turned instances
     are shapes, and 1 nm is a whole number of database units, which is given back. What is scaled is the whole layout,
-    since all of it has one unit."""
+    since all of it has one unit. Given back beside it: how often each cell's content is placed below the top."""
     units, scale = units_of(db, layout)
     if scale > 1:
         for box in (cell.bbox() for cell in layout.top_cells()):
             if not box.empty() and scale * max(map(abs, (box.left, box.bottom, box.right, box.top))) > MOST:
                 raise Told(f"with a database unit of {layout.dbu:g} um the layout is too large for whole nm in 32 bits")
-    flatten_complex(db, layout, top)
+    copies, odd = survey(db, layout, top)
+    if odd:
+        flatten_complex(db, layout, top)
+        copies, _ = survey(db, layout, top)
     if scale > 1:
         # not scale_and_snap: that takes one tree, and KLayout (0.28.5) does not undo it
         layout.transform(db.ICplxTrans(float(scale)))
         layout.dbu = 0.001 / units
-    return units
+    return units, copies
 
 
-def tally(db, layout, top):
-    """How often each cell's content is placed below the top, in the order from the top down."""
+def survey(db, layout, top):
+    """How often each cell's content is placed below the top, in the order from the top down, and how many instances are
+    magnified or turned by an odd angle. In one walk, since a chip has many instances."""
     within = {top.cell_index(), *top.called_cells()}
     copies = {index: 0 for index in layout.each_cell_top_down() if index in within}
     copies[top.cell_index()] = 1
-    for index in copies:
+    odd = 0
+    for index, often in copies.items():
         for instance in layout.cell(index).each_inst():
-            copies[instance.cell_index] += copies[index] * instance.cell_inst.size()
-    return copies
+            copies[instance.cell_index] += often * instance.size()
+            if instance.is_complex():
+                odd += 1
+    return copies, odd
 
 
 def merged_once(db, layout, top, layer):
@@ -188,8 +195,10 @@ def merged_once(db, layout, top, layer):
     region = db.Region(top.begin_shapes_rec(layer), store)
     region.min_coherence = True
     region.merge()
-    work = layout.insert_layer(db.LayerInfo())
+    work, cells = layout.insert_layer(db.LayerInfo()), layout.cells()
     layout.insert(top.cell_index(), work, region)
+    if layout.cells() != cells:
+        raise Told("KLayout's merging cell by cell made cells of its own: --windows takes the other road")
     return work
 
 
@@ -205,11 +214,10 @@ def held(db, layout, cells, layer, merge=False):
     return found
 
 
-def merged(db, layout, top, layer):
+def merged(db, layout, top, layer, cells):
     """A working layer with the merged figures. KLayout (0.28.5) leaves, of some figures that it makes up across cells,
     parts behind in the cells below, which would be exposed twice: so where any was made up, what it gave is merged
     again until that changes nothing."""
-    cells = tally(db, layout, top)
     work = merged_once(db, layout, top, layer)
     before = held(db, layout, cells, work)
     if before == held(db, layout, cells, layer, True):
@@ -224,10 +232,11 @@ def merged(db, layout, top, layer):
     raise Told("KLayout's merging cell by cell does not settle on this layer: --windows takes the other road")
 
 
-def gather(db, layout, top, work, show=None):
-    """The distinct figures of a merged layer and where they stand, hierarchy kept. The working layer is gone then."""
+def gather(db, layout, work, copies, show=None):
+    """The distinct figures of a merged layer and where they stand, hierarchy kept: in the cells of which `copies` says
+    how often each is placed. The working layer is gone then."""
     gathered = Gathered()
-    gathered.copies = tally(db, layout, top)
+    gathered.copies = copies
     total = sum(layout.cell(index).shapes(work).size() for index in gathered.copies)
     done = 0
     for index in gathered.copies:
@@ -302,15 +311,17 @@ class Placing:
         shapes = [cell.shapes(layer) for layer in self.layers]
         placed = {form: self.cell_of(form) for form, copies in often.items() if self.worth(form, copies)}
         # one instance for all: a new one each time takes thrice the time
-        instance = self.db.CellInstArray(0, self.db.Trans())
+        trans, insert = self.db.Trans, cell.insert
+        instance = self.db.CellInstArray(0, trans())
         numbers = iter(figures)
         for form, x, y in zip(numbers, numbers, numbers):
-            if form in placed:
-                instance.cell_index = placed[form]
-                instance.trans = self.db.Trans(x, y)
-                cell.insert(instance)
-            else:
+            index = placed.get(form)
+            if index is None:
                 self.draw(form, x, y, *shapes)
+            else:
+                instance.cell_index = index
+                instance.trans = trans(x, y)
+                insert(instance)
 
     def worth(self, form, copies):
         """Whether placing a cell of its shots takes fewer elements than drawing them for each copy."""
@@ -392,8 +403,8 @@ def fracture_layer(
     index = index_of(db, layout, top, layer)
     if keep:
         refuse_taken(db, layout, top, layer)
-    units = prepare(db, layout, top)
-    gathered = gather(db, layout, top, merged(db, layout, top, index), show)
+    units, copies = prepare(db, layout, top)
+    gathered = gather(db, layout, merged(db, layout, top, index, copies), copies, show)
     given = answers(fracturer, gathered.forms, units, beyond, show)
     if not keep:
         drop_layers(db, layout)

@@ -88,7 +88,7 @@ class Fracturer:
                 # a dividing line is not exposed: what is charged are the sides before division
                 whole, _ = self.whole(rings)
             sides = charged_sides(rings, whole, self.threshold)
-            if sum(abs(c - a) + abs(d - b) for a, b, c, d in sides) != sliver:
+            if _length(sides) != sliver:
                 raise AssertionError("the charged sides are not as long as the sliver that the library tells")
         return Answer(None, shots, cost, sliver, cuts, sides)
 
@@ -98,20 +98,26 @@ def _walls(rings):
     upright, level = {}, {}
     for ring in rings:
         x, y = ring[-2], ring[-1]
-        for at in range(0, len(ring), 2):
-            to_x, to_y = ring[at], ring[at + 1]
+        numbers = iter(ring)
+        for to_x, to_y in zip(numbers, numbers):
             if x == to_x:
-                upright.setdefault(x, []).append((min(y, to_y), max(y, to_y)))
+                upright.setdefault(x, []).append((y, to_y) if y < to_y else (to_y, y))
             else:
-                level.setdefault(y, []).append((min(x, to_x), max(x, to_x)))
+                level.setdefault(y, []).append((x, to_x) if x < to_x else (to_x, x))
             x, y = to_x, to_y
     return upright, level
 
 
 def _exposed(stretches, low, high):
     """What of the stretches lies between low and high, in rising order."""
-    found = ((max(low, start), min(high, end)) for start, end in stretches)
-    return sorted((start, end) for start, end in found if start < end)
+    found = [(max(low, start), min(high, end)) for start, end in stretches if start < high and low < end]
+    if len(found) > 1:
+        found.sort()
+    return found
+
+
+def _length(stretches):
+    return sum(c - a + d - b for a, b, c, d in stretches)
 
 
 def charged_sides(rings, shots, threshold):
@@ -119,16 +125,16 @@ def charged_sides(rings, shots, threshold):
     cost"). The figure is merged, so a side of a shot is exposed exactly where an edge of the figure lies on it."""
     upright, level = _walls(rings)
     sides = []
-    for at in range(0, len(shots), 4):
-        left, bottom, right, top = shots[at : at + 4]
+    numbers = iter(shots)
+    for left, bottom, right, top in zip(numbers, numbers, numbers, numbers):
         width, height = right - left, top - bottom
-        if min(width, height) >= threshold:
+        if width >= threshold and height >= threshold:
             continue
-        standing = [(x, a, x, b) for x in (left, right) for a, b in _exposed(upright.get(x, ()), bottom, top)]
-        lying = [(a, y, b, y) for y in (bottom, top) for a, b in _exposed(level.get(y, ()), left, right)]
-        if width == height:
-            longer = max(standing, lying, key=lambda pair: sum(c - a + d - b for a, b, c, d in pair))
-        else:
-            longer = standing if height > width else lying
-        sides += longer
+        standing = lying = ()
+        if height >= width:
+            standing = [(x, a, x, b) for x in (left, right) for a, b in _exposed(upright.get(x, ()), bottom, top)]
+        if width >= height:
+            lying = [(a, y, b, y) for y in (bottom, top) for a, b in _exposed(level.get(y, ()), left, right)]
+        # of a square the pair with more wall is charged, the upright one where both have as much
+        sides += lying if width > height or (width == height and _length(lying) > _length(standing)) else standing
     return tuple(sides)

@@ -3,12 +3,15 @@ writing included on both sides. A row of the table each, to be run one by one:
 
     PYTHONPATH=layer:bindings/python /usr/bin/python3 layer/tests/measure.py [--figures 10000,100000,1000000] [--runs N] ROW ..
 
-Without a ROW it names them; `all` is every one. Printed is a line of a Markdown table for each row and number of figures;
-with --runs the fastest of so many runs counts. Every road is a process of its own, and so is the making of its layer:
-this one stays small. Memory is the peak (VmHWM) of the largest process; where there are several, in brackets how many
-and the sum of their peaks, in which pages that they share count more than once.
+Without a ROW it names them; `all` is every one. Printed is a line of a Markdown table for each row and number of figures.
+The sides of all rows over one layer run in turn, as often as --runs says (else twice), and the fewest seconds of each
+count; beside the seconds of the clock stand those of the processors and their ratio, which other work on the machine
+changes less, and the load when the rows were done.
+Every road is a process of its own, and so is the making of its layer: this one stays small. Memory is the peak (VmHWM)
+of the largest process; where there are several, in brackets how many and the sum of their peaks, in which pages that
+they share count more than once.
 
-`quality` is the table of docs/LAYER.md: cost, shots and sliver against KLayout's decompositions, figure by figure."""
+`quality` is the tables of docs/LAYER.md: cost, shots and sliver against KLayout's decompositions, figure by figure."""
 
 import contextlib
 import os
@@ -17,12 +20,13 @@ import subprocess
 import sys
 import tempfile
 import time
+from typing import NamedTuple
 
 HERE = os.path.abspath(__file__)
 COMMAND = os.path.join(os.path.dirname(os.path.dirname(HERE)), "pinarewhemi-layer")
 RULE = 25, 40
 # How often memory is looked at, in seconds.
-LOOK = 0.02
+LOOK = 0.01
 
 
 def database():
@@ -47,13 +51,23 @@ def figure(db, chance):
             return found[0]
 
 
+def new_figure(db, chance, seen):
+    """A figure that was not seen, wherever it stood."""
+    while True:
+        drawn = figure(db, chance)
+        form = drawn.moved(-drawn.bbox().left, -drawn.bbox().bottom)
+        if form not in seen:
+            seen.add(form)
+            return drawn
+
+
 def five_to_a_cell(db, layout, layer, distinct, chance):
-    """Cells with five figures each, 150 nm apart."""
-    cells = []
+    """Cells with five figures each, 150 nm apart, no two of all alike."""
+    cells, seen = [], set()
     for number in range(max(1, distinct // 5)):
         cell = layout.create_cell(f"C{number}")
         for column in range(5):
-            cell.shapes(layer).insert(figure(db, chance).moved(150 * column, 0))
+            cell.shapes(layer).insert(new_figure(db, chance, seen).moved(150 * column, 0))
         cells.append(cell)
     return cells
 
@@ -215,31 +229,62 @@ def look(peaks, processes):
                         peaks[process] = int(line.split()[1]) * 1.024e-3
 
 
+class Measured(NamedTuple):
+    """A run: seconds by the clock, seconds of processors, and the peak of each process in MB, the largest first."""
+
+    seconds: float
+    worked: float
+    peaks: list
+
+    def better(self, other):
+        """The fewest seconds of two runs, by the clock and of processors, and the peaks of the larger one."""
+        return Measured(min(self.seconds, other.seconds), min(self.worked, other.worked), max(self.peaks, other.peaks))
+
+
+def worked_by(processes):
+    """The seconds of processors that some processes took so far."""
+    ticks = 0
+    for process in processes:
+        with open(f"/proc/{process}/stat") as file:
+            ticks += sum(map(int, file.read().rpartition(")")[2].split()[11:13]))
+    return ticks / os.sysconf("SC_CLK_TCK")
+
+
 def measured(words, beside=()):
-    """Seconds, and the peak of each process in MB, the largest first: of a run, and of processes that work for it."""
-    peaks = {}
+    """A run, and processes beside it that work for it."""
+    peaks, before = {}, worked_by(beside)
     began = time.monotonic()
-    child = subprocess.Popen([sys.executable, *words], stdout=subprocess.DEVNULL)
-    while child.poll() is None:
+    # as users have it: what was compiled once is kept
+    around = {name: value for name, value in os.environ.items() if name != "PYTHONDONTWRITEBYTECODE"}
+    child = subprocess.Popen([sys.executable, *words], stdout=subprocess.DEVNULL, env=around)
+    ended = 0
+    while not ended:
         look(peaks, [*below(child.pid), *beside])
-        with contextlib.suppress(subprocess.TimeoutExpired):
-            child.wait(LOOK)
+        time.sleep(LOOK)
+        ended, status, used = os.wait4(child.pid, os.WNOHANG)
     took = time.monotonic() - began
+    child.returncode = os.waitstatus_to_exitcode(status)
     if child.returncode not in (0, 1):
         raise SystemExit(f"{' '.join(words)} ended with {child.returncode}")
-    return took, sorted(peaks.values(), reverse=True)
-
-
-def best(words, runs, beside=()):
-    """The fastest of some runs."""
-    return min(measured(words, beside) for _ in range(runs))
+    worked = used.ru_utime + used.ru_stime + worked_by(beside) - before
+    # the kernel's own number, of the largest of the command and what it started: looking may have missed the last rise
+    peaks[child.pid] = max(peaks.get(child.pid, 0), used.ru_maxrss * 1.024e-3 if len(peaks) == 1 else 0)
+    return Measured(took, worked, sorted(peaks.values(), reverse=True))
 
 
 def megabytes(peaks):
     return f"{peaks[0]:.0f}" + (f" ({len(peaks)}: {sum(peaks):.0f})" if len(peaks) > 1 else "")
 
 
-HEAD = ("figures", "layer", "ours", "against", "ours, s", "theirs, s", "time", "goal", "ours, MB", "theirs, MB", "memory", "goal")
+HEAD = (
+    "figures", "layer", "ours", "against", "ours, s", "theirs, s", "time", "goal", "of processors, s",
+    "ours, MB", "theirs, MB", "memory", "goal", "load",
+)
+
+
+def load():
+    """How many processes wanted a processor in the last minute, ours among them."""
+    return f"{os.getloadavg()[0]:.1f}"
 
 
 def print_row(*words):
@@ -251,31 +296,48 @@ def print_head(words):
     print("|" + "---|" * len(words), flush=True)
 
 
-class Row:
-    """A row of the table: the sort of its layer, and both sides, each with its words: for ours those of the command,
-    for theirs either, a road of KLayout's alone or the command with other words; and the goals."""
+class Row(NamedTuple):
+    """A row of the table: the sort of its layer and what that is, both sides, what the other one is, and the goals for
+    time and memory. A side is a road of KLayout's alone by its name, or the words of our command beside file and rule."""
 
-    def __init__(self, sort, layer, ours, theirs, against, time_goal, memory_goal="said", figures=None):
-        self.sort, self.layer, self.ours, self.theirs, self.against = sort, layer, ours, theirs, against
-        self.goals, self.figures = (time_goal, memory_goal), figures
+    sort: str
+    layer: str
+    ours: tuple
+    theirs: object
+    against: str
+    time_goal: str
+    memory_goal: str = "said"
 
-    def run(self, count, runs, folder):
-        given, out = os.path.join(folder, "in.oas"), os.path.join(folder, "out.oas")
-        measured([HERE, "make", self.sort, str(count), given])
-        command = [COMMAND, given, "--layer", "4/0", "--rule", *map(str, RULE), "--out", out]
-        with contextlib.ExitStack() as around:
-            ours, beside = list(self.ours), ()
-            if "--scheduler" in ours:
-                address, beside = around.enter_context(two_dask_workers(folder))
-                ours.append(address)
-            mine = best([*command, *ours], runs, beside)
-        theirs = [HERE, "road", self.theirs, given, out] if isinstance(self.theirs, str) else [*command, *self.theirs]
-        other = best(theirs, runs)
+    def print(self, count, mine, other):
         print_row(
             f"{count:,}", self.layer, " ".join(self.ours) or "1 worker", self.against,
-            f"{mine[0]:.2f}", f"{other[0]:.2f}", f"{mine[0] / other[0]:.2f}", self.goals[0],
-            megabytes(mine[1]), megabytes(other[1]), f"{mine[1][0] / other[1][0]:.2f}", self.goals[1],
+            f"{mine.seconds:.2f}", f"{other.seconds:.2f}", f"{mine.seconds / other.seconds:.2f}", self.time_goal,
+            f"{mine.worked:.2f}, {other.worked:.2f}, {mine.worked / other.worked:.2f}",
+            megabytes(mine.peaks), megabytes(other.peaks), f"{mine.peaks[0] / other.peaks[0]:.2f}", self.memory_goal, load(),
         )
+
+
+def run_side(side, given, out, dask):
+    """A run of a side. `dask` is the address of a scheduler and its workers, for the words that ask for one."""
+    if isinstance(side, str):
+        return measured([HERE, "road", side, given, out])
+    words = [COMMAND, given, "--layer", "4/0", "--rule", *map(str, RULE), "--out", out, *side]
+    return measured([*words, dask[0]], dask[1]) if "--scheduler" in side else measured(words)
+
+
+def run_rows(rows, count, runs, folder):
+    """The rows of one layer: all their sides in turn, so often, and of each the best."""
+    given, out = os.path.join(folder, "in.oas"), os.path.join(folder, "out.oas")
+    measured([HERE, "make", rows[0].sort, str(count), given])
+    sides = dict.fromkeys(side for row in rows for side in (row.ours, row.theirs))
+    with contextlib.ExitStack() as around:
+        dask = around.enter_context(two_dask_workers(folder)) if any("--scheduler" in side for side in sides) else None
+        for _ in range(runs):
+            for side, before in sides.items():
+                one = run_side(side, given, out, dask)
+                sides[side] = one.better(before or one)
+    for row in rows:
+        row.print(count, sides[row.ours], sides[row.theirs])
 
 
 @contextlib.contextmanager
@@ -310,12 +372,10 @@ ROWS = {
     "merged": Row("cells", "1,000 distinct, in cells", (), "klayout_merged", MERGED, "1.15", "1.2"),
     "rails": Row("rails", "rails across cells", ("--beyond",), "klayout_deep", DEEP, "0.7", "0.6"),
     "distinct": Row("distinct", "a tenth distinct, in cells", (), "klayout_deep", DEEP, "0.7", "0.6"),
-    "flat": Row("flat", "flat", (), "klayout_tiles", "TilingProcessor, 1 thread", "0.9"),
-    "flat-2": Row("flat", "flat", ("--workers", "2"), "klayout_tiles_2", "TilingProcessor, 2 threads", "0.8"),
+    "flat": Row("flat", "flat", FLAT, "klayout_tiles", "TilingProcessor, 1 thread", "0.9"),
+    "flat-2": Row("flat", "flat", POOL, "klayout_tiles_2", "TilingProcessor, 2 threads", "0.8"),
     "windows": Row("flat", "flat", POOL, FLAT, "1 worker", "0.65"),
-    "pinwheels": Row(
-        "many_lines", "distinct, 12 to 16 lines each way", (*WHEELS, "2"), (*WHEELS, "1"), "1 worker", "0.6", figures=10000
-    ),
+    "pinwheels": Row("many_lines", "distinct, 12 to 16 lines each way", (*WHEELS, "2"), (*WHEELS, "1"), "1 worker", "0.6"),
     "dask": Row("flat", "flat", ("--windows", "--scheduler"), POOL, "a pool of two", "1.15"),
 }
 
@@ -339,44 +399,87 @@ def tiles(count, folder):
 TILES_HEAD = ("figures", "layer", "shots of", "in one piece", "in parts", "more", "in %")
 
 
-def quality(count):
-    """Cost, shots and sliver of our shots and of KLayout's three decompositions, and of the cheapest of these figure by
-    figure; and on how many figures theirs is cheaper."""
+class Weighed(NamedTuple):
+    """Shots of a figure as our rule weighs them."""
+
+    cost: int
+    shots: int
+    sliver: int
+
+
+def weighed(drawn, rings, mode):
+    """One of KLayout's decompositions of a figure, of right angles and so into rectangles."""
+    from pinarewhemi_layer.figures import charged_sides
+
+    boxes = [piece.bbox() for piece in drawn.decompose_trapezoids(mode)]
+    shots = [number for box in boxes for number in (box.left, box.bottom, box.right, box.top)]
+    sliver = sum(c - a + d - b for a, b, c, d in charged_sides(rings, shots, RULE[0]))
+    return Weighed(1000 * len(boxes) + RULE[1] * sliver, len(boxes), sliver)
+
+
+def our_own(rings, fracturer):
+    done = fracturer.answer(rings)
+    return None if done.refused is not None else Weighed(done.cost, len(done.shots) // 4, done.sliver)
+
+
+MODES = "KLayout, simple", "KLayout, horizontal", "KLayout, vertical"
+CHEAPEST, WHEELED = "KLayout, the cheapest of these", "ours, pinwheels too"
+
+
+def compare(count, drawing):
+    """Ours, each of KLayout's decompositions, the cheapest of these figure by figure and our pinwheels: what they are
+    together over some figures, and the figures on which theirs is cheaper than our straight cuts."""
     from pinarewhemi_layer.core import rings_of
-    from pinarewhemi_layer.figures import Fracturer, charged_sides
+    from pinarewhemi_layer.figures import Fracturer
 
-    db = database()
-    chance, fracturer = random.Random(7), Fracturer(*RULE)
-    totals, cheaper, compared = {}, 0, 0
-
-    def add(name, shots, cost, sliver):
-        held = totals.setdefault(name, [0, 0, 0])
-        held[:] = held[0] + shots, held[1] + sliver, held[2] + cost
-
+    db, chance, straight, wheels = database(), random.Random(7), Fracturer(*RULE), Fracturer(*RULE, pinwheels=True)
+    totals, wins, compared = {}, [], 0
     for _ in range(count):
-        drawn = figure(db, chance)
+        drawn = drawing(db, chance)
         drawn = drawn.moved(-drawn.bbox().left, -drawn.bbox().bottom)
         rings = rings_of(drawn)
-        done = fracturer.answer(rings)
-        if done.refused is not None:
+        found = {"ours": our_own(rings, straight)}
+        if found["ours"] is None:
             continue
         compared += 1
-        add("ours", len(done.shots) // 4, done.cost, done.sliver)
-        theirs = []
-        for mode, name in enumerate(("simple", "horizontal", "vertical")):
-            boxes = [piece.bbox() for piece in drawn.decompose_trapezoids(mode)]
-            shots = [n for box in boxes for n in (box.left, box.bottom, box.right, box.top)]
-            sliver = sum(c - a + d - b for a, b, c, d in charged_sides(rings, shots, RULE[0]))
-            theirs.append((1000 * len(boxes) + RULE[1] * sliver, len(boxes), sliver))
-            add(f"KLayout, {name}", len(boxes), theirs[-1][0], sliver)
-        cost, shots, sliver = min(theirs)
-        add("KLayout, the cheapest of these", shots, cost, sliver)
-        cheaper += cost < done.cost
-    print_head(("", "shots", "sliver, nm", "cost", "ours costs less by"))
-    for name, (shots, sliver, cost) in totals.items():
-        less = "" if name == "ours" else f"{100 * (1 - totals['ours'][2] / cost):.1f} %"
-        print_row(name, f"{shots:,}", f"{sliver:,}", f"{cost:,}", less)
-    print(f"\ntheirs is cheaper on {cheaper} of {compared} figures")
+        found.update((name, weighed(drawn, rings, mode)) for mode, name in enumerate(MODES))
+        found[CHEAPEST] = min(found[name] for name in MODES)
+        found[WHEELED] = our_own(rings, wheels)
+        for name, one in found.items():
+            totals[name] = Weighed(*map(sum, zip(one, totals.get(name, (0, 0, 0)))))
+        if found[CHEAPEST].cost < found["ours"].cost:
+            wins.append((sum(map(len, rings)) // 2, len(rings), found))
+    return totals, wins, compared
+
+
+def print_quality(title, count, drawing):
+    """The tables of such a comparison."""
+    totals, wins, compared = compare(count, drawing)
+    print(f"\n{title}: {compared:,} figures\n")
+    print_head(("", "shots", "sliver, nm", "cost", "ours costs less by", "its sliver by"))
+    ours = totals["ours"]
+    for name, (cost, shots, sliver) in totals.items():
+        less = "", ""
+        if name != "ours":
+            less = f"{100 * (1 - ours.cost / cost):.1f} %", f"{100 * (1 - ours.sliver / sliver):.1f} %" if sliver else ""
+        print_row(name, f"{shots:,}", f"{sliver:,}", f"{cost:,}", *less)
+    dearer = sum(found[WHEELED].cost > found[CHEAPEST].cost for _, _, found in wins)
+    print(f"\ntheirs is cheaper on {len(wins)} of {compared:,} figures, on {dearer} of them than our pinwheels too")
+    if wins:
+        print()
+        print_head(("corners", "rings", "ours", "theirs", "ours, pinwheels too"))
+    for corners, rings, found in sorted(wins, key=lambda win: win[2][CHEAPEST].cost - win[2]["ours"].cost)[:10]:
+        shown = (found[name] for name in ("ours", CHEAPEST, WHEELED))
+        print_row(corners, rings, *(f"{one.cost:,} ({one.shots} shots, {one.sliver} nm)" for one in shown))
+
+
+def quality():
+    """The tables of docs/LAYER.md: small random figures, such as layouts have, and bars that cross."""
+    from tests.drawn import crossing, drawn
+
+    print_quality("Unions of one to five boxes of 8 to 70 nm", 2000, figure)
+    print_quality("Figures as layouts have them", 4000, drawn)
+    print_quality("Bars that cross", 10000, crossing)
 
 
 # What a process of its own does for another.
@@ -387,7 +490,7 @@ def main(words):
     if words[:1] and words[0] in INSIDE:
         INSIDE[words[0]](*words[1:])
         return
-    counts, runs, rows = None, 1, []
+    counts, runs, rows = None, 2, []
     words = iter(words)
     for word in words:
         if word == "--figures":
@@ -403,18 +506,17 @@ def main(words):
     with tempfile.TemporaryDirectory() as folder:
         if set(rows) & set(ROWS):
             print_head(HEAD)
-        for name in rows:
-            if name in ROWS:
-                for count in counts or [ROWS[name].figures or 10000]:
-                    ROWS[name].run(count, runs, folder)
+        asked = [ROWS[name] for name in rows if name in ROWS]
+        for count in counts or [10000]:
+            for sort in dict.fromkeys(row.sort for row in asked):
+                run_rows([row for row in asked if row.sort == sort], count, runs, folder)
         if "tiles" in rows:
             print()
             print_head(TILES_HEAD)
             for count in counts or [10000]:
                 tiles(count, folder)
     if "quality" in rows:
-        print()
-        quality(2000)
+        quality()
 
 
 if __name__ == "__main__":

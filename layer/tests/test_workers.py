@@ -13,7 +13,7 @@ from unittest import mock
 
 import pinarewhemi
 from pinarewhemi_layer import jobs, windows, workers
-from pinarewhemi_layer.core import Told, tally
+from pinarewhemi_layer.core import Told, survey
 
 from . import layers
 from .test_layer import WithFolder, db
@@ -53,7 +53,7 @@ class Windows(WithFolder):
             source = windows.Source("", (), (4, 0), None)
             windows.hold(source, layout, top, index)
             with mock.patch.object(windows, "SHAPES", shapes):
-                planned = windows.plan(db, layout, top, tally(db, layout, top), index)
+                planned = windows.plan(db, layout, top, survey(db, layout, top)[0], index)
             self.assertGreater(len(planned), 2)
             pieces = [windows.take((source, window._replace(margin=margin))) for window in planned]
             gathered = windows.gather_windows(db, top, pieces)
@@ -142,6 +142,14 @@ class SameBytes(WithFolder):
         with self.assertRaises(Told):
             list(workers.Pool(2).run(killed_always, [1, 2, 3], lambda *_: None))
 
+    def test_killed_over_a_window(self):
+        """The command, of whose two workers one is killed over a window: the same bytes."""
+        one = self.bytes_of()
+        Killing.marker = self.path("marker")
+        with mock.patch.object(windows, "take", take_killed_once):
+            self.assertEqual(self.bytes_of("--workers", 2), one)
+        self.assertTrue(os.path.exists(Killing.marker), "none was killed")
+
     def test_dask(self):
         """Two workers of dask on the loopback: windows, and bundles of jobs; then one is killed over a task."""
         try:
@@ -213,6 +221,19 @@ def killed_once(task):
         open(marker, "w").close()
         os.kill(os.getpid(), signal.SIGKILL)
     return number
+
+
+class Killing:
+    """What a worker takes, and the file that says that one was killed; a forked worker has both."""
+
+    take, marker = staticmethod(windows.take), None
+
+
+def take_killed_once(task):
+    if not os.path.exists(Killing.marker):
+        open(Killing.marker, "w").close()
+        os.kill(os.getpid(), signal.SIGKILL)
+    return Killing.take(task)
 
 
 def killed_always(_):

@@ -2,11 +2,8 @@
 
 import array
 import ctypes
-import ctypes.util
 import operator
 import os
-import pathlib
-import platform
 
 from ._refused import Refused
 from ._table import CALLS
@@ -115,10 +112,14 @@ def places():
         yield named
         return
     # beside this file; in the package that ./build made in this repository; where the system keeps libraries
-    here = pathlib.Path(__file__).resolve().parent
-    yield str(here / "libpinarewhemi.so")
-    if len(here.parents) > 2:
-        yield str(here.parents[2] / "target" / "package" / platform.machine() / "lib" / "libpinarewhemi.so")
+    here = os.path.dirname(os.path.realpath(__file__))
+    yield os.path.join(here, "libpinarewhemi.so")
+    if here.count(os.sep) > 2:
+        root = os.path.dirname(os.path.dirname(os.path.dirname(here)))
+        yield os.path.join(root, "target", "package", os.uname().machine, "lib", "libpinarewhemi.so")
+    # loaded where it is needed: it takes longer than all the rest
+    import ctypes.util
+
     yield ctypes.util.find_library("pinarewhemi") or "libpinarewhemi.so"
 
 
