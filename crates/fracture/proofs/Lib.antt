@@ -2,3 +2,4 @@ pub mod Demands
 pub mod Delivered
 pub mod Gridded
 pub mod Settled
+pub mod Handed

@@ -5,9 +5,11 @@
 --   Walkable mode ..         == what is lent speaks of some grid and rule in that mode
 --   Laid g m                 == the sound grid g lies in memory as m, and is read back as itself
 --   Fillable m r             == there is such a grid, and the weight of the rule r is within its limit
+--   Sizes t columns rows     == what the answer t tells of the size of a grid
 use Prim.Native.Nat.{ℕ, _*_, _≤_}
 use mathlib.Core.Path.{_≡_}
 use mathlib.Core.Bool.{cond}
+use mathlib.Core.Logic.{_⊎_}
 use mathlib.Core.List.{List}
 use lib.Dec.{ltb}
 use Rattle.outline.specs.Grid.{Grid, Sound, Drawn, Memory, stored}
@@ -17,6 +19,8 @@ use Rattle.piece.specs.declared.Mode.{Mode}
 use Rattle.table.specs.Entry.{pairCount}
 use Rattle.verdict.specs.declared.Plan.{Plan}
 use Rattle.emission.specs.Emission.{Walk}
+use Rattle.fracture.specs.declared.pinwheel.Turns.{Turns}
+use Rattle.fracture.specs.declared.pinwheel.Turns.the-variants.{None, Few, Wide, High}
 use Rattle.fracture.specs.declared.delivery.Room.{Room}
 use Rattle.fracture.specs.declared.delivery.Room.the-variants.{Enough, Short}
 
@@ -46,3 +50,9 @@ pub record Fillable (m : Memory) (r : Rule) : Type 0 where
   pub grid : Grid
   pub laid : Laid grid m
   pub weight : r .weight ≤ limit
+
+abbrev pub Sizes : Turns → ℕ → ℕ → Type 0
+Sizes None columns rows = (columns ≤ 2) ⊎ (rows ≤ 2)
+Sizes Few columns rows = (columns ≤ 5) × (rows ≤ 5)
+Sizes Wide columns rows = Unit {0}
+Sizes High columns rows = Unit {0}

@@ -134,8 +134,11 @@ pub fn fracture_default(
     }
 }
 
+// Fewer numbers have no pinwheel: two corners and more lie on each line, so seven have three lines each way at most.
+const FEW_NUMBERS: usize = 16;
+
 // The same as `fracture`, by pinwheels beside straight cuts: a piece may also fall into four arms around an inner piece. No drawing costs
-// more so than by straight cuts.
+// more so than by straight cuts, and one of few corners costs the same: it is handed on.
 pub fn fracture_pinwheel(
     corners: &[u16],
     lengths: &[u16],
@@ -146,6 +149,9 @@ pub fn fracture_pinwheel(
 ) -> Fractured
     ensures settled { λ a. ⌜ told a (now (table .exit)) (now (list .exit)) ≡ outcome (asked Pinwheel (now (corners .entry)) (now (lengths .entry)) threshold weight (now (table .entry)) (now (list .entry))) ⌝ }
 {
+    if corners.len() < FEW_NUMBERS {
+        return fracture(corners, lengths, threshold, weight, table, list);
+    }
     match Rule::new(threshold, weight) {
         Made::Rule(made) => pinwheel::fracture_by(corners, lengths, made, table, list),
         Made::Refused(cause) => Fractured::Refused(cause, 0),

@@ -15,22 +15,35 @@ use table::numbering::entries;
 use table::numbering::pair_count;
 use verdict::Numbered;
 use verdict::Plan;
+use wheels::FEW;
 use wheels::fill;
+use wheels::fill_few;
 ghost use mathlib.Core.Path.{_≡_};
 ghost use mathlib.Core.Bool.{true};
+ghost use Prim.Native.Nat.{_≤_};
 ghost use lib.ListN.{length};
 ghost use Rattle.rule.specs.declared.Rule.{Rule};
 ghost use Rattle.rule.specs.Rules.{inRange};
 ghost use Rattle.figure.specs.Figure.{figure};
 ghost use Rattle.outline.specs.Grid.{Grid, memory};
+ghost use Rattle.outline.specs.Inside.{grid};
+ghost use Rattle.outline.specs.Promise.{refusal};
 ghost use Rattle.piece.specs.declared.Mode.the-variants.{Pinwheel};
 ghost use Rattle.piece.specs.Meant.{meant};
 ghost use Rattle.piece.specs.Cuts.{shots};
 ghost use Rattle.emission.specs.Emission.{Walk, Emittable};
 ghost use Rattle.demands.specs.Promise.{delivered, gridded, ruled};
 ghost use Rattle.demands.specs.Demands.{Words};
-ghost use Rattle.fracture.specs.Delivery.{roomOf, Walkable, Laid, Fillable};
+ghost use Rattle.fracture.specs.Delivery.{roomOf, Walkable, Laid, Fillable, Sizes};
 ghost use Rattle.fracture.specs.Told.{told};
+
+// The pinwheels of a grid: none, or those of few columns and rows, or of more columns, or of more rows.
+enum Turns {
+    None,
+    Few,
+    Wide,
+    High,
+}
 
 // Whether so many numbers have room for the shots of the frame, as by straight cuts.
 fn room_for(
@@ -124,6 +137,81 @@ fn fracture_grid(
     deliver(table, cells, xs, ys, list, plan)
 }
 
+// The same of a grid of few columns and rows, whose store is small. It stands apart, so that such a call makes no room on the stack for the large store.
+fn fracture_few(
+    columns: usize,
+    rows: usize,
+    xs: &[u16; MOST_LINES],
+    ys: &[u16; MOST_LINES],
+    cells: &[u8],
+    rule: Rule,
+    table: &mut [u32],
+    list: &mut [u16],
+) -> Fractured
+    requires { ⌜ Fillable (memory columns rows (now xs) (now ys) (now cells)) rule ⌝ }
+    requires { ⌜ (columns ≤ 5) × (rows ≤ 5) ⌝ }
+    ensures { λ a. ⌜ ((g : Grid) → Laid g (memory columns rows (now (xs .entry)) (now (ys .entry)) (now (cells .entry))) → told a (now (table .exit)) (now (list .exit)) ≡ gridded Pinwheel g rule (now (table .entry)) (now (list .entry))) ⌝ }
+{
+    if table.len() < entries(columns, rows) {
+        return Fractured::Refused(Refusal::Table, 0);
+    }
+    fill_few(xs, ys, cells, columns, rows, rule, table);
+    let pairs = pair_count(rows);
+    let plan = Plan {
+        columns,
+        rows,
+        pairs,
+        rule,
+    };
+    deliver(table, cells, xs, ys, list, plan)
+}
+
+// What a grid of this size has of pinwheels. With fewer than three columns or rows of cells there is none; the rest goes by the store.
+fn turns_of(columns: usize, rows: usize) -> Turns
+    ensures { λ r. ⌜ Sizes r columns rows ⌝ }
+{
+    if columns < 3 {
+        return Turns::None;
+    }
+    if rows < 3 {
+        return Turns::None;
+    }
+    if FEW < columns {
+        return Turns::Wide;
+    }
+    if FEW < rows {
+        return Turns::High;
+    }
+    Turns::Few
+}
+
+// The fracture of the grid of a figure, by its size. Where there is no pinwheel the straight call gives the same. The two sizes that take the
+// large store are two calls: what has two callers the compiler does not put in place, and the store would else be in the frame of every call.
+fn fracture_sized(
+    corners: &[u16],
+    lengths: &[u16],
+    columns: usize,
+    rows: usize,
+    xs: &[u16; MOST_LINES],
+    ys: &[u16; MOST_LINES],
+    cells: &[u8],
+    rule: Rule,
+    table: &mut [u32],
+    list: &mut [u16],
+) -> Fractured
+    requires { ⌜ inRange (rule .threshold) (rule .weight) ≡ true ⌝ }
+    requires { ⌜ (refusal (figure (now corners) (now lengths)) ≡ 0) × Laid (grid (figure (now corners) (now lengths))) (memory columns rows (now xs) (now ys) (now cells)) ⌝ }
+    ensures { λ a. ⌜ told a (now (table .exit)) (now (list .exit)) ≡ ruled Pinwheel (figure (now (corners .entry)) (now (lengths .entry))) rule (now (table .entry)) (now (list .entry)) ⌝ }
+{
+    let turns = turns_of(columns, rows);
+    match turns {
+        Turns::None => crate::fracture_by(corners, lengths, rule, table, list),
+        Turns::Few => fracture_few(columns, rows, xs, ys, cells, rule, table, list),
+        Turns::Wide => fracture_grid(columns, rows, xs, ys, cells, rule, table, list),
+        Turns::High => fracture_grid(columns, rows, xs, ys, cells, rule, table, list),
+    }
+}
+
 // The fracture of a figure by a rule in range, by pinwheels too: 2 to 7 or the shots. The corners are 16-bit numbers by their type, which `words` says.
 pub fn fracture_by(
     corners: &[u16],
@@ -145,7 +233,18 @@ pub fn fracture_by(
         Answer::Accepted => {
             let columns = drawing.columns;
             let rows = drawing.rows;
-            fracture_grid(columns, rows, &xs, &ys, &cells, rule, table, list)
+            fracture_sized(
+                corners,
+                lengths,
+                columns,
+                rows,
+                &xs,
+                &ys,
+                &cells,
+                rule,
+                table,
+                list,
+            )
         }
         Answer::Refused(why) => Fractured::Refused(why, 0),
     }

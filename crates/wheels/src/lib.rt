@@ -24,8 +24,10 @@ ghost use Rattle.wheels.specs.Wheel.{Ground, AllFit, wheeled, WeighedBy,
 mod lanes;
 mod turning;
 
-// A grid of so many columns and rows at most has its costs in a small store, which is sooner cleared.
-const FEW: usize = 7;
+// A grid of so many columns and rows at most has its costs in a small store, which is sooner cleared; one of even fewer in a smaller one.
+const SMALL: usize = 7;
+
+pub const FEW: usize = 5;
 
 // Keeps the first n numbers of a side store, from the place `at` of the store on.
 fn keep(store: &mut [u32], side: &[u32], at: usize, n: usize)
@@ -115,7 +117,35 @@ fn fill_by(
     }
 }
 
-// The fill of a grid of few columns and rows.
+// The fill of a grid of few columns and rows. It is a call of its own, so that its caller makes no room on the stack for a large store.
+pub fn fill_few(
+    xs: &[u16],
+    ys: &[u16],
+    cells: &[u8],
+    columns: usize,
+    rows: usize,
+    rule: Rule,
+    table: &mut [u32],
+)
+    requires { ⌜ Ready (stored columns rows (now xs) (now ys) (now cells)) rule (now xs) (now ys) (now cells) (now table) ⌝ }
+    requires { ⌜ (columns ≤ 5) × (rows ≤ 5) ⌝ }
+    ensures { λ _. ⌜ now (table .exit) ≡ costs Pinwheel (stored columns rows (now (xs .entry)) (now (ys .entry)) (now (cells .entry))) rule ++ drop (length (costs Pinwheel (stored columns rows (now (xs .entry)) (now (ys .entry)) (now (cells .entry))) rule)) (now (table .entry)) ⌝ }
+{
+    let mut store = [0u32; 1216];
+    fill_by(
+        Mode::Pinwheel,
+        xs,
+        ys,
+        cells,
+        columns,
+        rows,
+        rule,
+        table,
+        &mut store,
+    );
+}
+
+// The same of a small grid.
 fn fill_small(
     xs: &[u16],
     ys: &[u16],
@@ -184,8 +214,8 @@ pub fn fill(
     requires { ⌜ Ready (stored columns rows (now xs) (now ys) (now cells)) rule (now xs) (now ys) (now cells) (now table) ⌝ }
     ensures { λ _. ⌜ now (table .exit) ≡ costs Pinwheel (stored columns rows (now (xs .entry)) (now (ys .entry)) (now (cells .entry))) rule ++ drop (length (costs Pinwheel (stored columns rows (now (xs .entry)) (now (ys .entry)) (now (cells .entry))) rule)) (now (table .entry)) ⌝ }
 {
-    if columns <= FEW {
-        if rows <= FEW {
+    if columns <= SMALL {
+        if rows <= SMALL {
             fill_small(xs, ys, cells, columns, rows, rule, table);
             return;
         }

@@ -99,7 +99,7 @@ pub fn wheel_lines() -> Vec<Line> {
         Line { name: "L, 3 by 3 lines", drawings: vec![Drawing::outline(&L)] },
         Line { name: "frame with a window, 4 by 4 lines", drawings: vec![framed()] },
         Line { name: "W2, 5 by 5 lines", drawings: vec![Drawing::outline(&W2)] },
-        Line { name: "frame with jogs, 8 by 8 lines", drawings: vec![jogs()] },
+        Line { name: "frame with jogs, 6 by 6 lines", drawings: vec![jogs()] },
         Line { name: "staircase, 32 corners", drawings: vec![staircase()] },
         Line { name: "16 by 16 lines, most pieces mixed", drawings: vec![walk(WORST)] },
         Line { name: "200 layout-like outlines", drawings: layout() },

@@ -1,14 +1,13 @@
 -- `fracture::pinwheel::fracture_by` meets its contract. Assumes nothing.
 use mathlib.Core.Path.{_≡_, sym, _∙_}
 use borrow.Author.Needs.{needs}
-use Rattle.rule.proofs.Rules.{range-true}
 use Rattle.figure.specs.Figure.{figure}
 use Rattle.outline.specs.Promise.{refusal, sheet}
 use Rattle.outline.proofs.Memory.{drawing-lengths}
 use Rattle.piece.specs.declared.Mode.the-variants.{Pinwheel}
 use Rattle.demands.specs.Demands.{Words}
 use Rattle.demands.proofs.Demands.{words-typed}
-use Rattle.fracture.proofs.Settled.{answered, told-figure, laid-drawing, told-grid}
+use Rattle.fracture.proofs.Settled.{answered, told-figure, laid-drawing}
 use Rattle.fracture.proofs.pinwheel.fracture_by.Statement.{statement}
 use Rattle.fracture.proofs.pinwheel.fracture_by.Tie as tie
 
@@ -31,21 +30,17 @@ draw-requires c κs = search needs
 enum-told : tie.Need-enum-told
 enum-told c = search needs
 
-slice-aggregate-fracture-grid : tie.Need-slice-aggregate-fracture-grid
+slice-aggregate-fracture-sized : tie.Need-slice-aggregate-fracture-sized
 unfolding sheet
-slice-aggregate-fracture-grid c = sym (drawing-lengths _ (sheet _ _ _ _) (c .before .before .before .before .before .draw .ensures) .cells-length)
+slice-aggregate-fracture-sized c = sym (drawing-lengths _ (sheet _ _ _ _) (c .before .before .before .before .before .draw .ensures) .cells-length)
 
-fracture-grid-requires : tie.Need-fracture-grid-requires
+fracture-sized-requires : tie.Need-fracture-sized-requires
 unfolding sheet
-fracture-grid-requires c κs =
+fracture-sized-requires c κs =
     let t = c .before .before .before .before .before in
     let d = t .before .before in
     let s = d .before .before .before .before .before .before .before .before in
-    record {
-      grid = _;
-      laid = laid-drawing _ (sheet _ _ _ _) (d .draw .ensures) (accepted t);
-      weight = range-true _ _ (s .pre) .1;
-    }
+    (s .pre, (accepted t, laid-drawing _ (sheet _ _ _ _) (d .draw .ensures) (accepted t)))
 
 enum-known-answer : tie.Need-enum-known-answer
 enum-known-answer c = search needs
@@ -62,12 +57,7 @@ returns c =
     let f = c .before .before .before .before in
     let t = f .before .before .before .before .before .before in
     let d = t .before .before in
-    let s = d .before .before .before .before .before .before .before .before in
-    let h = accepted t in (
-      f .fracture-grid .ensures _ (laid-drawing _ (sheet _ _ _ _) (d .draw .ensures) h)
-          ∙ told-grid Pinwheel (figure (s .args .corners .now) (s .args .lengths .now)) (s .args .rule) (s .args .table .now) (s .args .list .now) h,
-      typed d,
-    )
+    (f .fracture-sized .ensures, typed d)
 
 returns-2 : tie.Need-returns-2
 unfolding sheet
@@ -81,8 +71,8 @@ fracture-by-spec =
     (tie.spec
     draw-requires
     enum-told
-    slice-aggregate-fracture-grid
-    fracture-grid-requires
+    slice-aggregate-fracture-sized
+    fracture-sized-requires
     enum-known-answer
     same-length
     same-length-2
