@@ -1,4 +1,3 @@
-pub mod Printing
 pub mod Accepted
 pub mod Opening
 pub mod Fracturing

@@ -1,7 +1,7 @@
 -- `print_number` forgets no failure: neither its word nor its digits do. Assumes nothing.
 use borrow.Author.Needs.{needs}
-use Rattle.prep.proofs.output.print_number.Statement.{statement}
-use Rattle.prep.proofs.output.print_number.Tie as tie
+use Rattle.terminal.proofs.output.print_number.Statement.{statement}
+use Rattle.terminal.proofs.output.print_number.Tie as tie
 
 decimal-requires : tie.Need-decimal-requires
 decimal-requires c κs = search needs

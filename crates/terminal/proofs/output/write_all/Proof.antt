@@ -2,8 +2,8 @@
 use Prim.Native.Nat.{_-_, _≤_}
 use lib.ListN.{length}
 use borrow.Author.Needs.{needs}
-use Rattle.prep.proofs.output.write_all.Statement.{statement}
-use Rattle.prep.proofs.output.write_all.Tie as tie
+use Rattle.terminal.proofs.output.write_all.Statement.{statement}
+use Rattle.terminal.proofs.output.write_all.Tie as tie
 
 abbrev Inv-loop : tie.InvT-loop
 Inv-loop bytes done₀ done = done ≤ length bytes

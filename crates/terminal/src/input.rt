@@ -1,7 +1,6 @@
-// Standard input, read to its end or until a buffer is full.
+// Input, read to its end or until a buffer is full.
 use crate::waiting::PATIENCE;
 use crate::waiting::worth_another;
-use libc::STDIN_FILENO;
 ghost use lib.ListN.{length};
 ghost use Prim.Native.Nat.{_≤_};
 ghost use Rattle.io.specs.Counts.{Counts};
@@ -13,12 +12,12 @@ pub struct Input {
 }
 
 // One read, tried again where that is worth it; no bytes are the end of the input, or a failure.
-fn read_some(buffer: &mut [u8]) -> Input
+fn read_some(fd: i32, buffer: &mut [u8]) -> Input
     ensures { λ r. ⌜ r .bytes ≤ length (now (buffer .entry)) ⌝ }
 {
     let mut tries = PATIENCE;
     while tries > 0 {
-        let got = libc::read(STDIN_FILENO, buffer);
+        let got = libc::read(fd, buffer);
         if got >= 0 {
             let bytes = io::count(got, buffer);
             return Input {
@@ -40,13 +39,13 @@ fn read_some(buffer: &mut [u8]) -> Input
     }
 }
 
-// Standard input to its end, or as much of it as the buffer holds.
-pub fn read_all(buffer: &mut [u8]) -> Input
+// What a descriptor has, to its end, or as much of it as the buffer holds.
+pub fn read_all(fd: i32, buffer: &mut [u8]) -> Input
     ensures { λ r. ⌜ Counts (r .bytes) (now (buffer .exit)) ⌝ }
 {
     let mut done = 0;
     while done < buffer.len() {
-        let got = read_some(&mut buffer[done..]);
+        let got = read_some(fd, &mut buffer[done..]);
         let more = got.bytes;
         if more == 0 {
             let failed = got.failed;

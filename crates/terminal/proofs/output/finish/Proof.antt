@@ -1,7 +1,7 @@
 -- `finish` does not say that all went where a write had failed. Assumes nothing.
 use borrow.Author.Needs.{needs}
-use Rattle.prep.proofs.output.finish.Statement.{statement}
-use Rattle.prep.proofs.output.finish.Tie as tie
+use Rattle.terminal.proofs.output.finish.Statement.{statement}
+use Rattle.terminal.proofs.output.finish.Tie as tie
 
 flush-requires : tie.Need-flush-requires
 flush-requires c κs = search needs

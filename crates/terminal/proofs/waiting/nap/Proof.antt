@@ -48,10 +48,10 @@ use Rattle.libc.proofs.nanosleep as sleep
 use Rattle.libc.proofs.nanosleep.Symbol as sleep-def
 use Rattle.libc.proofs.nanosleep.Symbol.{name as #libc·nanosleep}
 use Rattle.libc.proofs.nanosleep.Met as sleep-thm
-use Rattle.prep.proofs.waiting.nap.Key.{name as #prep·waiting·nap}
-use Rattle.prep.proofs.waiting.nap as nap
-use Rattle.prep.proofs.waiting.nap.Statement as stated
-use Rattle.prep.proofs.waiting.nap.Code as code
+use Rattle.terminal.proofs.waiting.nap.Key.{name as #terminal·waiting·nap}
+use Rattle.terminal.proofs.waiting.nap as nap
+use Rattle.terminal.proofs.waiting.nap.Statement as stated
+use Rattle.terminal.proofs.waiting.nap.Code as code
 
 abbrev stayed : Stays (nap.ended .signature .params) (nap.ended .kept)
 stayed = tt
@@ -169,6 +169,6 @@ pub nap-spec : {M : Type 1} → stated.statement M
 unfolding code.routine tablesOf
 nap-spec 𝓤 H 𝓜 𝓖 𝓡 =
     entered 𝓤 H (tripleOf 𝓤 H (𝓖 .A) nap.signature (nap.spec 𝓤 H (𝓖 .A) (𝓜 .mem) (𝓡 .run)))
-    (tables 𝓤 H 𝓜 𝓡 code.env .C) (tables 𝓤 H 𝓜 𝓡 code.env .Λ) #prep·waiting·nap code.function (code.unfolded 𝓤 H 𝓜 𝓡)
+    (tables 𝓤 H 𝓜 𝓡 code.env .C) (tables 𝓤 H 𝓜 𝓡 code.env .Λ) #terminal·waiting·nap code.function (code.unfolded 𝓤 H 𝓜 𝓡)
     (nap-meets 𝓤 H (𝓖 .A) (givenOf 𝓤 H 𝓜 𝓖) (𝓜 .mem) (𝓡 .run) (tablesOf 𝓤 H 𝓜 (tables 𝓤 H 𝓜 𝓡 code.env))
     (cited 𝓤 H (Sleep 𝓤 H (𝓖 .A) (𝓜 .mem) (𝓡 .run)) 𝓜 𝓡 code.env #libc·nanosleep sleep-def.routine code.calls-libc·nanosleep (sleep-thm.met 𝓤 H 𝓜 𝓖 𝓡)))

@@ -5,14 +5,14 @@ use native.Mathlib.Omega.{arith}
 use lib.ListN.{length}
 use borrow.Author.Needs.{needs}
 use Rattle.io.proofs.Counting.{counts}
-use Rattle.prep.proofs.input.read_all.Statement.{statement}
-use Rattle.prep.proofs.input.read_all.Tie as tie
+use Rattle.terminal.proofs.input.read_all.Statement.{statement}
+use Rattle.terminal.proofs.input.read_all.Tie as tie
 
 abbrev Inv-loop : tie.InvT-loop
-Inv-loop buffer₀ done₀ buffer done = (length buffer ≡ length buffer₀) × (done ≤ length buffer)
+Inv-loop fd buffer₀ done₀ buffer done = (length buffer ≡ length buffer₀) × (done ≤ length buffer)
 
 abbrev μ-loop : tie.MeasureT-loop
-μ-loop buffer₀ done₀ buffer done = length buffer - done
+μ-loop fd buffer₀ done₀ buffer done = length buffer - done
 
 loop-holds : tie.Need-loop-holds Inv-loop μ-loop
 loop-holds c = search needs

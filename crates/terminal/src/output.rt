@@ -6,7 +6,7 @@ ghost use lib.ListN.{length};
 ghost use mathlib.Core.Bool.{true, false};
 ghost use mathlib.Core.Path.{_≡_};
 ghost use Prim.Native.Nat.{_≤_, _<_};
-ghost use Rattle.prep.specs.Output.{Remembers};
+ghost use Rattle.terminal.specs.Output.{Remembers};
 
 // The bytes that are still to be written, so many at the front of the buffer: 255 at most, so that any count is within it. And
 // whether a write failed, after which nothing is written any more.
@@ -107,7 +107,7 @@ pub fn print_number(out: Output, word: &[u8], n: u64) -> Output
 }
 
 // Nothing printed yet.
-pub fn empty() -> Output {
+pub fn nothing_yet() -> Output {
     Output {
         bytes: [0; 256],
         held: 0,
@@ -124,5 +124,18 @@ pub fn finish(out: Output) -> bool
     if failed {
         return false;
     }
+    libc::close(STDOUT_FILENO) == 0
+}
+
+// Some words at once, for a program that keeps no buffer. Where writing them fails standard output is closed: so nothing is written any
+// more, and closing it in the end tells that.
+pub fn write_now(words: &[u8]) {
+    if !write_all(words) {
+        libc::close(STDOUT_FILENO);
+    }
+}
+
+// Closes standard output after words that were written at once; whether all of them went.
+pub fn close() -> bool {
     libc::close(STDOUT_FILENO) == 0
 }

@@ -3,9 +3,9 @@
 use mathlib.Core.Path.{sym}
 use lib.Seq.{length-take-le}
 use borrow.Author.Needs.{needs}
-use Rattle.prep.proofs.Printing.{count-within}
-use Rattle.prep.proofs.output.flush.Statement.{statement}
-use Rattle.prep.proofs.output.flush.Tie as tie
+use Rattle.terminal.proofs.Printing.{count-within}
+use Rattle.terminal.proofs.output.flush.Statement.{statement}
+use Rattle.terminal.proofs.output.flush.Tie as tie
 
 cast-bytes : tie.Need-cast-bytes
 cast-bytes c = search needs

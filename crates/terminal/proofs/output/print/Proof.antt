@@ -1,9 +1,9 @@
 -- `print` forgets no failure: no byte of the word does. Assumes nothing.
 use Prim.Native.Nat.{_-_, _≤_}
 use borrow.Author.Needs.{needs}
-use Rattle.prep.specs.Output.{Remembers}
-use Rattle.prep.proofs.output.print.Statement.{statement}
-use Rattle.prep.proofs.output.print.Tie as tie
+use Rattle.terminal.specs.Output.{Remembers}
+use Rattle.terminal.proofs.output.print.Statement.{statement}
+use Rattle.terminal.proofs.output.print.Tie as tie
 
 abbrev Inv-loop : tie.InvT-loop
 Inv-loop word next₀ i₀ i-end next i = i ≤ i-end × Remembers next₀ next
