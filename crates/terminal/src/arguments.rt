@@ -150,3 +150,13 @@ pub fn read_argument(program: &[u8], i: usize, buffer: &mut [u8]) -> Input
     }
     read_file(program, &path[..length], buffer)
 }
+
+// What a program with one input works on, as much of it as the buffer holds: the file that its first word names, or standard input.
+pub fn read_only(program: &[u8], buffer: &mut [u8]) -> Input
+    ensures { λ r. ⌜ Counts (r .bytes) (now (buffer .exit)) ⌝ }
+{
+    if os::arg_count() < 2 {
+        return read_standard(program, buffer);
+    }
+    read_argument(program, 1, buffer)
+}
