@@ -96,9 +96,9 @@ fn checked_job(job: &[u8], n: usize, line: usize) -> Packed
     Packed::Bad(line, Expected::Room)
 }
 
-// A drawing as a job at the front of a buffer. Where a line is bad nothing is said of the buffer.
+// A drawing as a job at the front of a buffer; where a line is bad the buffer may hold a part of one.
 pub fn pack(text: &[u8], job: &mut [u8]) -> Packed
-    ensures settled { λ r. ⌜ Packs r (now (job .exit)) ⌝ }
+    ensures sound { λ r. ⌜ Packs r (now (job .exit)) ⌝ }
 {
     let first = first_line(text);
     let line = first.line;
@@ -118,7 +118,8 @@ pub fn pack(text: &[u8], job: &mut [u8]) -> Packed
     }
 }
 
-// Whether a text is a drawing, sound or not: its first word is `rule`. No sound job begins with these letters.
+// Whether a text is a drawing, sound or not: its first word is `rule`, after blank lines and comments. In a job these letters would be four
+// coordinates side by side, two of which are of one corner: so a job that is taken for a drawing has a slanted edge.
 pub fn is_drawing(bytes: &[u8]) -> bool {
     let first = first_line(bytes);
     let says = first.says;
@@ -134,7 +135,7 @@ pub fn is_drawing(bytes: &[u8]) -> bool {
 
 // Prints the drawing of a sound job; of any other nothing is printed.
 pub fn list(job: &[u8], out: Output) -> Listed
-    ensures settled { λ r. ⌜ (checkTold (r .checked) ≡ checked (now (job .entry))) × Remembers out (r .out) ⌝ }
+    ensures told { λ r. ⌜ (checkTold (r .checked) ≡ checked (now (job .entry))) × Remembers out (r .out) ⌝ }
 {
     let checked = check(job);
     Listed {
