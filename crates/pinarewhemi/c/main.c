@@ -6,9 +6,9 @@
 enum { BROKEN_PIPE = 13, IGNORED = 1 };
 typedef void (*Handler)(int);
 extern Handler signal(int, Handler);
-extern unsigned pw_pinarewhemi(void);
+extern unsigned pw_start_pinarewhemi(void);
 
 int main(void) {
     signal(BROKEN_PIPE, (Handler)IGNORED);
-    return (int)pw_pinarewhemi();
+    return (int)pw_start_pinarewhemi();
 }

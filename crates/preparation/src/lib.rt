@@ -1,5 +1,5 @@
 // The job program as a library: reads a job, fractures each outline by the job's rule, prints the shots, and gives the status to end with.
-mod lines;
+pub mod lines;
 mod outlines;
 
 use explanation::jobs;

@@ -58,7 +58,7 @@ fn print_shots(out: Output, list: &[u16], shots: u32) -> Output
 }
 
 // The rest of the lines of an outline that was fractured.
-fn print_done(out: Output, shots: u32, cost: u32, sliver: u32, list: &[u16]) -> Output
+pub fn print_done(out: Output, shots: u32, cost: u32, sliver: u32, list: &[u16]) -> Output
     requires { ⌜ 4 * shots ≤ length (now list) ⌝ }
     ensures { λ r. ⌜ Remembers out r ⌝ }
 {

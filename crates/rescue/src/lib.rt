@@ -62,7 +62,7 @@ fn ended(out: Output, whole: bool) -> u32
 }
 
 // A job: saved, with a report where all of it was written; or refused in one line.
-fn run(job: &[u8], room: &mut [u8]) -> u32
+pub fn run(job: &[u8], room: &mut [u8]) -> u32
     ensures { λ r. ⌜ (r ≡ 2) ⊎ (r ≡ status (now (job .entry)) (now (room .entry))) ⌝ }
 {
     match save(job, room) {

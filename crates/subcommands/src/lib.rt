@@ -8,6 +8,7 @@ mod offsets;
 mod options;
 mod packing;
 mod pictures;
+mod salvages;
 mod sources;
 mod texts;
 
@@ -20,7 +21,7 @@ use offsets::offset_words;
 use packing::list_words;
 use packing::pack_words;
 use pictures::picture_words;
-use rescue::salvage_within;
+use salvages::salvage_words;
 use terminal::arguments::is_argument;
 use texts::text_words;
 use walking::walk_within;
@@ -110,7 +111,7 @@ fn run(which: Subcommand, words: usize) -> u32 {
         Subcommand::Cif => text_words(),
         Subcommand::Gdsii => element_words(),
         Subcommand::Index => offset_words(),
-        Subcommand::Salvage => salvage_within(),
+        Subcommand::Salvage => salvage_words(words),
         Subcommand::Version => print_version(),
         _ => print_help(which),
     }
