@@ -53,7 +53,8 @@ fn ended(out: Output, whole: bool) -> u32
     ensures { λ r. ⌜ (r ≡ 2) ⊎ (r ≡ cond whole 0 1) ⌝ }
 {
     if !finish(out) {
-        return complain(b"salvage: writing failed\n");
+        complain(b"salvage: writing failed\n");
+        return FAILED;
     }
     if whole {
         return DONE;
