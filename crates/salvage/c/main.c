@@ -2,9 +2,9 @@
 enum { BROKEN_PIPE = 13, IGNORED = 1 };
 typedef void (*Handler)(int);
 extern Handler signal(int, Handler);
-extern unsigned pw_salvage_run(void);
+extern unsigned pw_start_salvage(void);
 
 int main(void) {
     signal(BROKEN_PIPE, (Handler)IGNORED);
-    return (int)pw_salvage_run();
+    return (int)pw_start_salvage();
 }
