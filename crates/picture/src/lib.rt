@@ -97,6 +97,71 @@ fn draw_scaled(
     print(charged, b"</g>\n")
 }
 
+// The numbers of lines, cuts and shots, each where it covers no other.
+fn draw_numbers(
+    out: Output,
+    view: View,
+    grid: Grid,
+    xs: &[u16; 16],
+    ys: &[u16; 16],
+    list: &[u16],
+    kept: &[u16],
+    cuts: usize,
+    threshold: u64,
+    spots: &mut [u64],
+) -> Output {
+    let shots = list.len() / 4;
+    let places = print_places(out, view, grid, xs, ys, spots);
+    place_numbers(view, list, shots, spots);
+    place_cuts(view, kept, cuts, spots);
+    let numbered = print_cut_labels(places, cuts, spots);
+    print_labels(numbered, view, list, shots, spots, threshold)
+}
+
+// The figure with all that is drawn on it.
+fn draw_grid(
+    out: Output,
+    view: View,
+    grid: Grid,
+    corners: &[u16],
+    lengths: &[u16],
+    table: &[u32],
+    list: &[u16],
+    cells: &[u8; 256],
+    xs: &[u16; 16],
+    ys: &[u16; 16],
+    threshold: u64,
+    kept: &mut [u16],
+) -> Output {
+    let mut spots = [0u64; MOST_NUMBERS];
+    let cuts = keep_cuts(table, list, list.len() / 4, grid, xs, ys, kept);
+    let figure = draw_scaled(
+        out,
+        view,
+        corners,
+        lengths,
+        list,
+        kept,
+        cuts,
+        cells,
+        xs,
+        ys,
+        threshold,
+    );
+    draw_numbers(
+        figure,
+        view,
+        grid,
+        xs,
+        ys,
+        list,
+        kept,
+        cuts,
+        threshold,
+        &mut spots,
+    )
+}
+
 // The picture of a figure that was fractured. The list has its shots and nothing behind them.
 fn draw_fractured(
     name: &[u8],
@@ -112,35 +177,29 @@ fn draw_fractured(
     let mut ys = [0u16; MOST_LINES];
     let mut cells = [0u8; MOST_CELLS];
     let mut kept = [0u16; MOST_KEPT];
-    let mut spots = [0u64; MOST_NUMBERS];
     let drawing = draw(corners, lengths, &mut xs, &mut ys, &mut cells);
     let grid = Grid {
         columns: drawing.columns,
         rows: drawing.rows,
     };
+    let threshold = told.threshold as u64;
     let view = view_of(&xs, &ys, grid);
-    let shots = list.len() / 4;
-    let cuts = keep_cuts(table, list, shots, grid, &xs, &ys, &mut kept);
     let head = print_head(print_sheet(out, view), name, k, told);
-    let figure = draw_scaled(
+    let figure = draw_grid(
         head,
         view,
+        grid,
         corners,
         lengths,
+        table,
         list,
-        &kept,
-        cuts,
         &cells,
         &xs,
         &ys,
-        told.threshold as u64,
+        threshold,
+        &mut kept,
     );
-    let places = print_places(figure, view, grid, &xs, &ys, &mut spots);
-    place_numbers(view, list, shots, &mut spots);
-    place_cuts(view, &kept, cuts, &mut spots);
-    let numbered = print_cut_labels(places, cuts, &spots);
-    let labelled = print_labels(numbered, view, list, shots, &spots, told.threshold as u64);
-    print_foot(labelled, view, told)
+    print_foot(figure, view, told)
 }
 
 // The same by so many shots at the front of a list.
