@@ -130,6 +130,10 @@ enum pw_room {
   PW_CIF_BYTES = 6553        /* 28, and 29 for each of 225 shots: enough for the text of any fracture without a largest side */
 };
 
+/* The version of the library that is linked: the three numbers of PW_VERSION where it is the one that came with this header.
+ * Refuses nothing. */
+uint32_t pw_version(uint32_t *first, uint32_t *second, uint32_t *third);
+
 /* The rule of a preset, 0 to 3. Refuses: PW_NO_PRESET. */
 uint32_t pw_preset(uint32_t number, uint32_t *threshold, uint32_t *weight);
 

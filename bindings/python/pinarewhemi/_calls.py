@@ -197,6 +197,12 @@ def _fracture(name, figure, rule, costs, limit="PW_LIST_NUMBERS"):
     return Fracture(_shots(shot_list[0], count), cost, sliver, cuts, entries)
 
 
+@_over("pw_version")
+def version() -> Tuple[int, int, int]:
+    """The version of the library that was found, three numbers. Refuses nothing."""
+    return tuple(CALLS["pw_version"]())
+
+
 @_over("pw_preset")
 def preset(number: int) -> Rule:
     """The rule of a preset, 0 to 3. Refuses: 15."""

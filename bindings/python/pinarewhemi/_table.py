@@ -17,6 +17,7 @@ TALLY = "shots:>u32 cost:>u32 sliver:>u32 cuts:>u32"
 SHIFT = "shift_x:>i32 shift_y:>i32"
 
 CALLS = {
+    "pw_version": "first:>u32 second:>u32 third:>u32",
     "pw_preset": "number:u32 threshold:>u32 weight:>u32",
     "pw_fracture": f"{FIGURE} threshold:u32 weight:u32 {ROOM} {TALLY}",
     "pw_fracture_default": f"{FIGURE} {ROOM} {TALLY}",

@@ -84,6 +84,7 @@ class Header(unittest.TestCase):
     def test_version(self):
         self.assertEqual(re.search(r'#define PW_VERSION "(.*?)"', HEADER).group(1), pw.__version__)
         self.assertEqual(pw.__version__, (ROOT / "VERSION").read_text().strip())
+        self.assertEqual(".".join(map(str, pw.version())), pw.__version__)
 
 
 if __name__ == "__main__":

@@ -59,6 +59,7 @@ pub struct Joined {
 }
 
 // The table of the calls.
+call!(pw_version version(first: &mut u32, second: &mut u32, third: &mut u32,));
 call!(pw_preset preset(number: u32, threshold: &mut u32, weight: &mut u32,));
 call!(pw_fracture fracture(
     corners: &[u16], rings: &[u16], threshold: u32, weight: u32, table: &mut [u32], list: &mut [u16],

@@ -175,6 +175,13 @@ fn fracture_by<Ring: AsRef<[Corner]>>(
     Ok(Fracture { shots: shots_in(&list[..4 * shots as usize]), cost, sliver, cuts, costs: table })
 }
 
+/// The version of the library that is linked, three numbers. Refuses nothing.
+pub fn version() -> (u32, u32, u32) {
+    let (mut first, mut second, mut third) = (0, 0, 0);
+    lent::version(&mut first, &mut second, &mut third);
+    (first, second, third)
+}
+
 /// The rule of a preset, 0 to 3. Refuses: 15.
 pub fn preset(number: u32) -> Result<Rule, Refused> {
     let (mut threshold, mut weight) = (0, 0);

@@ -289,3 +289,9 @@ fn cif() {
     assert_eq!(refused(cif_read(&text[..60])), (22, Some(59)));
     assert_eq!(refused(cif_write(&shots(&[[0, 0, 0, 10]]))), (21, None));
 }
+
+#[test]
+fn the_library_is_of_the_crates_version() {
+    let (first, second, third) = version();
+    assert_eq!(format!("{first}.{second}.{third}"), env!("CARGO_PKG_VERSION"));
+}

@@ -40,6 +40,7 @@ mod edges;
 mod indexes;
 mod salvages;
 mod texts;
+mod versions;
 
 // The rule of a preset, or 15.
 #[no_mangle]

@@ -6,9 +6,9 @@
 enum { BROKEN_PIPE = 13, IGNORED = 1 };
 typedef void (*Handler)(int);
 extern Handler signal(int, Handler);
-extern unsigned pw_prep(void);
+extern unsigned pw_start_prep(void);
 
 int main(void) {
     signal(BROKEN_PIPE, (Handler)IGNORED);
-    return (int)pw_prep();
+    return (int)pw_start_prep();
 }

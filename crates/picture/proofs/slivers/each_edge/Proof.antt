@@ -1,0 +1,42 @@
+-- The loop passes each turn once. Assumes nothing.
+use Prim.Native.Nat.{_-_}
+use borrow.Author.Needs.{needs}
+use Rattle.picture.proofs.slivers.each_edge.Statement.{statement}
+use Rattle.picture.proofs.slivers.each_edge.Tie as tie
+
+abbrev Inv-loop : tie.InvT-loop
+Inv-loop view corners lengths edges list cells xs ys threshold next₀ n₀ next n = Unit {0}
+
+abbrev μ-loop : tie.MeasureT-loop
+μ-loop view corners lengths edges list cells xs ys threshold next₀ n₀ next n = edges - n
+
+loop-holds : tie.Need-loop-holds Inv-loop μ-loop
+loop-holds c = search needs
+
+print-edge-requires : tie.Need-print-edge-requires Inv-loop μ-loop
+print-edge-requires c κs = search needs
+
+add-n : tie.Need-add-n Inv-loop μ-loop
+add-n c = search needs
+
+loop-less : tie.Need-loop-less Inv-loop μ-loop
+loop-less c = search needs
+
+loop-again : tie.Need-loop-again Inv-loop μ-loop
+loop-again c = search needs
+
+returns : tie.Need-returns Inv-loop μ-loop
+returns c = search needs
+
+pub each-edge-spec : {M : Type 1} → statement M
+each-edge-spec =
+    tie.close
+    (tie.spec
+    Inv-loop
+    μ-loop
+    loop-holds
+    print-edge-requires
+    add-n
+    loop-less
+    loop-again
+    returns)

@@ -1,5 +1,0 @@
-pub mod Printing
-pub mod Accepted
-pub mod Opening
-pub mod Fracturing
-pub mod Status

@@ -1,4 +1,0 @@
-pub mod Output
-pub mod Lines
-pub mod Outlines
-pub mod Status

@@ -1,0 +1,4 @@
+pub mod Accepted
+pub mod Opening
+pub mod Fracturing
+pub mod Status

@@ -1,0 +1,29 @@
+-- `print_job` forgets no failure. Assumes nothing.
+use borrow.Author.Needs.{needs}
+use Rattle.preparation.proofs.lines.print_job.Statement.{statement}
+use Rattle.preparation.proofs.lines.print_job.Tie as tie
+
+slice-aggregate-print-number : tie.Need-slice-aggregate-print-number
+slice-aggregate-print-number c = search needs
+
+print-number-requires : tie.Need-print-number-requires
+print-number-requires c κs = search needs
+
+slice-aggregate-print : tie.Need-slice-aggregate-print
+slice-aggregate-print c = search needs
+
+print-requires : tie.Need-print-requires
+print-requires c κs = search needs
+
+returns : tie.Need-returns
+returns c = λ e. c .print .ensures (c .before .before .print-number .ensures e)
+
+pub print-job-spec : {M : Type 1} → statement M
+print-job-spec =
+    tie.close
+    (tie.spec
+    slice-aggregate-print-number
+    print-number-requires
+    slice-aggregate-print
+    print-requires
+    returns)

@@ -1,0 +1,34 @@
+-- The loop passes each turn once. Assumes nothing.
+use Prim.Native.Nat.{_-_}
+use borrow.Author.Needs.{needs}
+use Rattle.walking.proofs.pieces.each_held.Statement.{statement}
+use Rattle.walking.proofs.pieces.each_held.Tie as tie
+
+abbrev Inv-loop : tie.InvT-loop
+Inv-loop table grid xs ys cells lies rule spared₀ n₀ spared n = Unit {0}
+
+abbrev μ-loop : tie.MeasureT-loop
+μ-loop table grid xs ys cells lies rule spared₀ n₀ spared n = 65536 - n
+
+loop-holds : tie.Need-loop-holds Inv-loop μ-loop
+loop-holds c = search needs
+
+held-piece-requires : tie.Need-held-piece-requires Inv-loop μ-loop
+held-piece-requires c κs = search needs
+
+add-n : tie.Need-add-n Inv-loop μ-loop
+add-n c = search needs
+
+loop-less : tie.Need-loop-less Inv-loop μ-loop
+loop-less c = search needs
+
+loop-again : tie.Need-loop-again Inv-loop μ-loop
+loop-again c = search needs
+
+returns : tie.Need-returns Inv-loop μ-loop
+returns c = search needs
+
+pub each-held-spec : {M : Type 1} → statement M
+each-held-spec =
+    tie.close
+    (tie.spec Inv-loop μ-loop loop-holds held-piece-requires add-n loop-less loop-again returns)
