@@ -1,4 +1,4 @@
-/* Pinwheels and the largest shot through the C interface: the worked rows of document 02, Items 8 and 9. Of each drawing
+/* Pinwheels and the largest shot through the C interface: the worked rows of Items 8 and 9. Of each drawing
  * its answer is printed, by straight cuts, by pinwheels, or by either with a largest side; tests/c/modes.out has what it
  * has to be, taken from the document's rows. */
 #include "../../include/pinarewhemi.h"

@@ -1,4 +1,4 @@
-/* The worked examples through the C interface: drawing L of document 01, and a frame with a window.
+/* The worked examples through the C interface: drawing L of the scope, and a frame with a window.
  * Each job is read, its outlines are fractured by its rule, and what the job program prints is
  * printed. The status is 0 if every call answered 0 and every outline was written back to its bytes. */
 #include "../../include/pinarewhemi.h"

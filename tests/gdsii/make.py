@@ -15,7 +15,7 @@ import gdspy
 
 HERE = os.path.dirname(os.path.abspath(__file__))
 
-# An L at (-50, 1000), as document 02's worked element has it; stairs of 32 corners across the origin; a plate of 65,535 nm in the far corner.
+# An L at (-50, 1000), as the scope's worked element has it; stairs of 32 corners across the origin; a plate of 65,535 nm in the far corner.
 L = [(-50, 1000), (50, 1000), (50, 1020), (10, 1020), (10, 1080), (-50, 1080)]
 STAIRS = [(-400, -300)] + [p for k in range(15) for p in ((-400 + 55 * (15 - k), -300 + 41 * k), (-400 + 55 * (15 - k), -300 + 41 * (k + 1)))] + [(-400, 315)]
 PLATE = [(-2147483648, 2147418112), (-2147418113, 2147418112), (-2147418113, 2147483647), (-2147483648, 2147483647)]

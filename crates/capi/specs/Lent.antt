@@ -4,7 +4,7 @@
 --   presetLent n t w           == the number returned, and the threshold and weight lent
 --   fractureLent               == the number returned, the four numbers lent, and what the table and the list hold then
 --   cutsLent n cuts            == the number returned, and the cuts lent
---   NumberSaid, numberSaid     == what reading a number tells: document 01's number, the value, the place past it, the offset
+--   NumberSaid, numberSaid     == what reading a number tells: the scope's number, the value, the place past it, the offset
 --   numberLent, checkLent, unpackLent, writeLent  == the number returned, the numbers lent, and what the slice lent holds then
 --   OutlineSaid, outlineSaid s k  == where outline k of the job s starts and how long it is, or the refusal and the offset
 --   partSaid p, jobPart k r    == the same of a part; of part k of a job that is read or not

@@ -1,4 +1,4 @@
--- Texts computed: the shot of document 02, the two shots of the worked example, no shot at all, the greatest shot and one in the far corner.
+-- Texts computed: the shot of the scope, the two shots of the worked example, no shot at all, the greatest shot and one in the far corner.
 -- Assumes nothing.
 --
 --   worked           == the text of 0 0 10 10, byte by byte

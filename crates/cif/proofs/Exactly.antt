@@ -1,6 +1,6 @@
 -- Which number each call gives, exactly when, said of the list, the text and the lengths alone. Assumes nothing.
 --
---   shots-exactly    == writing is refused by 21 exactly when the list is bad in document 02's words, place by place
+--   shots-exactly    == writing is refused by 21 exactly when the list is bad in the scope's words, place by place
 --   space-exactly    == by 14 exactly when the list is good and its text is longer than the buffer
 --   written-exactly  == by none exactly when the list is good and its text fits
 --   line-exactly     == reading is refused by 22 with the offset o exactly when the first line at fault starts at o

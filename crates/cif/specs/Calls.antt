@@ -1,4 +1,4 @@
--- To believe: what the two calls promise, document 02's numbers and what the lent memory holds, for all inputs.
+-- To believe: what the two calls promise, the scope's numbers and what the lent memory holds, for all inputs.
 --
 --   WriteSaid            == what writing tells: number, the bytes written, and the buffer afterwards
 --   unwritten n out      == refused by the number n: nothing is written

@@ -1,4 +1,4 @@
--- To believe: a shot list as a CIF text, document 02's Item 12: one symbol in half nanometres, each line ended by one line feed.
+-- To believe: a shot list as a CIF text, Item 12: one symbol in half nanometres, each line ended by one line feed.
 --
 --   decimalIn k n    == the digits of n as bytes, k + 1 of them at most; decimal n == at most six; a number above 0 has no 0 in front
 --   field n          == a number behind one space

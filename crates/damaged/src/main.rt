@@ -5,7 +5,7 @@ use number::Cursor;
 use number::Read;
 use refusal::refusal_no;
 
-// The worked example of document 01: drawing L by the rule 25, 40.
+// The worked example of the scope: drawing L by the rule 25, 40.
 const WORKED: [u8; 16] = [
     0x19,
     0x28,

@@ -6,7 +6,7 @@
 -- Of the call itself, with no premise but its contract and the type of its corners, demands 2 and 3 stand in fracture/proofs/Demands.antt.
 --   words-typed          == every list of numbers of the type u16 makes a figure of which Words holds
 --
--- Demand 1: what is bad is refused by number, exactly when document 01's list says so, and the list fixes what stays in each buffer
+-- Demand 1: what is bad is refused by number, exactly when the scope's list says so, and the list fixes what stays in each buffer
 --   refused-exactly      == the number of the refusal c is given exactly when c's condition is the first in the order that holds
 --   accepted-exactly     == 0 is given exactly when no condition holds
 --   number-listed        == every outcome is accepted, or has the number of a refusal
@@ -54,7 +54,7 @@
 -- Bound and rows
 --   bound, bound-cost    == no table entry, and no reported cost, exceeds 2,097,345,000
 --   bound-parts          == nor do the entries of all parts of a cut together, the five of a pinwheel among them
---   rows-hold            == the proved rows of document 01, those with rings, and one that only the order of lines decides (proofs/Rows.antt)
+--   rows-hold            == the proved rows of the scope, those with rings, and one that only the order of lines decides (proofs/Rows.antt)
 --   wheel-rows-hold      == rows of two drawings that pinwheels cut best, and of a tie that goes to the straight cut (proofs/Rows.antt)
 --   new-rows-hold        == rows by the default rule (proofs/Rows.antt)
 --   entries-of-L, new-entries-of-L == the whole table of L by the first rule of the table and by the default (proofs/Rows.antt)

@@ -1,6 +1,6 @@
 -- The tests say the conditions, and the number is that of the first that holds. Assumes nothing.
 --
---   order, test, firstOf     == document 01's order; whether a refusal's condition holds; the number of the first that does
+--   order, test, firstOf     == the scope's order; whether a refusal's condition holds; the number of the first that does
 --   test-true, true-test     == where a refusal's test passes its condition holds, and back
 --   test-false               == where the condition does not hold the test fails
 --   numberOf, outcome-number == the number of the first test that passes is the outcome's

@@ -1,4 +1,4 @@
--- Same drawing, same shots (document 02, Item 14), in either mode. Assumes nothing.
+-- Same drawing, same shots (Item 14), in either mode. Assumes nothing.
 --
 --   redrawn-same      == the same drawing, drawn otherwise, has the same outcome: answer, table and list, refusals among them
 --   moved-same        == a drawing that is moved has the same answer, cuts and table, refusals among them

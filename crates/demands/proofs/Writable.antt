@@ -1,4 +1,4 @@
--- The list of an accepted fracture is a shot list: it passes document 02's refusal 21, so that it can be written and joined. Assumes
+-- The list of an accepted fracture is a shot list: it passes the scope's refusal 21, so that it can be written and joined. Assumes
 -- nothing.
 --
 --   none-empty           == a list of shots none of which is empty has no empty one

@@ -1,4 +1,4 @@
--- To believe: rows of cuts weighed, of the drawings of document 01 and of Item 1.
+-- To believe: rows of cuts weighed, of the drawings of the scope and of Item 1.
 --
 --   CutRow               == a figure, and how many cuts its fracture weighs
 --   square, touching, apart   == a square; two that touch in a corner; two rings apart

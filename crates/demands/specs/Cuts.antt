@@ -1,4 +1,4 @@
--- To believe: how many cuts a fracture weighs (document 02, Item 6), of a grid, and of a figure at unit squares.
+-- To believe: how many cuts a fracture weighs (Item 6), of a grid, and of a figure at unit squares.
 --
 -- Of a grid
 --   linesWithin p        == the lines strictly between the ends of the piece p, both ways

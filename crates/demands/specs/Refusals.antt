@@ -1,8 +1,8 @@
--- To believe: when a fracture is refused: document 01's conditions 1 to 7, for figures as document 02 has them, said of the input alone.
+-- To believe: when a fracture is refused: the scope's conditions 1 to 7, said of the input alone.
 --
 --   Changes a e        == the edge e changes the coordinate along the axis a
 --   Keeps a e          == it does not
---   Condition c        == what document 01 says of the refusal c; no fracture is refused for any but the first seven
+--   Condition c        == what the scope says of the refusal c; no fracture is refused for any but the first seven
 --   First c            == the condition of c holds, and none of a lower number does
 use Prim.Native.Nat.{ℕ, _*_, _<_}
 use mathlib.Core.Path.{_≡_}

@@ -1,11 +1,11 @@
--- To believe: the ten proved rows of document 01, "Drawings to test on" (that of the 10 nm square as document 02's Item 4 has it), four with rings,
+-- To believe: the ten proved rows of docs/SCOPE.md, "Drawings to test on" (that of the 10 nm square as Item 4 has it), four with rings,
 -- one of a tie, three of flecks, four by the default rule of Item 7, and five of two drawings that pinwheels cut best.
 --
 --   By                 == the rule that a row is for: one of threshold and weight, or any in range
 --   Meant b t w        == the row is for the rule of threshold t and weight w
 --   Rival              == a cut of the frame, and what its parts cost together
 --   Row                == a drawing, its mode and rule, and the outcome: number, cost, sliver length, the list of shots, and cuts of the frame that
---                         document 01 names
+--                         the scope names
 --   Says row r o       == what a row says of an outcome o by the rule r
 --   Holds row          == for every rule that the row is for, and any buffers with room for 14,400 entries and 225 shots, that is the
 --                         outcome
@@ -71,7 +71,7 @@ Holds row =
     → 14400 ≤ length (ask .table) → 900 ≤ length (ask .list)
     → Says row (ruleOf ask) (outcome ask)
 
--- a figure of one ring: document 01's outline
+-- a figure of one ring: the scope's outline
 abbrev pub outline : List ℕ → Figure
 outline l = figure l (length l / 2 ∷ [])
 
@@ -151,7 +151,7 @@ rows =
     }
     ∷ []
 
--- document 02, Item 7: what the default rule makes of L, of B, and of bars of 24 and of 9 nm
+-- Item 7: what the default rule makes of L, of B, and of bars of 24 and of 9 nm
 abbrev pub newRows : List Row
 newRows =
     good L 10 100 2000 0 (0 ∷ 0 ∷ 60 ∷ 80 ∷ 60 ∷ 0 ∷ 100 ∷ 20 ∷ []) []

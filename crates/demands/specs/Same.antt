@@ -1,4 +1,4 @@
--- To believe: what stays of an answer when a drawing is moved, and what is dearer (document 02, Item 14).
+-- To believe: what stays of an answer when a drawing is moved, and what is dearer (Item 14).
 --
 --   shiftShot dx dy s   == the shot s moved by dx to the right and by dy upwards
 --   bare o              == the outcome o without its list: number, shots, cost, sliver length, cuts and table

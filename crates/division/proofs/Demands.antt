@@ -2,7 +2,7 @@
 --
 -- For all that it can be asked (ask, and the largest side m); o is the outcome, u that of the same question before division, with room
 -- aside for every shot, and F the figure at the nanometre. Words says that the figure is given by 16-bit numbers, as every figure is.
--- Demand 3 and document 01's bound on totals speak of the list before division: they are the theorems `never-cheaper`, `attained`,
+-- Demand 3 and the scope's bound on totals speak of the list before division: they are the theorems `never-cheaper`, `attained`,
 -- `frame-entry` and `bound` of demands/proofs/Demands.antt, of u, whose table is the one that is left (`before-division`).
 --
 -- Demand 1

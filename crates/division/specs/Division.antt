@@ -1,4 +1,4 @@
--- To believe: the largest shot (document 02, Item 9): a shot divided into parts no side of which is longer than m, in nm. Nothing here
+-- To believe: the largest shot (Item 9): a shot divided into parts no side of which is longer than m, in nm. Nothing here
 -- knows of figures, lines, cells or pieces.
 --
 --   across s, upward s == the two sides of a shot

@@ -9,7 +9,7 @@
 --                         leaves the list, or the parts. The cost is reported anew
 --   after m w o list   == by the outcome o before division: what it is refused by, or its parts, listed
 --   dividedOutcome ask m == 1; 19; what the undivided fracture is refused by; 7 or the parts. The table holds the costs before division
---   Condition, First   == the same as conditions of the input alone: 19 and 7 in document 02's words, 1 to 6 as they are without m; tried in
+--   Condition, First   == the same as conditions of the input alone: 19 and 7 in the scope's words, 1 to 6 as they are without m; tried in
 --                         the order 1, 19, 2 to 7
 --   turn c             == when the condition of c is tried
 use Prim.Native.Nat.{ℕ, _+_, _*_, _<_}

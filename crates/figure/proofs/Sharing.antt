@@ -1,7 +1,7 @@
 -- How the numbers of a figure are shared out to its rings. Assumes nothing.
 --
 --   corners-whole   == the corners of all rings, one after the other, are the corners of the whole list
---   one-ring ..     == a figure of one ring is document 01's outline: bad by the length of its list alone, its corners, edges and turns
+--   one-ring ..     == a figure of one ring is the scope's outline: bad by the length of its list alone, its corners, edges and turns
 --                      those of the list, and so its faults and what is inside
 use Prim.Native.Nat.{ℕ, zero, suc, _+_, _*_, _/_, _%_, _<_}
 use mathlib.Core.Path.{_≡_, refl, sym, _∙_, ap}

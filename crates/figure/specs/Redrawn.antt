@@ -1,4 +1,4 @@
--- To believe: the same drawing, drawn otherwise or elsewhere (document 02, Item 14).
+-- To believe: the same drawing, drawn otherwise or elsewhere (Item 14).
 --
 --   numbersOf r       == the numbers x, y, x, y, .. of the corners of a ring
 --   ofRings rs        == the figure of these rings, as the calls take it

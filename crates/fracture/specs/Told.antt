@@ -1,4 +1,4 @@
--- To believe: document 01's number and values for each answer of a fracture, and what a fracture without a rule is asked.
+-- To believe: the scope's number and values for each answer of a fracture, and what a fracture without a rule is asked.
 --
 --   told a table list   == what the answer a tells, with what the two buffers hold then: 0 on success; a refusal has zeros for cost,
 --                          sliver and cuts, and for the shots what the answer has

@@ -1,4 +1,4 @@
--- The two calls on an element are refused exactly when document 02 says so, by the first number in its order, and what they hold then, said
+-- The two calls on an element are refused exactly when the scope says so, by the first number in its order, and what they hold then, said
 -- of the bytes, with the premise that they are bytes, as those of every lent slice of bytes are. Assumes nothing.
 --
 --   Decided, decided    == points, by the first of 17, 18 and 2 that holds, or none

@@ -1,4 +1,4 @@
--- To believe: when a boundary element is at fault, what it holds, and its ring moved to 0, in document 02's words, said of the bytes and not
+-- To believe: when a boundary element is at fault, what it holds, and its ring moved to 0, in the scope's words, said of the bytes and not
 -- by the reader.
 --
 -- Records

@@ -1,4 +1,4 @@
--- The calls on an index are refused exactly when document 02 says so, by the first condition in its order, and then nothing moves. Assumes
+-- The calls on an index are refused exactly when the scope says so, by the first condition in its order, and then nothing moves. Assumes
 -- nothing.
 --
 --   exactly, accepted, keeps == of any answer: what is told by a law for each condition, and by cases

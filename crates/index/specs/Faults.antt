@@ -1,4 +1,4 @@
--- To believe: when the calls on an index are refused, each condition with those before it in document 02's order, and not by the reader.
+-- To believe: when the calls on an index are refused, each condition with those before it in the scope's order, and not by the reader.
 --
 --   grown k                == how many bytes a header for k + 1 outlines is longer than one for k: one exactly at 127
 --   figureSize f           == how many bytes the figure f has in a job

@@ -3,7 +3,7 @@
 --   then-cases       == what holds of both ways that a reading after another can go
 --   both-le, some-lt, none-lt == two tests at once, of two numbers each
 --   value-last       == a sound number that is out of range is told by 10 and its last byte
---   value-told       == what reading a number from low to high finds is what document 01's words say of the bytes there: a sound number in
+--   value-told       == what reading a number from low to high finds is what the scope's words say of the bytes there: a sound number in
 --                       range; or, with the byte at fault, the fault of its bytes, or 10 of a sound one out of range
 use Prim.Native.Nat.{ℕ, _+_, _-_, _<_, _≤_}
 use mathlib.Core.Path.{_≡_, refl, sym, ap, subst}

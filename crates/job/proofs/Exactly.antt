@@ -1,4 +1,4 @@
--- The reading calls are refused exactly when document 01 says so, and what they hold then. Assumes nothing.
+-- The reading calls are refused exactly when the scope says so, and what they hold then. Assumes nothing.
 --
 --   body-follow, job-past, job-exactly == a job has a fault exactly when `JobFault` says so
 --   fault-one        == and that is its only one

@@ -1,4 +1,4 @@
--- The writers are refused exactly when document 01 says so, by the first condition that holds, and write nothing then. Assumes nothing.
+-- The writers are refused exactly when the scope says so, by the first condition that holds, and write nothing then. Assumes nothing.
 --
 --   Ends C n, first-exactly, none-exactly == a number that tells the first condition that holds, or that none does
 --   header-exactly   == a header's writer tells c exactly when c is the first of 1, 10 for K above 255, 14 that holds

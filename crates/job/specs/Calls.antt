@@ -1,4 +1,4 @@
--- To believe: what the calls on job bytes promise, document 01's numbers and what the lent memory holds, for all inputs.
+-- To believe: what the calls on job bytes promise, the scope's numbers and what the lent memory holds, for all inputs.
 --
 --   CheckSaid            == what checking a job tells: number, threshold, weight, K, offset
 --   jobSaid r            == the same of a job that is read or not: a refusal has zeros beside its number and offset

@@ -1,4 +1,4 @@
--- To believe: the numbers that a job wants, one after another, and when its bytes are at fault, in document 01's words and not by the
+-- To believe: the numbers that a job wants, one after another, and when its bytes are at fault, in the scope's words and not by the
 -- reader.
 --
 --   Want                   == a number that is wanted, by what it is for
@@ -18,8 +18,8 @@
 --   TakeFault s k r o      == the fault of taking figure k: the job's; else 13, where k is not below K
 --   Holds p ls             == the part p is the bytes of the figure with the rings ls
 --   UnpackFault p l ns r o == the fault of unpacking: the part's; else 14, where one of the two lists is too short for its figure
---   HeaderFault t w k out  == document 01's conditions of a header writer
---   OutlineFault f out     == document 01's conditions of a figure's writer
+--   HeaderFault t w k out  == the scope's conditions of a header writer
+--   OutlineFault f out     == the scope's conditions of a figure's writer
 --   filledWith f l ns      == the figure f at the front of the two lists, the rest as it came in
 --   fronted b out          == the bytes b at the front of the buffer, the rest as it came in
 --   First C c              == the condition of c holds, and none of a lower number does

@@ -4,7 +4,7 @@
 --   all-joined, none-joined   == shots on all four sides of one: with both ends in common, or the low ones, or the high ones; and with no
 --                                end in common, in a point, apart, one over the other
 --   row-is                    == the promise of a list and a table allows just one outcome, which the steps compute
---   rows                      == lists with their partners and flashes; the last has four rectangles that take two flashes, as document 003
+--   rows                      == lists with their partners and flashes; the last has four rectangles that take two flashes, as Hoshi and Fujiyoshi's paper
 --                                says of its Figure 3 (its text gives no sizes: these are ours)
 --   union-corners             == of one rectangle 4; of two that touch in a point 8, whichever way they lie; of a T 8; of two apart 8
 use Prim.Native.Nat.{ℕ, _/_}

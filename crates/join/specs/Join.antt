@@ -11,7 +11,7 @@
 --   asShot e                == the shot of an entry;   at t i == entry i of a table, past its end noEntry, five zeros;   partnerAt t i == its
 --                              partner
 --   refusal l room          == 21, 14, in this order; 0 where the list l is joined in a table of so many entries
---   JoinSaid, joinLent      == what the call says: document 02's number, the flashes, and the table as it is then
+--   JoinSaid, joinLent      == what the call says: the scope's number, the flashes, and the table as it is then
 --   joinTold r t            == that, of the answer r
 --   Joins l t s             == what is said of a list that is joined in the table t
 --   Promise l t s           == what the call says of any list and table

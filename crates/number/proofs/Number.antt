@@ -4,7 +4,7 @@
 --   Shown s at r p   == what byte the place p is, where the number at a place is refused by r
 --   fault-byte       == a fault of a number shows the byte at fault: 8 the end of the bytes, 9 a zero byte past the number's first, 10 the
 --                       number's third byte, whose top bit is set
---   number-told      == what reading a number finds is what document 01's words say of the bytes there
+--   number-told      == what reading a number finds is what the scope's words say of the bytes there
 --   number-none      == no byte at the place
 --   number-one, number-two, number-three == a number of so many bytes
 --   number-ends-two, number-ends-three   == the bytes end before the second, the third byte

@@ -1,8 +1,8 @@
--- To believe: a number at a place in document 01's words, said of the bytes there and not by the reader.
+-- To believe: a number at a place in the scope's words, said of the bytes there and not by the reader.
 --
 --   GoesOn s at n      == n bytes stand at the place, and each has its top bit set: the number goes on past them
---   Faulty s at r p    == document 01's condition of the refusal r, of the number that starts at the place; and p is the byte at fault,
---                         as document 02 wants it shown
+--   Faulty s at r p    == the scope's condition of the refusal r, of the number that starts at the place; and p is the byte at fault,
+--                         as the scope wants it shown
 --   worth s at n       == what n bytes with their top bit set and the byte after them are worth, the lowest group of seven bits first
 --   Sound s at v next  == a number stands at the place: v is what it is worth, and next is the place past its last byte
 --   Told s at u        == the bytes at the place say u: a sound number; or a fault of the number, with the byte at fault

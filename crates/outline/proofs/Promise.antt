@@ -8,7 +8,7 @@
 --   cells-empty, cells-some      == where no cell in memory is 1 no cell is inside, and the other way round
 --   refusal-2, -3, -4, -5, -0    == the refusal, by the tests in their order
 --   refusal-first, answer-first  == a refusal is given exactly when it is the first whose condition holds
---   one-ring-refusal             == a figure of one ring is refused as document 01 says of an outline
+--   one-ring-refusal             == a figure of one ring is refused as the scope says of an outline
 --   refusal-most                 == no refusal of a drawing has a number above 5
 --   right-sound                  == the grid of a figure that passes 2 to 4 is sound
 --   promise-refused, promise-empty, promise-accepted   == each way a drawing ends keeps the promise
@@ -402,7 +402,7 @@ promise-unique f r s xs ys cells xs′ ys′ cells′ p q =
       ap (λ (m : Memory). m .cells) e,
     )
 
--- A figure of one ring is refused as document 01 says of an outline
+-- A figure of one ring is refused as the scope says of an outline
 pub one-ring-refusal : (l : List ℕ)
     → refusal (figure l (length l / 2 ∷ []))
     ≡ cond (odd (length l) || (ltb (length l) 8 || ltb 64 (length l))) 2

@@ -1,4 +1,4 @@
--- No total exceeds document 01's number: each cell pays for itself and for its own exposed sides. Assumes nothing.
+-- No total exceeds the scope's number: each cell pays for itself and for its own exposed sides. Assumes nothing.
 --
 --   sideways g i j     == the exposed left and right sides of the cell (i, j), in nm; of the turned grid: bottom and top
 --   cost-due           == a piece costs at most 1,000 for each of its cells and the weight of their exposed sides

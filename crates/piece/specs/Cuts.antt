@@ -1,5 +1,5 @@
--- To believe: the fracture of a grid by straight cuts (document 01, "Pieces, slivers, cost"; the paper's equation (2)), and by pinwheels too
--- (document 02, Item 8; the paper's equation (3)). The mode says which.
+-- To believe: the fracture of a grid by straight cuts (docs/SCOPE.md, "Pieces, slivers, cost"; the paper's equation (2)), and by pinwheels too
+-- ("Pinwheels"; the paper's equation (3)). The mode says which.
 --
 --   turns            == the two turns of a pinwheel in their order: the first and the second term of equation (3)
 --   Cut              == a vertical cut lies on an x line, a horizontal one on a y line; it runs across the whole piece. A pinwheel has its

@@ -1,4 +1,4 @@
--- To believe: pieces of a grid: their kind, their exposed sides, and what they are charged as a shot (document 01, "Pieces, slivers, cost").
+-- To believe: pieces of a grid: their kind, their exposed sides, and what they are charged as a shot (docs/SCOPE.md, "Pieces, slivers, cost").
 --
 -- Pieces
 --   Piece                     == between the x lines a < c and the y lines b < d
@@ -21,7 +21,7 @@
 --   width, height             == from line to line, in nm
 --   sliver g r p              == p's sliver length under the rule r (rule/specs/Charge.antt)
 --   charge g r p              == its charge as a shot: equation (1) of the paper, times 1,000
---   mostCost                  == document 01's bound: no total exceeds it
+--   mostCost                  == the scope's bound: no total exceeds it
 use Prim.Native.Nat.{ℕ, zero, suc, _+_, _-_}
 use mathlib.Core.Bool.{Bool, true, false, not, _&&_}
 use lib.Dec.{leb, ltb, eqb}

@@ -1,4 +1,4 @@
--- To believe: the numbers of refusals, document 01's ("When the answer is no"), from 16 on document 02's, and 23 that of one edge
+-- To believe: the numbers of refusals, as docs/SCOPE.md has them, "When the answer is no"; 23 is that of one edge
 -- (docs/SCOPE.md).
 --
 --   refusalNo      == the number of each refusal

@@ -30,7 +30,7 @@ pub enum Refusal {
     Edge,
 }
 
-// The number of a refusal: document 01's, from 16 on document 02's, and 23 that of one edge (docs/SCOPE.md).
+// The number of a refusal, as docs/SCOPE.md has it.
 pub fn refusal_no(why: Refusal) -> u32
     ensures settled { λ n. ⌜ n ≡ refusalNo why ⌝ }
 {

@@ -1,7 +1,7 @@
-// The drawings of document 01's table and the worked figures with several rings, and what is said of each.
+// The drawings of the scope's table and the worked figures with several rings, and what is said of each.
 use super::guarded::sum;
 
-// Rows 0 to 19 are document 01's; those from 20 on have rings, or ring lengths that are refused.
+// Rows 0 to 19 are the scope's; those from 20 on have rings, or ring lengths that are refused.
 pub const WINDOWS: usize = 20;
 
 // How many rows there are.

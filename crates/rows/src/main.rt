@@ -1,4 +1,4 @@
-// Runs every row of document 01's table of drawings, the worked figures with windows, and some hundred made-up figures, by the
+// Runs every row of the scope's table of drawings, the worked figures with windows, and some hundred made-up figures, by the
 // library and by a second fracturer that is written another way, and compares answer by answer, shot by shot and cost by cost.
 mod document;
 mod drawings;
@@ -129,7 +129,7 @@ fn compare(corners: &[u16], lengths: &[u16], asked: Asked, row: usize) -> Compar
 fn form(i: usize) -> u8 {
     let forms = b"row # rule # #: number # shots # cost # sliver #, DIFFERENT\n\
         row # rule # #: number # shots # cost # sliver #, the same\n\
-        document 01: # outlines, # fractured, # shots, # different\n\
+        the scope: # outlines, # fractured, # shots, # different\n\
         crossing walks: # outlines, # fractured, # shots, # different\n\
         touching walks: # outlines, # fractured, # shots, # different\n\
         16 by 16 lines: # outlines, # fractured, # shots, # different\n\

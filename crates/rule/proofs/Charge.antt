@@ -1,7 +1,7 @@
 -- Laws of the charge: all that anybody above knows of how it is reckoned. Assumes nothing.
 --
 --   sliver-square    == of a square below the threshold the greater exposed length counts
---   sliver-flecks    == where not both extents are below the threshold it is document 01's length
+--   sliver-flecks    == where not both extents are below the threshold it is the length without Item 4
 --   sliver-turn      == x for y
 --   sliver-most      == no more than what is exposed
 --   spared-x, spared-y == sides that are spared have no influence on it

@@ -4,7 +4,7 @@
 --   rule-made, rule-refused == what the constructor's answer says of its two numbers
 --   range-true       == numbers in range are within the limit
 --   preset-row, preset-past == the cases of `presetTold`
---   preset-numbers   == the four rows of document 01 as numbers
+--   preset-numbers   == the four rows of the scope as numbers
 --   default-numbers  == the default's threshold is 10 nm, its weight 100
 --   preset-product   == weight times threshold is 1,000 in every row, by one test computed over the table
 --   made-one, row-one == two answers that tell the same are the same

@@ -1,4 +1,4 @@
--- To believe: what a shot is charged (document 01, "Pieces, slivers, cost", with document 02's Item 4), from its two extents and the exposed lengths of its two pairs of sides.
+-- To believe: what a shot is charged (docs/SCOPE.md, "Pieces, slivers, cost"), from its two extents and the exposed lengths of its two pairs of sides.
 --
 --   longer w h u l       == of a shot of width w and height h, its left and right sides being exposed over u nm together, its bottom and top
 --                           over l nm: the exposed length of its two longer sides; of a square the greater of both

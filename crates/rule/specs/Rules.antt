@@ -2,13 +2,13 @@
 --
 --   limit          == the most that a threshold (nm) and a weight (thousandths of a shot per nm) may be
 --   inRange t w    == whether threshold and weight are both within the limit
---   Told           == what a call tells that gives a rule: document 01's number (0 on success), the threshold, the weight
+--   Told           == what a call tells that gives a rule: the scope's number (0 on success), the threshold, the weight
 --   given r        == the rule r is given
 --   refused n      == refused by the number n, zeros beside it
 --   ruleTold t w   == the rule of threshold t and weight w, or 1
---   presets        == document 01, "Rules by preset", by the rows' numbers
+--   presets        == docs/SCOPE.md, "Rules by preset", by the rows' numbers
 --   presetTold n   == the row n, or 15
---   defaultPreset  == document 02, Item 7: the number of the row that a fracture without a rule goes by
+--   defaultPreset  == Item 7: the number of the row that a fracture without a rule goes by
 --   madeTold       == what each case of the constructor's answer tells
 --   rowTold        == what each case of the preset call's answer tells
 use Prim.Native.Nat.{ℕ, zero, suc}

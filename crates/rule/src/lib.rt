@@ -24,7 +24,7 @@ pub enum Preset {
     Refused(Refusal),
 }
 
-// Document 01, "Rules by preset": weight times threshold is 1,000 in every row.
+// docs/SCOPE.md, "Rules by preset": weight times threshold is 1,000 in every row.
 pub const PRESETS: [Rule; 4] = [
     Rule {
         threshold: 25,

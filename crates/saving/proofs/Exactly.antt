@@ -1,4 +1,4 @@
--- Saving is refused exactly when document 02 says so, by the first condition in its order, and then nothing is written. Assumes nothing.
+-- Saving is refused exactly when the scope says so, by the first condition in its order, and then nothing is written. Assumes nothing.
 --
 --   head-exactly     == a header has a fault exactly when `HeadFault` says so
 --   save-exactly     == saving tells r with the offset o exactly when that is its fault

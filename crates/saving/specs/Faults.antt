@@ -1,7 +1,7 @@
--- To believe: when saving is refused, each condition with those before it in document 02's order.
+-- To believe: when saving is refused, each condition with those before it in the scope's order.
 --
 --   headWants            == the three numbers of a header
---   HeadFault s r o      == the first fault of the header, in document 01's words: legal numbers, and after them a bad one whose byte at fault is o
+--   HeadFault s r o      == the first fault of the header, in the scope's words: legal numbers, and after them a bad one whose byte at fault is o
 --   SaveFault s out r o  == saving the job s: 12; the header's fault; 14, where the buffer is shorter than the sound job
 use Prim.Native.Nat.{ℕ, _<_, _≤_}
 use mathlib.Core.Path.{_≡_}

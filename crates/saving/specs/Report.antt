@@ -1,4 +1,4 @@
--- To believe: what an accepted call reports, in document 02's words.
+-- To believe: what an accepted call reports, in the scope's words.
 --
 --   Report s u       == u tells of the bytes s: the outlines kept read well one after another from the header on; they are all that are
 --                       declared, or the next does not read at its place; lost are the others declared; dropped is every byte after the

@@ -1,6 +1,6 @@
 -- Refusal 21 of a shot list. Assumes nothing.
 --
---   Good l           == in document 02's words, place by place: the length of l is a multiple of four, and the high x and y of each of
+--   Good l           == in the scope's words, place by place: the length of l is a multiple of four, and the high x and y of each of
 --                       its shots are above its low ones
 --   Bad l            == its length is no multiple of four; or shot i of it has a high x or y that is not above the low one
 --   good-shots, shots-good == a list passes 21 exactly when it is good
@@ -114,7 +114,7 @@ pub empty-wide : (s : Shot) → s .xlow < s .xhigh → leb (s .yhigh) (s .ylow) 
 unfolding empty
 empty-wide s h = sym (ap (λ t. t || leb (s .yhigh) (s .ylow)) (lt-leb (s .xhigh) (s .xlow) h))
 
--- 21 in document 02's words, both ways
+-- 21 in the scope's words, both ways
 
 module _ (l : List ℕ) where
   pub bad-shots : badShots l ≡ true → Bad l

@@ -1,4 +1,4 @@
--- To believe: document 02's refusal 21, a shot list whose length is no multiple of four, or a shot whose high x or y is not above its
+-- To believe: the scope's refusal 21, a shot list whose length is no multiple of four, or a shot whose high x or y is not above its
 -- low one.
 --
 --   shotOf a b c d == the shot of the four numbers x low, y low, x high, y high

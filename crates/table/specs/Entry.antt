@@ -1,4 +1,4 @@
--- To believe: the cost table, which entry is a piece's, and what the table holds (document 01, "Lent memory of a fracture").
+-- To believe: the cost table, which entry is a piece's, and what the table holds (docs/SCOPE.md, "Lent memory of a fracture").
 -- Lines are numbered from 0; `last` is the number of the last of them, which is also the count of columns or rows between them.
 --
 --   pairsBelow last a        == how many pairs of lines have their low line below a

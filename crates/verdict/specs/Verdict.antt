@@ -1,4 +1,4 @@
--- Inner: the verdict of a piece (document 01, "Pieces, slivers, cost"; document 02, Item 8). Nobody has to believe these.
+-- Inner: the verdict of a piece (docs/SCOPE.md, "Pieces, slivers, cost" and "Pinwheels"). Nobody has to believe these.
 --
 --   placed columns rows p == the piece p as the code holds it, with its entry in the table of a grid of so many columns and rows
 --   numbered g p          == the same, by the size of the grid g

@@ -8,7 +8,7 @@ use crate::words::text;
 use crate::words::wide;
 use fracture::Fractured;
 
-// Drawing B of document 01: a block of 200 by 200 with a nose of 10 by 100 on its right.
+// Drawing B of the scope: a block of 200 by 200 with a nose of 10 by 100 on its right.
 const B: [u16; 16] = [
     0,
     0,
@@ -28,7 +28,7 @@ const B: [u16; 16] = [
     200,
 ];
 
-// Two squares of document 01 that touch in a corner, drawn as one outline.
+// Two squares of the scope that touch in a corner, drawn as one outline.
 const TOUCHING: [u16; 12] = [0, 0, 10, 0, 10, 20, 20, 20, 20, 10, 0, 10];
 
 // The one ring of B has 8 corners, that of the two squares 6.

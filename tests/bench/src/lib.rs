@@ -72,7 +72,7 @@ fn layout_with_windows() -> Vec<Drawing> {
     })
 }
 
-/// The frame with a window of document 02.
+/// The frame with a window of the scope.
 fn framed() -> Drawing {
     Drawing { corners: FRAMED.to_vec(), rings: vec![4, 4] }
 }

@@ -1,4 +1,4 @@
-//! Divided shots compared: document 02's rows, largest sides around each end of their range, lists of every
+//! Divided shots compared: the scope's rows, largest sides around each end of their range, lists of every
 //! length around the limit, the full square, and many seeded drawings in both modes; small ones unit square
 //! by unit square.
 
@@ -69,7 +69,7 @@ const ROWS: [Row; 7] = [
     Row { corners: &[0, 0, 200, 0, 200, 200, 0, 200], rule: (25, 40), largest: 200, told: [1, 1000, 0], list: &[0, 0, 200, 200] },
 ];
 
-/// Document 02's rows, in both modes, in lists of every length up to beyond what is needed.
+/// The scope's rows, in both modes, in lists of every length up to beyond what is needed.
 pub fn rows(plan: &Plan, progress: &Progress) {
     let (table, marks) = (vec![7; 14_400], vec![9; 64]);
     for row in &ROWS {

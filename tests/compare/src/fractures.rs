@@ -106,7 +106,7 @@ pub fn wheel_rows(plan: &Plan, progress: &Progress) {
     progress.done(format!("pinwheels: {} rows", UNTURNED.len() + WHEELS.len()));
 }
 
-/// Document 02's stairs over 16 by 16 lines.
+/// The scope's stairs over 16 by 16 lines.
 fn stairs() -> Drawing {
     let mut corners = vec![0, 0];
     for step in 0..15u16 {
@@ -171,13 +171,13 @@ pub fn rows(plan: &Plan, progress: &Progress) {
     }
     for (bytes, number) in NUMBERS {
         let told = Law.number(bytes, 0);
-        assert_eq!(told.number, number, "document 01, {bytes:x?}");
+        assert_eq!(told.number, number, "the scope, {bytes:x?}");
         if let Some(library) = plan.library {
-            assert_eq!(library.number(bytes, 0), told, "document 01, {bytes:x?}");
+            assert_eq!(library.number(bytes, 0), told, "the scope, {bytes:x?}");
             progress.same();
         }
     }
-    progress.done(format!("document 01: {} rows; rings: {} rows", ROWS.len() + NUMBERS.len(), RINGS.len()));
+    progress.done(format!("the scope: {} rows; rings: {} rows", ROWS.len() + NUMBERS.len(), RINGS.len()));
 }
 
 pub fn presets(plan: &Plan, progress: &Progress) {

@@ -1,4 +1,4 @@
-//! The calls that read a boundary element compared: document 02's rows, elements that other tools wrote,
+//! The calls that read a boundary element compared: the scope's rows, elements that other tools wrote,
 //! cut at every length and with every byte set to every value, and elements from seeds, sound and damaged.
 
 use crate::progress::{Progress, Tally};

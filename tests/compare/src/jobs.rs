@@ -60,7 +60,7 @@ pub fn ring_rows(plan: &Plan, progress: &Progress) {
         let told = unpack(library, behind, (64, 8), 1, progress);
         assert_eq!(told, Told::of(*number, &[0, 0, *at as u64 - 3]), "{name}: {behind:x?}");
     }
-    // the worked example of document 01 with a byte damaged: a V of 0 is no fault any more, R is
+    // the worked example of the scope with a byte damaged: a V of 0 is no fault any more, R is
     for (at, byte, fault) in [(1, 0x80, 5), (1, 0xff, 5), (3, 0x00, 4)] {
         let mut bytes = JOB;
         bytes[at] = byte;

@@ -1,4 +1,4 @@
-//! Joining compared: document 02's rows and one of document 003's kind, tables of every length around the
+//! Joining compared: the scope's rows and one of the kind of Hoshi and Fujiyoshi's paper, tables of every length around the
 //! limit, lists from seeds and the lists of fractures; the table entry by entry, field by field, with
 //! canaries on either side.
 
@@ -21,7 +21,7 @@ fn ask(library: Library, list: &[u16], entries: usize, seed: u64, progress: &Pro
     (told, table.held()[..joined].iter().map(|e| e.partner).collect())
 }
 
-/// The rows: list, partners, flashes. Of the last, document 003's Figure 3 says that four rectangles take two
+/// The rows: list, partners, flashes. Of the last, Figure 3 of Hoshi and Fujiyoshi's paper says that four rectangles take two
 /// flashes; its text gives no sizes, so these are ours.
 pub fn rows(plan: &Plan, progress: &Progress) {
     let Some(library) = plan.library else { return };

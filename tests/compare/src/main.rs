@@ -102,7 +102,7 @@ fn main() {
     let plan = plan();
     let progress = Progress::new();
     println!(
-        "comparing {} with documents 01 and 02 in plain Rust: seed {}, {} threads",
+        "comparing {} with the scope in plain Rust: seed {}, {} threads",
         if plan.library.is_some() { "the library and the C++ baselines" } else { "the C++ baselines alone" },
         plan.seed,
         plan.threads

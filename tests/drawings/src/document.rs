@@ -1,5 +1,5 @@
-//! The drawings of document 01's table with their outcomes, and the worked example; the same for
-//! windows (document 02, Item 1) and for pinwheels (Item 8).
+//! The drawings of the scope's table with their outcomes, and the worked example; the same for
+//! windows (Item 1) and for pinwheels (Item 8).
 
 use law::Drawing;
 
@@ -280,7 +280,7 @@ pub fn ring_faults() -> Vec<(&'static str, Vec<u8>, u32, usize)> {
     ]
 }
 
-/// The last row of document 01: numbers that are refused.
+/// The last row of the scope: numbers that are refused.
 pub const NUMBERS: [(&[u8], u32); 2] = [(&[0x80, 0x00], 9), (&[0x80, 0x80, 0x80, 0x00], 10)];
 
 /// Item 5: bytes, the place of a number in them, its refusal, and the byte at fault.

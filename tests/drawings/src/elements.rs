@@ -1,4 +1,4 @@
-//! Boundary elements of GDSII streams, sound and damaged (document 02, Item 2).
+//! Boundary elements of GDSII streams, sound and damaged (Item 2).
 
 use crate::outlines;
 use crate::seeded::Seeded;

@@ -106,7 +106,7 @@ fn again(s: &mut Seeded) -> Vec<Shape> {
     rings
 }
 
-/// An outline of document 01's sorts with rectangles in its frame, inside it or not.
+/// An outline of the scope's sorts with rectangles in its frame, inside it or not.
 fn punched(s: &mut Seeded) -> Vec<Shape> {
     let outline = loop {
         let sort = s.below(6);

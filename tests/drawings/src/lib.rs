@@ -10,7 +10,7 @@
 //! | `elements` | boundary elements of GDSII streams, sound and damaged |
 //! | `shots` | lists of shots to join, sound and bad |
 //! | `texts` | CIF texts of shot lists, sound and damaged |
-//! | `document` | the drawings of document 01, and those of windows, with their outcomes |
+//! | `document` | the drawings of the scope, and those of windows, with their outcomes |
 
 pub mod document;
 pub mod elements;

@@ -118,7 +118,7 @@ pub fn header(threshold: u32, weight: u32, outlines: u32) -> Vec<u8> {
     out
 }
 
-/// The bytes of a drawing that 2 does not refuse: one ring in document 01's form, more after a 0 and
+/// The bytes of a drawing that 2 does not refuse: one ring in the scope's form, more after a 0 and
 /// their number.
 pub fn written_outline(drawing: &Drawing) -> Vec<u8> {
     let rings = drawing.apart().expect("a drawing to write");

@@ -8,7 +8,7 @@ use crate::Told;
 /// Threshold and weight of presets 0 to 3.
 pub const PRESETS: [(u32, u32); 4] = [(25, 40), (10, 100), (5, 200), (50, 20)];
 
-/// The rule of a fracture that names none (document 02, Item 7).
+/// The rule of a fracture that names none (Item 7).
 pub const DEFAULT: (u32, u32) = PRESETS[1];
 
 pub fn preset(number: u32) -> Told {

@@ -1,4 +1,4 @@
-//! A shot list as a CIF text and back (document 02, Item 12). A line is read by splitting it and
+//! A shot list as a CIF text and back (Item 12). A line is read by splitting it and
 //! printing its numbers anew, so that only the one form passes.
 
 use crate::Told;

@@ -122,7 +122,7 @@ impl<'a> Fracture<'a> {
     }
 
     /// The sliver length of a piece as a shot. Where both extents are below the threshold only the two
-    /// longer sides count; of a square the pair with the greater exposed length (document 02, Item 4).
+    /// longer sides count; of a square the pair with the greater exposed length (Item 4).
     pub fn sliver(&self, p: Piece) -> u32 {
         let (a, c, b, d) = (p.a as isize, p.c as isize, p.b as isize, p.d as isize);
         let [x_low, y_low, x_high, y_high] = self.shot(p);

@@ -1,4 +1,4 @@
-//! The largest shot (document 02, Item 9): each shot of a fracture divided into parts that fit.
+//! The largest shot (Item 9): each shot of a fracture divided into parts that fit.
 
 use crate::call::{fracture, fracture_pinwheel};
 use crate::cutting::Shot;

@@ -9,7 +9,7 @@ pub struct Drawing {
 }
 
 impl Drawing {
-    /// An outline of document 01: one ring. (Of an odd list the last number belongs to no corner.)
+    /// An outline of the scope: one ring. (Of an odd list the last number belongs to no corner.)
     pub fn outline(corners: &[u16]) -> Drawing {
         Drawing::of(&[corners])
     }

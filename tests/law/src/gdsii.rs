@@ -1,4 +1,4 @@
-//! Document 02, Item 2: one boundary element of a GDSII stream, read into corners or fractured.
+//! Item 2: one boundary element of a GDSII stream, read into corners or fractured.
 
 use crate::call::{self, PRESETS};
 use crate::drawing::Drawing;

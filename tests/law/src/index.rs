@@ -1,4 +1,4 @@
-//! An index beside a job (document 02, Item 10). A job is changed as a list of drawings and written anew; where its
+//! An index beside a job (Item 10). A job is changed as a list of drawings and written anew; where its
 //! outlines begin is reckoned by adding up their lengths, and not by reading.
 
 use crate::bytes::{header, job, outline, written_outline, Fault};

@@ -1,4 +1,4 @@
-//! Joining shots in pairs (document 02, Item 13). Whether two shots can be joined is told by their union
+//! Joining shots in pairs (Item 13). Whether two shots can be joined is told by their union
 //! alone: they share no area, and it has fewer corners than the eight that two rectangles have. Whoever is
 //! free is kept in a queue.
 

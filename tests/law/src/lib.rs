@@ -1,4 +1,4 @@
-//! Document 01, with windows and GDSII boundaries (document 02, Items 1 and 2) and pinwheels (Item 8), in plain Rust: what
+//! The scope (docs/SCOPE.md) in plain Rust: what
 //! every call answers and what it leaves in lent memory.
 //!
 //! Written from the documents alone, and built otherwise than the proved library, so that the two

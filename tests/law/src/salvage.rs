@@ -1,4 +1,4 @@
-//! Saving what is left of a job (document 02, Item 11): the outlines before the first fault, and a job of them.
+//! Saving what is left of a job (Item 11): the outlines before the first fault, and a job of them.
 
 use crate::bytes::{header, outline, ranged, written_outline, Fault};
 use crate::Told;

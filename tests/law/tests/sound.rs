@@ -169,7 +169,7 @@ fn no_cutting_with_pinwheels_is_cheaper() {
     println!("{compared} cuttings, {cheaper} of 600 figures cheaper by pinwheels");
 }
 
-/// Every cutting of W2 (document 02, Item 8), of 4 by 4 cells: the cheapest with pinwheels is one, and costs less than every straight one.
+/// Every cutting of W2 (Item 8), of 4 by 4 cells: the cheapest with pinwheels is one, and costs less than every straight one.
 #[test]
 fn a_pinwheel_is_cheaper() {
     let corners = [
@@ -181,7 +181,7 @@ fn a_pinwheel_is_cheaper() {
     assert_eq!(least(&Fracture::with_pinwheels(&figure, 25, 40)), 10_800);
 }
 
-/// Refusals 2 to 4 as document 02 orders them: each over all rings before the next.
+/// Refusals 2 to 4 as the scope orders them: each over all rings before the next.
 #[test]
 fn refusals_over_all_rings() {
     let square = [0, 0, 100, 0, 100, 100, 0, 100];
@@ -212,7 +212,7 @@ fn refusals_over_all_rings() {
     }
 }
 
-/// Joining is told by the corners of the union: for all pairs of shots on a small sheet that is what document 02
+/// Joining is told by the corners of the union: for all pairs of shots on a small sheet that is what the scope
 /// says of their sides.
 #[test]
 fn joining_by_corners_is_joining_by_sides() {

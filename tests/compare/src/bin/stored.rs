@@ -50,7 +50,7 @@ fn sized(total: usize) -> Vec<u8> {
 const SLANTED: [u16; 8] = [0, 0, 10, 0, 10, 10, 5, 5];
 const STRAIGHT: [u16; 10] = [0, 0, 10, 0, 20, 0, 20, 10, 0, 10];
 
-/// Runs of outlines: document 01.
+/// Runs of outlines: the scope.
 fn outline_runs() -> Vec<Run> {
     let mut s = Seeded::new(7);
     let many: Vec<Drawing> = (0..255).map(|_| small(&mut s)).collect();
@@ -83,7 +83,7 @@ fn outline_runs() -> Vec<Run> {
     runs.into_iter().map(|(name, input)| (name.to_string(), input)).collect()
 }
 
-/// Runs of figures with several rings: document 02, Item 1.
+/// Runs of figures with several rings: Item 1.
 fn ring_runs() -> Vec<Run> {
     let mut s = Seeded::new(8);
     let sorts: Vec<Drawing> = (0..figures::SORTS.len()).map(|sort| figures::of_sort(&mut s, sort)).collect();

@@ -20,7 +20,7 @@ fn fractured(library: Library, drawing: &Drawing) -> Option<Vec<u16>> {
     (told.number == 0).then_some(list)
 }
 
-/// Single lists: document 02's shot; none; the greatest; the corners of the sheet; centres on whole and on half
+/// Single lists: the scope's shot; none; the greatest; the corners of the sheet; centres on whole and on half
 /// nanometres.
 fn named() -> Vec<(String, Vec<u16>)> {
     let lists: [(&str, &[u16]); 5] = [
