@@ -22,7 +22,7 @@ ghost use Rattle.fracture.specs.Told.{told};
 ghost use Rattle.gdsii.specs.Calls.{boundaryTold, boundaryRead, plateTold, boundaryFractured};
 ghost use Rattle.gdsii.specs.Steps.{qualified};
 
-mod places;
+pub mod places;
 mod stream;
 
 // Two numbers for each corner of the longest ring.

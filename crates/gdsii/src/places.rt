@@ -27,7 +27,7 @@ const HIGHEST: u32 = 4294967295;
 const MOST_EXTENT: u64 = 65535;
 
 // The number that is `raised` less 2^31: the coordinate itself.
-fn lowered(raised: u32) -> i32
+pub fn lowered(raised: u32) -> i32
     ensures { λ r. ⌜ r ≡ subℕ raised 2147483648 ⌝ }
 {
     (raised as i64 - 2147483648) as i32

@@ -4,6 +4,7 @@ use crate::lines::ended;
 use explanation::texts::say_text;
 use gdsii::Plate;
 use gdsii::fracture_boundary;
+use gdsii::places::lowered;
 use preparation::lines::print_done;
 use refusal::Refusal;
 use refusal::refusal_no;
@@ -15,25 +16,54 @@ use terminal::output::Output;
 use terminal::output::nothing_yet;
 use terminal::output::print;
 use terminal::output::print_number;
+ghost use Prim.Native.Nat.{_+_, _-_, _≤_, _<_};
 
 // The longest element, with room to spare: six records, of which XY alone is longer than a few bytes, and none longer than 65,535. What is
 // longer has bytes behind its end, and still has them where the rest is not read.
 const MOST_ELEMENT: usize = 131072;
 
-// How far a signed number is from 0.
-fn distance(n: i32) -> u64 {
-    if n < 0 {
-        return (-(n as i64)) as u64;
+// What lies between two numbers, the first of them with it.
+struct Between {
+    low: u64,
+    high: u64,
+}
+
+// The half of it in which the number is that is lowered to n.
+fn halved(between: Between, n: i32) -> Between
+    requires { ⌜ (between .low + 1 < between .high) × (between .high ≤ 4294967296) ⌝ }
+    ensures { λ r. ⌜ (r .low < r .high) × (r .high ≤ 4294967296) × (r .high - r .low < between .high - between .low) ⌝ }
+{
+    let low = between.low;
+    let high = between.high;
+    let middle = low + (high - low) / 2;
+    if lowered(middle as u32) <= n {
+        return Between { low: middle, high };
     }
-    n as u64
+    Between { low, high: middle }
+}
+
+// A signed number raised by 2^31, as the element's coordinates are inside (`gdsii::places`): the one that is lowered to n, found by halving,
+// so that no sum of signed numbers is needed.
+fn raised(n: i32) -> u64
+    ensures { λ r. ⌜ r ≤ 4294967295 ⌝ }
+{
+    let mut between = Between {
+        low: 0,
+        high: 4294967296,
+    };
+    while between.low + 1 < between.high {
+        between = halved(between, n);
+    }
+    between.low
 }
 
 // A word, and a signed number after it.
 fn print_signed(out: Output, word: &[u8], n: i32) -> Output {
-    if n < 0 {
-        return print_number(print(out, word), b"-", distance(n));
+    let above = raised(n);
+    if above < 2147483648 {
+        return print_number(print(out, word), b"-", 2147483648 - above);
     }
-    print_number(out, word, distance(n))
+    print_number(out, word, above - 2147483648)
 }
 
 // An element that is refused: its number and place on standard output, and the words beside it.
