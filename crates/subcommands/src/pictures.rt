@@ -15,31 +15,6 @@ use terminal::arguments::NO_NUMBER;
 use terminal::errors::complain;
 use terminal::output::nothing_yet;
 
-// Where the name of a file begins behind its folders: past the last of the slashes among its first n bytes.
-fn past_folders(path: &[u8], n: usize) -> usize {
-    let mut start = 0;
-    let mut i = 0;
-    while i < n {
-        if i < path.len() {
-            if path[i] == b'/' {
-                start = i + 1;
-            }
-        }
-        i += 1;
-    }
-    start
-}
-
-// The part of a path from one byte to another; nothing where there is none.
-fn part(path: &[u8], start: usize, end: usize) -> &[u8] {
-    if start <= end {
-        if end <= path.len() {
-            return &path[start..end];
-        }
-    }
-    b""
-}
-
 // A figure of the file of this name, drawn; or told in words where it is refused.
 fn run(name: &[u8], corners: &[u16], lengths: &[u16], chosen: Chosen, pinwheels: bool) -> u32 {
     let k = chosen.k;
@@ -66,18 +41,11 @@ fn run(name: &[u8], corners: &[u16], lengths: &[u16], chosen: Chosen, pinwheels:
     }
 }
 
-// The same by the name of the file that word 2 names, without its folders.
+// The same by the name of the file that word 2 names.
 fn run_named(corners: &[u16], lengths: &[u16], chosen: Chosen, pinwheels: bool) -> u32 {
     let mut path = io::buffer();
     let length = os::arg(2, &mut path);
-    let start = past_folders(&path, length);
-    run(
-        part(&path, start, length),
-        corners,
-        lengths,
-        chosen,
-        pinwheels,
-    )
+    run(&path[..length], corners, lengths, chosen, pinwheels)
 }
 
 // The same by the front parts of two lists.

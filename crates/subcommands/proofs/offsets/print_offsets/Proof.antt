@@ -5,10 +5,10 @@ use Rattle.subcommands.proofs.offsets.print_offsets.Statement.{statemen
 use Rattle.subcommands.proofs.offsets.print_offsets.Tie as tie
 
 abbrev Inv-loop : tie.InvT-loop
-Inv-loop index outlines next₀ k₀ next k = k ≤ k-end
+Inv-loop index outlines next₀ k₀ next k = k ≤ outlines
 
 abbrev μ-loop : tie.MeasureT-loop
-μ-loop index outlines next₀ k₀ next k = k-end - k
+μ-loop index outlines next₀ k₀ next k = outlines - k
 
 loop-holds : tie.Need-loop-holds Inv-loop μ-loop
 loop-holds c = search needs
