@@ -6,8 +6,14 @@
 #include <stddef.h>
 #include <stdint.h>
 
+#ifdef __cplusplus
+extern "C" {
+#endif
 extern long read(int descriptor, void *to, size_t count);
 extern long write(int descriptor, const void *from, size_t count);
+#ifdef __cplusplus
+}
+#endif
 
 /* Writes a text that ends in 0. */
 static void say(const char *text) {
