@@ -93,7 +93,7 @@ fn read_and_run() -> u32 {
     told(run(&job[..n], &mut table, &mut list))
 }
 
-// The whole run, with its status, for a start that can end with one (crates/prep/c/main.c).
+// The whole run, with its status, for a start that can end with one (crates/starts/c/main.c).
 #[no_mangle]
 pub extern "C" fn pw_prep() -> u32 {
     if 2 < os::arg_count() {

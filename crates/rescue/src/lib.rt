@@ -115,7 +115,7 @@ fn read_and_run() -> u32 {
     run(&job[..n], &mut room)
 }
 
-// The whole run, with its status, for a start that can end with one (crates/salvage/c/main.c).
+// The whole run, with its status, for a start that can end with one (crates/starts/c/main.c).
 #[no_mangle]
 pub extern "C" fn pw_salvage_run() -> u32 {
     if 2 < os::arg_count() {

@@ -1,4 +1,4 @@
-// The runs of our programs, for starts in C that end with a status (crates/PROGRAM/c/main.c). A static library is proved anew where it is
+// The runs of our programs, for a start in C that ends with a status (c/main.c). A static library is proved anew where it is
 // made: so it is made of these few lines, and not of the libraries that hold the runs.
 
 #[no_mangle]

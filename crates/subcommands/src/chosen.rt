@@ -1,6 +1,7 @@
 // One figure of a job: word 2 names the job or the drawing, word 3 the figure.
 use crate::lines::figure_number;
 use crate::sources::Header;
+use crate::sources::front_bytes;
 use crate::sources::header_of;
 use crate::sources::read_job;
 use crate::sources::unpack_figure;
@@ -65,15 +66,6 @@ fn chosen_of(job: &[u8], corners: &mut [u16], lengths: &mut [u16]) -> Chosen {
     numbered(job, k, header, corners, lengths)
 }
 
-// The same by so many bytes at the front of a buffer.
-fn chosen_read(job: &[u8], n: usize, corners: &mut [u16], lengths: &mut [u16]) -> Chosen {
-    let front = 0;
-    if job.len() < n {
-        return none(FAILED);
-    }
-    chosen_of(&job[front..n], corners, lengths)
-}
-
 // The figure that words 2 and 3 name, unpacked to the front of two lists.
 pub fn choose(corners: &mut [u16], lengths: &mut [u16]) -> Chosen {
     let mut job = [0u8; MOST_BYTES + 1];
@@ -82,5 +74,6 @@ pub fn choose(corners: &mut [u16], lengths: &mut [u16]) -> Chosen {
     if status != DONE {
         return none(status);
     }
-    chosen_read(&job, got.bytes, corners, lengths)
+    let read = front_bytes(&job, got.bytes);
+    chosen_of(read, corners, lengths)
 }

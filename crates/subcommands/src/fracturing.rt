@@ -5,7 +5,8 @@ use crate::lines::print_answer;
 use crate::options::Options;
 use crate::options::options_from;
 use crate::sources::Header;
-use crate::sources::Shape;
+use crate::sources::front_bytes;
+use crate::sources::front_numbers;
 use crate::sources::read_job;
 use crate::sources::unpack_figure;
 use division::fracture_divided;
@@ -114,38 +115,6 @@ fn run_figure(
     }
 }
 
-// The same by the front parts of two lists.
-fn run_front(
-    corners: &[u16],
-    lengths: &[u16],
-    size: Shape,
-    k: usize,
-    header: Header,
-    options: Options,
-    table: &mut [u32],
-    list: &mut [u16],
-    out: Output,
-) -> Ran {
-    let front = 0;
-    let n = size.numbers;
-    let r = size.rings;
-    if n <= corners.len() {
-        if r <= lengths.len() {
-            return run_figure(
-                &corners[front..n],
-                &lengths[front..r],
-                k,
-                header,
-                options,
-                table,
-                list,
-                out,
-            );
-        }
-    }
-    Ran { out, refused: true }
-}
-
 // Figure k of the job, fractured and printed.
 fn run_outline(
     job: &[u8],
@@ -159,17 +128,9 @@ fn run_outline(
     let mut corners = [0u16; 2 * MOST_CORNERS];
     let mut lengths = [0u16; MOST_RINGS];
     let size = unpack_figure(job, k, &mut corners, &mut lengths);
-    run_front(
-        &corners,
-        &lengths,
-        size,
-        k,
-        header,
-        options,
-        table,
-        list,
-        out,
-    )
+    let outline = front_numbers(&corners, size.numbers);
+    let rings = front_numbers(&lengths, size.rings);
+    run_figure(outline, rings, k, header, options, table, list, out)
 }
 
 // Each figure in turn, until a write fails.
@@ -228,15 +189,6 @@ fn run(job: &[u8], options: Options) -> u32 {
     }
 }
 
-// The same by so many bytes at the front of a buffer.
-fn run_read(job: &[u8], n: usize, options: Options) -> u32 {
-    let front = 0;
-    if job.len() < n {
-        return FAILED;
-    }
-    run(&job[front..n], options)
-}
-
 // The subcommand: its file is word 2, and its options stand behind it.
 pub fn fracture_words(words: usize) -> u32 {
     let options = options_from(3, words);
@@ -250,5 +202,6 @@ pub fn fracture_words(words: usize) -> u32 {
     if status != DONE {
         return status;
     }
-    run_read(&job, got.bytes, options)
+    let read = front_bytes(&job, got.bytes);
+    run(read, options)
 }

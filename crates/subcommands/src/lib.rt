@@ -117,7 +117,7 @@ fn run(which: Subcommand, words: usize) -> u32 {
     }
 }
 
-// The whole run, with its status, for a start that can end with one (crates/pinarewhemi/c/main.c).
+// The whole run, with its status, for a start that can end with one (crates/starts/c/main.c).
 #[no_mangle]
 pub extern "C" fn pw_pinarewhemi() -> u32 {
     let words = os::arg_count();

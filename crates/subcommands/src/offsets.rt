@@ -1,5 +1,6 @@
 // `pinarewhemi index`: where each outline of a job starts, to find it in a hex viewer.
 use crate::lines::ended;
+use crate::sources::front_bytes;
 use crate::sources::read_job;
 use explanation::jobs;
 use index::opening::Opened;
@@ -62,15 +63,6 @@ fn run(job: &[u8]) -> u32 {
     }
 }
 
-// The same by so many bytes at the front of a buffer.
-fn run_read(job: &[u8], n: usize) -> u32 {
-    let front = 0;
-    if job.len() < n {
-        return FAILED;
-    }
-    run(&job[front..n])
-}
-
 // The subcommand: its file is word 2.
 pub fn offset_words() -> u32 {
     let mut job = [0u8; MOST_BYTES + 1];
@@ -79,5 +71,6 @@ pub fn offset_words() -> u32 {
     if status != DONE {
         return status;
     }
-    run_read(&job, got.bytes)
+    let read = front_bytes(&job, got.bytes);
+    run(read)
 }

@@ -1,6 +1,7 @@
 // `pinarewhemi pack` and `pinarewhemi list`: a text drawing into a job, and back again.
 use crate::lines::ended;
 use crate::sources::MOST_TEXT;
+use crate::sources::front_bytes;
 use crate::sources::packed;
 use drawing::list;
 use explanation::jobs;
@@ -13,15 +14,6 @@ use terminal::output::Output;
 use terminal::output::nothing_yet;
 use terminal::output::print;
 
-// The first bytes of a job, written.
-fn write_job(job: &[u8], bytes: usize) -> u32 {
-    let front = 0;
-    if job.len() < bytes {
-        return FAILED;
-    }
-    ended(print(nothing_yet(), &job[front..bytes]), false)
-}
-
 // A drawing, packed and written.
 fn pack_text(text: &[u8]) -> u32 {
     let mut job = [0u8; MOST_BYTES];
@@ -30,7 +22,8 @@ fn pack_text(text: &[u8]) -> u32 {
     if status != DONE {
         return status;
     }
-    write_job(&job, got.bytes)
+    let written = front_bytes(&job, got.bytes);
+    ended(print(nothing_yet(), written), false)
 }
 
 // Packs the drawing that word 2 names.

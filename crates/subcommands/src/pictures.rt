@@ -3,6 +3,7 @@ use crate::chosen::Chosen;
 use crate::chosen::choose;
 use crate::lines::ended;
 use crate::options::options_from;
+use crate::sources::front_numbers;
 use explanation::figures;
 use figure::MOST_CORNERS;
 use figure::MOST_RINGS;
@@ -48,19 +49,6 @@ fn run_named(corners: &[u16], lengths: &[u16], chosen: Chosen, pinwheels: bool) 
     run(&path[..length], corners, lengths, chosen, pinwheels)
 }
 
-// The same by the front parts of two lists.
-fn run_front(corners: &[u16], lengths: &[u16], chosen: Chosen, pinwheels: bool) -> u32 {
-    let front = 0;
-    let n = chosen.numbers;
-    let r = chosen.rings;
-    if n <= corners.len() {
-        if r <= lengths.len() {
-            return run_named(&corners[front..n], &lengths[front..r], chosen, pinwheels);
-        }
-    }
-    FAILED
-}
-
 // The subcommand: words 2 and 3 name the figure, and its options stand behind them. A divided list is not drawn.
 pub fn picture_words(words: usize) -> u32 {
     let options = options_from(4, words);
@@ -78,5 +66,7 @@ pub fn picture_words(words: usize) -> u32 {
     if status != DONE {
         return status;
     }
-    run_front(&corners, &lengths, chosen, options.pinwheels)
+    let outline = front_numbers(&corners, chosen.numbers);
+    let rings = front_numbers(&lengths, chosen.rings);
+    run_named(outline, rings, chosen, options.pinwheels)
 }

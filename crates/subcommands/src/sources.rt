@@ -41,6 +41,24 @@ pub struct Shape {
     pub rings: usize,
 }
 
+// The first n bytes of some; all of them where there are fewer.
+pub fn front_bytes(bytes: &[u8], n: usize) -> &[u8] {
+    let start = 0;
+    if n < bytes.len() {
+        return &bytes[start..n];
+    }
+    bytes
+}
+
+// The first n numbers of a list; all of them where there are fewer.
+pub fn front_numbers(list: &[u16], n: usize) -> &[u16] {
+    let start = 0;
+    if n < list.len() {
+        return &list[start..n];
+    }
+    list
+}
+
 // No job.
 fn no_job(status: u32) -> Job {
     Job { bytes: 0, status }

@@ -2,6 +2,8 @@
 use crate::chosen::Chosen;
 use crate::chosen::choose;
 use crate::lines::ended;
+use crate::sources::front_bytes;
+use crate::sources::front_numbers;
 use cif::Written;
 use cif::write;
 use explanation::figures;
@@ -11,7 +13,6 @@ use fracture::Fractured;
 use fracture::fracture;
 use refusal::Refusal;
 use terminal::DONE;
-use terminal::FAILED;
 use terminal::REFUSED;
 use terminal::output::nothing_yet;
 use terminal::output::print;
@@ -19,32 +20,13 @@ use terminal::output::print;
 // Bytes that are enough for the text of every fracture.
 const TEXT: usize = 6553;
 
-// The first bytes of a text, printed.
-fn print_text(text: &[u8], bytes: usize) -> u32 {
-    let front = 0;
-    if text.len() < bytes {
-        return FAILED;
-    }
-    ended(print(nothing_yet(), &text[front..bytes]), false)
-}
-
 // The text of a shot list. It has room, and a fracture's list is one that can be written, so neither 14 nor 21 is given.
 fn write_list(list: &[u16]) -> u32 {
     let mut text = [0u8; TEXT];
     match write(list, &mut text) {
         Written::Refused(_) => REFUSED,
-        Written::Bytes(bytes) => print_text(&text, bytes),
+        Written::Bytes(bytes) => ended(print(nothing_yet(), front_bytes(&text, bytes)), false),
     }
-}
-
-// The text of so many shots at the front of a list.
-fn write_shots(list: &[u16], shots: u32) -> u32 {
-    let front = 0;
-    let n = 4 * (shots as usize);
-    if list.len() < n {
-        return FAILED;
-    }
-    write_list(&list[front..n])
 }
 
 // A figure that is refused, told in words.
@@ -71,21 +53,8 @@ fn run(corners: &[u16], lengths: &[u16], chosen: Chosen) -> u32 {
             cost: _,
             sliver: _,
             cuts: _,
-        } => write_shots(&list, shots),
+        } => write_list(front_numbers(&list, 4 * (shots as usize))),
     }
-}
-
-// The same by the front parts of two lists.
-fn run_front(corners: &[u16], lengths: &[u16], chosen: Chosen) -> u32 {
-    let front = 0;
-    let n = chosen.numbers;
-    let r = chosen.rings;
-    if n <= corners.len() {
-        if r <= lengths.len() {
-            return run(&corners[front..n], &lengths[front..r], chosen);
-        }
-    }
-    FAILED
 }
 
 // The subcommand: words 2 and 3 name the figure.
@@ -97,5 +66,7 @@ pub fn text_words() -> u32 {
     if status != DONE {
         return status;
     }
-    run_front(&corners, &lengths, chosen)
+    let outline = front_numbers(&corners, chosen.numbers);
+    let rings = front_numbers(&lengths, chosen.rings);
+    run(outline, rings, chosen)
 }

@@ -513,7 +513,7 @@ pub fn walk_within() -> u32 {
     walk_by(os::arg_count(), 2)
 }
 
-// The walk as a program, for a start that can end with a status (crates/walk/c/main.c).
+// The walk as a program, for a start that can end with a status (crates/starts/c/main.c).
 #[no_mangle]
 pub extern "C" fn pw_walk() -> u32 {
     walk_by(os::arg_count(), 1)

@@ -8,28 +8,20 @@ type Fractures = unsafe extern "C" fn(
     *const u16, usize, *const u16, usize, u32, u32, *mut u32, usize, *mut u16, usize, *mut u32, *mut u32, *mut u32, *mut u32,
 ) -> u32;
 
-extern "C" {
-    fn baseline_fracture(
-        corners: *const u16, corners_len: usize, rings: *const u16, rings_len: usize, threshold: u32, weight: u32,
-        table: *mut u32, table_len: usize, list: *mut u16, list_len: usize,
-        shots: *mut u32, cost: *mut u32, sliver: *mut u32, cuts: *mut u32,
-    ) -> u32;
-    fn baseline_rows_fracture(
-        corners: *const u16, corners_len: usize, rings: *const u16, rings_len: usize, threshold: u32, weight: u32,
-        table: *mut u32, table_len: usize, list: *mut u16, list_len: usize,
-        shots: *mut u32, cost: *mut u32, sliver: *mut u32, cuts: *mut u32,
-    ) -> u32;
-    fn baseline_wheels_fracture(
-        corners: *const u16, corners_len: usize, rings: *const u16, rings_len: usize, threshold: u32, weight: u32,
-        table: *mut u32, table_len: usize, list: *mut u16, list_len: usize,
-        shots: *mut u32, cost: *mut u32, sliver: *mut u32, cuts: *mut u32,
-    ) -> u32;
-    fn baseline_widths_fracture(
-        corners: *const u16, corners_len: usize, rings: *const u16, rings_len: usize, threshold: u32, weight: u32,
-        table: *mut u32, table_len: usize, list: *mut u16, list_len: usize,
-        shots: *mut u32, cost: *mut u32, sliver: *mut u32, cuts: *mut u32,
-    ) -> u32;
+/// Declares baselines of one shape: figure, rule, table, list, and the four numbers that are told.
+macro_rules! declared {
+    ($($name:ident)*) => {
+        extern "C" {
+            $(fn $name(
+                corners: *const u16, corners_len: usize, rings: *const u16, rings_len: usize, threshold: u32, weight: u32,
+                table: *mut u32, table_len: usize, list: *mut u16, list_len: usize,
+                shots: *mut u32, cost: *mut u32, sliver: *mut u32, cuts: *mut u32,
+            ) -> u32;)*
+        }
+    };
 }
+
+declared!(baseline_fracture baseline_rows_fracture baseline_wheels_fracture baseline_widths_fracture);
 
 /// What a lent number holds before a call: no call answers it.
 const MARK: u32 = 0xdead_beef;
