@@ -1,6 +1,8 @@
 // `pinarewhemi gdsii`: a boundary element of a GDSII stream, fractured by preset 0, with the shift that moves its shots back to where the
 // element stands.
 use crate::lines::ended;
+use crate::sources::ENTRIES;
+use crate::sources::NUMBERS;
 use explanation::texts::say_text;
 use gdsii::Plate;
 use gdsii::fracture_boundary;
@@ -97,8 +99,8 @@ fn print_plate(
 
 // An element, fractured and printed.
 fn run(element: &[u8]) -> u32 {
-    let mut table = [0u32; 14400];
-    let mut list = [0u16; 900];
+    let mut table = [0u32; ENTRIES];
+    let mut list = [0u16; NUMBERS];
     match fracture_boundary(element, &mut table, &mut list) {
         Plate::Refused(why, _, at) => print_refused(why, at),
         Plate::Done {

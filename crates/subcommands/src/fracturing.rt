@@ -4,6 +4,8 @@ use crate::lines::ended;
 use crate::lines::print_answer;
 use crate::options::Options;
 use crate::options::options_from;
+use crate::sources::DIVIDED_NUMBERS;
+use crate::sources::ENTRIES;
 use crate::sources::Header;
 use crate::sources::front_bytes;
 use crate::sources::front_numbers;
@@ -28,11 +30,6 @@ use terminal::FAILED;
 use terminal::arguments::NO_NUMBER;
 use terminal::output::Output;
 use terminal::output::nothing_yet;
-
-// Entries of the table, and numbers of the list, that are enough for every figure, divided or not.
-const ENTRIES: usize = 14400;
-
-const NUMBERS: usize = 467856;
 
 // What became of one figure or of several: the output after their lines, and whether one was refused.
 struct Ran {
@@ -160,7 +157,7 @@ fn run_outlines(
 // A job that was accepted.
 fn run_accepted(job: &[u8], header: Header, options: Options) -> u32 {
     let mut table = [0u32; ENTRIES];
-    let mut list = [0u16; NUMBERS];
+    let mut list = [0u16; DIVIDED_NUMBERS];
     let out = print_job(nothing_yet(), header.outlines);
     let ran = run_outlines(job, header, options, &mut table, &mut list, out);
     ended(ran.out, ran.refused)

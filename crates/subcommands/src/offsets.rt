@@ -9,7 +9,6 @@ use job::MOST_BYTES;
 use job::MOST_OUTLINES;
 use refusal::Refusal;
 use terminal::DONE;
-use terminal::FAILED;
 use terminal::REFUSED;
 use terminal::output::Output;
 use terminal::output::nothing_yet;

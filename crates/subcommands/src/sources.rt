@@ -7,7 +7,6 @@ use drawing::tell_line;
 use explanation::jobs;
 use figure::MOST_CORNERS;
 use figure::MOST_RINGS;
-use job::MOST_BYTES;
 use job::read::Checked;
 use job::read::check;
 use job::read::take;
@@ -20,6 +19,13 @@ use terminal::arguments::read_argument;
 
 // The longest drawing that is read, in bytes; a job is much shorter.
 pub const MOST_TEXT: usize = 262144;
+
+// Room that is enough for every figure: entries of the table, and numbers of the list, undivided and divided.
+pub const ENTRIES: usize = 14400;
+
+pub const NUMBERS: usize = 900;
+
+pub const DIVIDED_NUMBERS: usize = 467856;
 
 // A job at the front of a buffer, so many bytes of it; or the status of a program that could not have one, which was told.
 pub struct Job {
@@ -155,7 +161,7 @@ fn part_of<'a>(job: &'a [u8], k: usize) -> &'a [u8] {
 
 // So many corners and rings; none where they are more than any figure has.
 fn shape_of(corners: u32, rings: u32) -> Shape {
-    if corners <= 32 && rings <= 8 {
+    if corners <= MOST_CORNERS as u32 && rings <= MOST_RINGS as u32 {
         return Shape {
             numbers: 2 * (corners as usize),
             rings: rings as usize,

@@ -2,6 +2,8 @@
 use crate::chosen::Chosen;
 use crate::chosen::choose;
 use crate::lines::ended;
+use crate::sources::ENTRIES;
+use crate::sources::NUMBERS;
 use crate::sources::front_bytes;
 use crate::sources::front_numbers;
 use cif::Written;
@@ -37,8 +39,8 @@ fn refuse(k: usize, corners: &[u16], lengths: &[u16], why: Refusal) -> u32 {
 
 // A figure, fractured by the job's rule and written.
 fn run(corners: &[u16], lengths: &[u16], chosen: Chosen) -> u32 {
-    let mut table = [0u32; 14400];
-    let mut list = [0u16; 900];
+    let mut table = [0u32; ENTRIES];
+    let mut list = [0u16; NUMBERS];
     match fracture(
         corners,
         lengths,
