@@ -1,6 +1,6 @@
 /* Pinwheels and the largest shot through the C interface: the worked rows of Items 8 and 9. Of each drawing
  * its answer is printed, by straight cuts, by pinwheels, or by either with a largest side; tests/c/modes.out has what it
- * has to be, taken from the document's rows. */
+ * has to be, taken from the scope's rows. */
 #include "../../include/pinarewhemi.h"
 #include "plain.h"
 

@@ -1,5 +1,5 @@
 /* Replays recorded calls against the archive that is linked: standard input holds calls of the C
- * interface with the outcomes that the documents give them (compare --record writes it, and says
+ * interface with the outcomes that the scope gives them (compare --record writes it, and says
  * the layout). Each lent buffer is filled with a pattern, 16 elements before and beyond it too, and
  * a hash over all of it is compared. The last line counts what was replayed; the status is 0 if all
  * was the same. */

@@ -32,7 +32,7 @@
 --   entry-place          == the entry of the piece between the x lines a < c and the y lines b < d stands, of m columns and n rows, at the
 --                           number of its x pair times n (n + 1) / 2 plus the number of its y pair
 --   reported-is          == the reported shots are those of the frame, in its list order
---   recurrence           == the paper's equation (2), in the pinwheel mode (2) and (3), with the documents' tie order and order of the list,
+--   recurrence           == the paper's equation (2), in the pinwheel mode (2) and (3), with the scope's tie order and order of the list,
 --                           holds of the table
 --   tie-order            == the cut made at a mixed piece: of those that cost least it is vertical if any is, else horizontal if any is, and no
 --                           lower line of its direction costs the same; else it is a pinwheel, of the first turn if any is, and no lower one of

@@ -13,7 +13,7 @@
 --                         less, and each cut before k in the tie order costs more (CutOf, Before: piece/specs/Cuts.antt)
 --   Recurrence mode g r E p
 --                      == the paper's equation (2), in the pinwheel mode (2) and (3), at the piece p of the grid g, for a table of costs E,
---                         with the documents' tie order and order of the list: 0 and no shot outside; the charge and the piece itself where full; else a cut is chosen
+--                         with the scope's tie order and order of the list: 0 and no shot outside; the charge and the piece itself where full; else a cut is chosen
 use Prim.Native.Nat.{ℕ, _+_, _*_, _-_, _/_, _≤_, _<_}
 use mathlib.Core.Path.{_≡_}
 use mathlib.Core.Logic.{_⊎_}

@@ -8,10 +8,13 @@
 --                           with the figure now on its left and now on its right; the first of two shots that have the side; a shot that
 --                           goes on across the edge; no shot at all
 --   order                == 21 before 23, 23 before 14
-use Prim.Native.Nat.{ℕ}
+--   thrice               == the square drawn three times, one ring behind the other
+--   has f shots c k      == the length that edge k has on the side c of the first shot
+--   last-has-it          == of each three edges drawn over each other the last has the length, here of the bottom and the left side
+use Prim.Native.Nat.{ℕ, suc}
 use mathlib.Core.Path.{_≡_, refl}
 use mathlib.Core.List.{List, [], _∷_}
-use Rattle.sum.specs.Sum.{sumOf, over, join}
+use Rattle.sum.specs.Sum.{only, sumOf, over, join}
 use Rattle.figure.specs.Corners.{corners, coordinate, last, steps, around, any, edges, threes, lastButOne, turns, changes, odd, both, neither, same, alike as bends, slanted, unturned}
 use Rattle.figure.specs.Figure.{Figure, figure, share, badLength, badFigure, fault}
 use Rattle.figure.specs.Inside.{wall, walls, covers, count, within, insideAt}
@@ -22,8 +25,10 @@ use Rattle.outline.specs.Promise.{refusal}
 use Rattle.shot.specs.Shot.{holds, shotsIn}
 use Rattle.shot.specs.Bad.{badShots, anyEmpty, empty as emptyShot}
 use Rattle.demands.specs.Square.{exposed}
-use Rattle.edge.specs.Edge.{leaving, numbered, edgeAt, across, standsAt, lowAlong, highAlong, low, high, beneath, beyond}
+use lib.ListN.{drop}
+use Rattle.edge.specs.Edge.{leaving, numbered, edgeAt, across, standsAt, lowAlong, highAlong, low, high, drawnOver, beneath, beyond}
 use Rattle.edge.specs.Landing.{facing, shape, first, shotWith, landing, alike, put, runs, edgeRuns}
+use Rattle.edge.specs.Owned.{onTop, ownedBy}
 use Rattle.edge.specs.Promise.{runNumbers, handed, edgeWalked}
 
 abbrev L : Figure
@@ -61,3 +66,18 @@ pub order : (edgeWalked L 6 (0 ∷ 0 ∷ 6 ∷ 8 ∷ 6 ∷ 0 ∷ 10 ∷ []) [] .
     × (edgeWalked L 0 own (9 ∷ 9 ∷ 9 ∷ 9 ∷ 9 ∷ 9 ∷ 9 ∷ []) .number ≡ 14)
 unfolding edgeWalked handed refusal fault badFigure badLength slanted unturned any both neither same bends turns threes lastButOne grid gridOf insideCells empty lines rising insert place over badShots anyEmpty emptyShot runNumbers join edgeRuns runs put alike landing shotWith first shape facing exposed beneath beyond across standsAt lowAlong highAlong low high edgeAt numbered leaving steps still origin share corners coordinate changes insideAt within walls wall covers count odd sumOf edges around last holds shotsIn
 order = (refl, refl, refl)
+
+abbrev thrice : Figure
+thrice = figure (0 ∷ 0 ∷ 4 ∷ 0 ∷ 4 ∷ 4 ∷ 0 ∷ 4 ∷ 0 ∷ 0 ∷ 4 ∷ 0 ∷ 4 ∷ 4 ∷ 0 ∷ 4 ∷ 0 ∷ 0 ∷ 4 ∷ 0 ∷ 4 ∷ 4 ∷ 0 ∷ 4 ∷ []) (4 ∷ 4 ∷ 4 ∷ [])
+
+pub has : Figure → List ℕ → ℕ → ℕ → ℕ
+has f shots c k =
+    ownedBy (λ a p i. alike (landing a (insideAt f) (shotsIn shots) p i) (record { shot = 1; side = c })) (edgeAt f k) (drop (suc k) (numbered f))
+
+pub last-has-it : (has thrice (0 ∷ 0 ∷ 4 ∷ 4 ∷ []) 3 0 ≡ 0) × (has thrice (0 ∷ 0 ∷ 4 ∷ 4 ∷ []) 3 4 ≡ 0)
+    × (has thrice (0 ∷ 0 ∷ 4 ∷ 4 ∷ []) 3 8 ≡ 4)
+    × (has thrice (0 ∷ 0 ∷ 4 ∷ 4 ∷ []) 1 3 ≡ 0)
+    × (has thrice (0 ∷ 0 ∷ 4 ∷ 4 ∷ []) 1 7 ≡ 0)
+    × (has thrice (0 ∷ 0 ∷ 4 ∷ 4 ∷ []) 1 11 ≡ 4)
+unfolding has over onTop any drawnOver landing alike shotWith first shape facing exposed beneath beyond across standsAt lowAlong highAlong low high edgeAt numbered leaving steps still origin share corners coordinate changes insideAt within walls wall covers count odd sumOf join edges around last holds shotsIn
+last-has-it = (refl, refl, refl, refl, refl, refl)

@@ -3,7 +3,7 @@
 -- Of a figure that passes 2, 3 and 4
 --   walls-are-edges      == whatever the drawing: an odd number of edges is drawn over a stretch exactly if it lies on a side of the figure
 --   runs-any-list        == with any list of shots that have an extent across the edge, at most 15 runs and two for each shot
--- Of an accepted straight fracture: own are the reported shots
+-- Of an accepted fracture, in either mode: own are the reported shots
 --   own-covers           == they cover the figure: each inside square is in one of them, each other in none
 --   own-solid            == none of them is empty, and their ends are coordinates of corners
 --   every-wall           == each stretch that lies on a side of the figure ends up on a reported shot, on the same side of it, and no other
@@ -190,7 +190,7 @@ module _ (f : Figure) (good : Right f) where
           runs-any f flat q e ls (corners-lines b (cornersOf f)) solid (i .0) (j .0) before (j .1) (i .2) (j .2) (omega (arith, long)),
         )
 
--- Of an accepted straight fracture
+-- Of an accepted fracture, in either mode
 module _ (ask : Asked) (words : Words (ask .figure)) (accepted : outcome ask .number ≡ 0) where
   abbrev F : ℕ → ℕ → Bool
   F = insideAt (ask .figure)

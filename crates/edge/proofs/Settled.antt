@@ -3,6 +3,7 @@
 --   edge-settled         == two outcomes that keep the promise are equal, answer and lent buffer
 --   edge-decided         == the answer to every input: 2 to 5, the figure's own refusal; 21, where the list of shots is bad; 23, where there
 --                           is no such edge; 14, where the buffer is too short for the runs; else the runs
+--   edge-beyond          == behind the four numbers of each run every number of the buffer is as it came in, and all of them beside a refusal
 --   runs-of-edge         == the runs share out the edge, each says where its stretches end up, neighbours differ, and no other list does so
 use Prim.Native.Nat.{ℕ, _+_, _*_, _-_, _≤_, _<_}
 use mathlib.Core.Path.{_≡_, _∙_, refl, sym, ap, subst}
@@ -10,7 +11,7 @@ use mathlib.Core.Bool.{Bool, true, false, cond}
 use mathlib.Core.List.{List}
 use native.Mathlib.Omega.{arith}
 use lib.Dec.{ltb, eqb}
-use lib.ListN.{length}
+use lib.ListN.{length, getD}
 use borrow.Author.Tests.{eqb-true, eqb-false, ltb-true, ltb-false}
 use Rattle.refusal.specs.declared.Refusal.{Refusal}
 use Rattle.refusal.specs.Refusals.{refusalNo}
@@ -23,12 +24,14 @@ use Rattle.shot.specs.Shot.{Shot, shotsIn}
 use Rattle.shot.specs.Bad.{badShots}
 use Rattle.shot.proofs.Bad.{Good, Bad, good-shots, bad-shots}
 use Rattle.demands.specs.Promise.{written}
+use Rattle.demands.proofs.Outcome.{written-past}
 use Rattle.edge.specs.declared.Walked.{Walked}
 use Rattle.edge.specs.declared.Walked.the-variants as answer
 use Rattle.edge.specs.Edge.{across, standsAt, lowAlong, highAlong, low, high, edgeAt}
 use Rattle.edge.specs.Landing.{Run, landing, runs, edgeRuns}
 use Rattle.edge.specs.Promise.{EdgeSaid, runNumbers, unwalked, handed, edgeWalked, edgeTold}
 use Rattle.edge.proofs.Runs.{Right, runs-right, runs-unique}
+use Rattle.edge.proofs.Writing.{run-numbers-length}
 
 never : (r : Refusal) → 0 ≡ refusalNo r → ⊥
 never r e = omega (arith, refusal-some r)
@@ -106,6 +109,19 @@ module _ (f : Figure) (k : ℕ) (shots old : List ℕ) where
           (λ b.
           cond b (cond (badShots shots) (unwalked 21 old) (cond (ltb k (length (cornersOf f))) (handed rs old) (unwalked 23 old))) (unwalked (refusal f) old))
           z)
+
+  -- nothing is written beside a refusal, which tells of no run
+  pub edge-beyond : (i : ℕ) → 4 * said .count ≤ i → getD (said .runs) i 0 ≡ getD old i 0
+  edge-beyond i h = go edge-decided
+    where
+      go : Decided → getD (said .runs) i 0 ≡ getD old i 0
+      go (by-figure r e) = ap (λ (u : EdgeSaid). getD (u .runs) i 0) e
+      go (by-shots r b e) = ap (λ (u : EdgeSaid). getD (u .runs) i 0) e
+      go (by-edge r g p e) = ap (λ (u : EdgeSaid). getD (u .runs) i 0) e
+      go (by-room r g p q e) = ap (λ (u : EdgeSaid). getD (u .runs) i 0) e
+      go (walked r g p q e) =
+          ap (λ (u : EdgeSaid). getD (u .runs) i 0) e
+          ∙ written-past (runNumbers rs) old i (omega (arith, h, run-numbers-length rs, ap (λ (u : EdgeSaid). u .count) e))
 
 -- the runs of an edge, in words: they share it out, say what each of its stretches ends up on, and neighbours differ; no other list does so
 pub runs-of-edge : (F : ℕ → ℕ → Bool) (l : List Shot) (e : Link Corner)

@@ -7,5 +7,6 @@ pub mod Measured
 pub mod Storing
 pub mod Answers
 pub mod Exactly
+pub mod Beyond
 pub mod Settled
 pub mod Worked

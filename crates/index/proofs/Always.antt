@@ -1,6 +1,7 @@
 -- An index stays true through any run of calls, and picking by a true index is taking. Assumes nothing.
 --
 --   opened-true, changed-true == a job that is opened, or written anew, has a true index beside it
+--   unopened-kept    == a job that is not opened leaves the index as it came in
 --   Left, append-left, remove-left == an accepted change leaves a true index of the new job, a refused one leaves the index as it came in
 --   reached-true     == after any run of these calls from an opened job the index is what a full reading would give
 --   found-true       == by a true index what is found is the outline of the job, whatever is told of both
@@ -26,9 +27,10 @@ use Rattle.figure.specs.Figure.{Figure, badFigure}
 use Rattle.job.specs.Job.{mostBytes, mostOutlines, Part, part, outlines, Job, job}
 use Rattle.job.specs.Calls.{told, noPart, partBytes, partTaken, taken}
 use Rattle.job.specs.Placed.{startOf, takenAt}
+use Rattle.job.proofs.Beyond.{either}
 use Rattle.job.proofs.Job.{job-whole, part-read}
 use Rattle.index.specs.Index.{startsOf, TrueIndex, OpenSaid, unopened, openedBy, opened, ChangeSaid, unchanged, changedBy, changedTo, withOutline, withoutOutline, appendedTo, appended, removedFrom, removed, found, pickedBy, picked, startIn, pickedAt}
-use Rattle.index.specs.Reached.{Reached, by-open, by-append, by-remove, not-appended, not-removed}
+use Rattle.index.specs.Reached.{Reached, by-open, by-append, by-remove, not-opened, not-appended, not-removed}
 
 -- a refusal's number is no 0
 never : (r : Refusal) → refusalNo r ≡ 0 → ⊥
@@ -58,6 +60,17 @@ opened-true s index e = go (job s) refl e
     go : (u : Reading Job) → job s ≡ u → openedBy index u .number ≡ 0 → TrueIndex s (openedBy index u .index) (openedBy index u .outlines)
     go (fault r p) q f = absurd (never r f)
     go (read j last) q f = fits j last q (leb (length (j .parts)) (length index)) _ (front-true s index q) f
+
+pub unopened-kept : (s index : List ℕ) → (opened s index .number ≡ 0 → ⊥) → opened s index .index ≡ index
+unfolding opened
+unopened-kept s index = go (job s)
+  where
+    go : (u : Reading Job) → (openedBy index u .number ≡ 0 → ⊥) → openedBy index u .index ≡ index
+    go (fault r p) = λ n. refl
+    go (read j last) =
+        either (λ (u : OpenSaid). (u .number ≡ 0 → ⊥) → u .index ≡ index) (leb (length (j .parts)) (length index)) _ _
+        (λ e n. absurd (n refl))
+        (λ e n. refl)
 
 -- what an accepted change leaves, and a refused one
 abbrev pub Left : List ℕ → ChangeSaid → Type 0
@@ -111,6 +124,7 @@ pub reached-true : {s index : List ℕ} {n : ℕ} → Reached s index n → True
 reached-true (by-open s index e) = opened-true s index e
 reached-true (by-append s index out m f r e) = append-left s f index out .0 e
 reached-true (by-remove s index out m k r e) = remove-left s k index out .0 e
+reached-true (not-opened s index n b r e) = subst (λ (l : List ℕ). TrueIndex s l n) (sym (unopened-kept b index e)) (reached-true r)
 reached-true (not-appended s index out n f r e) =
     subst (λ (l : List ℕ). TrueIndex s l n) (sym (append-left s f index out .1 e)) (reached-true r)
 reached-true (not-removed s index out n k r e) =

@@ -2,7 +2,7 @@
 -- Assumes nothing.
 --
 -- The cuts of a piece
---   cuts-all, cuts-at, cut-member        == what holds of each cut in the documents' words (CutOf) holds of each of the list, and back
+--   cuts-all, cuts-at, cut-member        == what holds of each cut in the scope's words (CutOf) holds of each of the list, and back
 --   straight-only                        == the straight-cut mode has no pinwheels
 --   sum-wheel, sum-cuts                  == a cut shares out sums over cells
 --   Part, part-within, parts-part        == the parts of a cut lie within the piece, between rising lines

@@ -1,4 +1,4 @@
--- The tie order: the cuts of a piece are listed in it, so that the first cut of the list is the first in the documents' words. Assumes
+-- The tie order: the cuts of a piece are listed in it, so that the first cut of the list is the first in the scope's words. Assumes
 -- nothing.
 --
 --   run-all                          == what holds of each number of a run holds of the run

@@ -19,7 +19,7 @@
 --   choice mode g r p == the first cut of p whose parts cost what p costs
 --   Then i j R       == i is below j, or they are equal and R holds
 --   Lower j l k m .. == of two pinwheels of one turn the lower: by j, then l, then k, then m
---   Before i k       == the cut i comes before the cut k in the tie order, in the documents' words: vertical before horizontal, the lower line
+--   Before i k       == the cut i comes before the cut k in the tie order, in the scope's words: vertical before horizontal, the lower line
 --                       before the higher, straight cuts before pinwheels, the first turn before the second
 --   numbersOf g l    == the four numbers of each shot of l
 use Prim.Native.Nat.{ℕ, zero, suc, _-_, _<_}

@@ -67,7 +67,7 @@ const LISTS: [[usize; 8]; 51] = [
     [0, 0, 10, 0, 10, 10, 5, 5],
     [0, 0, 10, 0, 20, 0, 20, 10],
     [0, 10, 0, 0, 0, 0, 0, 0],
-    // The shots that the document gives: 13 L, 14 B in three, 16 B in two (from its cost and sliver length), 17 the bar, 18 the
+    // The shots that the scope gives: 13 L, 14 B in three, 16 B in two (from its cost and sliver length), 17 the bar, 18 the
     // square, 19 the two squares.
     [0, 0, 60, 80, 60, 0, 100, 20],
     [0, 0, 200, 50, 0, 50, 210, 150],

@@ -1,4 +1,4 @@
-// What is fractured: figures of thirteen sorts, each by a number. Sorts 0 and 7 are the rows of the document, with one ring and
+// What is fractured: figures of thirteen sorts, each by a number. Sorts 0 and 7 are the rows of the scope, with one ring and
 // with windows. The others are made up. Of one ring: 1 walks that cross themselves, 2 walks on few lines, which touch themselves,
 // 3 walks along 16 by 16 lines, 4 combs, 5 staircases, 6 walks of sorts 1 and 2 that are then spoilt. Of two to eight rings: 8
 // windows in windows, 9 squares that touch, 10 rings that cross, 11 rings that come again, 12 figures of sorts 8 to 11 that are
@@ -14,7 +14,7 @@ use super::second::Asked;
 ghost use mathlib.Core.Path.{_≡_};
 ghost use lib.ListN.{length};
 
-// Whether the figures of a sort are rows of the document.
+// Whether the figures of a sort are rows of the scope.
 pub fn is_row(sort: usize) -> bool {
     (sort == 0) | (sort == 7)
 }

@@ -15,7 +15,7 @@ use second::Answer;
 use second::Asked;
 use second::Memory;
 
-// What the library answered, and whether all of it was the same as the second's and the document's.
+// What the library answered, and whether all of it was the same as the second's and the scope's.
 struct Compared {
     told: Answer,
     same: bool,
@@ -51,7 +51,7 @@ fn same_answer(a: Answer, b: Answer) -> bool {
     (a.number == b.number) & (a.shots == b.shots) & (a.cost == b.cost) & (a.sliver == b.sliver)
 }
 
-// Whether an answer is what the document says of a row; of a figure that is no row it says nothing.
+// Whether an answer is what the scope says of a row; of a figure that is no row it says nothing.
 fn as_document(row: usize, told: Answer) -> bool {
     let said = Answer {
         number: document::row(row, 6),
@@ -62,7 +62,7 @@ fn as_document(row: usize, told: Answer) -> bool {
     (document::COUNT <= row) | same_answer(told, said)
 }
 
-// Whether the library's list is the second's and, of a row, the document's.
+// Whether the library's list is the second's and, of a row, the scope's.
 fn same_list(list: &[u16; 900], own: &Memory, row: usize, shots: usize) -> bool {
     let numbers = shots % 256 * 4;
     let mut same = true;
@@ -87,7 +87,7 @@ fn same_costs(table: &[u32; 14400], own: &Memory) -> bool {
     same
 }
 
-// Whether the second answers the same, with the same list and costs if there are any; and so does the document of a row.
+// Whether the second answers the same, with the same list and costs if there are any; and so does the scope of a row.
 fn agrees(
     corners: &[u16],
     lengths: &[u16],

@@ -1,8 +1,8 @@
 -- Laws of keeping: what reads well one after another. Assumes nothing.
 --
+--   kept-reads       == what is kept is read in a row, and all of it, or up to one that does not read
 --   kept-all, kept-broken  == what is kept, by those that are read in a row: all, or up to one that does not read
 --   kept-within      == it lies in the bytes, and is no more than was asked
---   kept-reads       == it is read in a row, and all of it, or up to one that does not read
 --   Keeping          == the state of the loop: those read so far
 --   keeping-start, keeping-more, keeping-fault, keeping-done == the loop's ways
 use Prim.Native.Nat.{ℕ, zero, suc, _+_, _<_, _≤_, suc-le-suc}
@@ -24,6 +24,31 @@ use Rattle.saving.specs.Salvage.{Left, leftBy, keptFrom}
 use Rattle.saving.specs.Steps.{Keeps}
 
 module _ (s : List ℕ) where
+  pub kept-reads : (k at : ℕ) → (outlines s (length (keptFrom s k at .parts)) at ≡ read (keptFrom s k at .parts) (keptFrom s k at .end))
+      × ((length (keptFrom s k at .parts) ≡ k) ⊎ ((length (keptFrom s k at .parts) < k) × ((r : Refusal) × (o : ℕ) × (part s (keptFrom s k at .end) ≡ fault r o))))
+  unfolding outlines many keptFrom
+  kept-reads zero at = (refl, inl refl)
+  kept-reads (suc k) at = go (part s at) refl (λ next. kept-reads k next)
+    where
+      go : (u : Reading Part) → part s at ≡ u
+          → ((next : ℕ)
+          → (outlines s (length (keptFrom s k next .parts)) next ≡ read (keptFrom s k next .parts) (keptFrom s k next .end))
+          × ((length (keptFrom s k next .parts) ≡ k) ⊎ ((length (keptFrom s k next .parts) < k) × ((r : Refusal) × (o : ℕ) × (part s (keptFrom s k next .end) ≡ fault r o)))))
+          → (outlines s (length (leftBy u at (λ next. keptFrom s k next) .parts)) at
+          ≡ read (leftBy u at (λ next. keptFrom s k next) .parts) (leftBy u at (λ next. keptFrom s k next) .end))
+          × ((length (leftBy u at (λ next. keptFrom s k next) .parts) ≡ suc k)
+          ⊎ ((length (leftBy u at (λ next. keptFrom s k next) .parts) < suc k)
+          × ((r : Refusal) × (o : ℕ) × (part s (leftBy u at (λ next. keptFrom s k next) .end) ≡ fault r o))))
+      go (fault r o) e rest = (refl, inr (omega arith, (r, o, e)))
+      go (read p next) e rest =
+          let i = rest next in (
+            many-cons (part s) at (length (keptFrom s k next .parts)) e (i .0),
+            elim (i .1) [
+              | inl z ↦ inl (ap suc z)
+              | inr z ↦ inr (suc-le-suc (z .0), z .1)
+            ],
+          )
+
   pub kept-all : (n at : ℕ) {ps : List Part} {end : ℕ} → outlines s n at ≡ read ps end → keptFrom s n at ≡ record { parts = ps; end = end }
   unfolding outlines many keptFrom
   kept-all zero at {ps} {end} e =
@@ -49,31 +74,6 @@ module _ (s : List ℕ) where
       ap (λ (u : Reading Part). leftBy u at (λ next. keptFrom s m next)) (i .3)
       ∙ ap (λ (l : Left). record { parts = i .0 ∷ l .parts; end = l .end }) (kept-broken n (i .1) m (i .4) g (le-of-suc-le-suc h))
       ∙ ap (λ (l : List Part). record { parts = l; end = end }) (sym (i .5))
-
-  pub kept-reads : (k at : ℕ) → (outlines s (length (keptFrom s k at .parts)) at ≡ read (keptFrom s k at .parts) (keptFrom s k at .end))
-      × ((length (keptFrom s k at .parts) ≡ k) ⊎ ((length (keptFrom s k at .parts) < k) × ((r : Refusal) × (o : ℕ) × (part s (keptFrom s k at .end) ≡ fault r o))))
-  unfolding outlines many keptFrom
-  kept-reads zero at = (refl, inl refl)
-  kept-reads (suc k) at = go (part s at) refl (λ next. kept-reads k next)
-    where
-      go : (u : Reading Part) → part s at ≡ u
-          → ((next : ℕ)
-          → (outlines s (length (keptFrom s k next .parts)) next ≡ read (keptFrom s k next .parts) (keptFrom s k next .end))
-          × ((length (keptFrom s k next .parts) ≡ k) ⊎ ((length (keptFrom s k next .parts) < k) × ((r : Refusal) × (o : ℕ) × (part s (keptFrom s k next .end) ≡ fault r o)))))
-          → (outlines s (length (leftBy u at (λ next. keptFrom s k next) .parts)) at
-          ≡ read (leftBy u at (λ next. keptFrom s k next) .parts) (leftBy u at (λ next. keptFrom s k next) .end))
-          × ((length (leftBy u at (λ next. keptFrom s k next) .parts) ≡ suc k)
-          ⊎ ((length (leftBy u at (λ next. keptFrom s k next) .parts) < suc k)
-          × ((r : Refusal) × (o : ℕ) × (part s (leftBy u at (λ next. keptFrom s k next) .end) ≡ fault r o))))
-      go (fault r o) e rest = (refl, inr (omega arith, (r, o, e)))
-      go (read p next) e rest =
-          let i = rest next in (
-            many-cons (part s) at (length (keptFrom s k next .parts)) e (i .0),
-            elim (i .1) [
-              | inl z ↦ inl (ap suc z)
-              | inr z ↦ inr (suc-le-suc (z .0), z .1)
-            ],
-          )
 
   pub kept-within : (k at : ℕ) → at ≤ length s
       → (at ≤ keptFrom s k at .end) × (keptFrom s k at .end ≤ length s) × (length (keptFrom s k at .parts) ≤ k)

@@ -22,7 +22,7 @@ fn help_of_all() -> u32 {
 \n\
   pinarewhemi fracture FILE [--largest M] [--pinwheels]   the shots of every figure\n\
   pinarewhemi picture FILE K [--pinwheels] > SVG          figure K and its shots, drawn\n\
-  pinarewhemi walk [FILE K EDGE]                          one edge of figure K, and the shots that it ends up on\n\
+  pinarewhemi walk [JOB K EDGE]                           one edge of figure K, and the shots that it ends up on\n\
   pinarewhemi pack DRAWING > JOB                          a text drawing into a job\n\
   pinarewhemi list JOB > DRAWING                          a job as a text drawing\n\
   pinarewhemi cif FILE K > TEXT                           the shots of figure K for a viewer\n\
@@ -32,7 +32,7 @@ fn help_of_all() -> u32 {
   pinarewhemi SUBCOMMAND --help                           more of one of them\n\
   pinarewhemi --version\n\
 \n\
-FILE is a job or a text drawing, - standard input. Figures and edges are numbered from 0.\n\
+FILE is a job or a text drawing, JOB a job alone; - is standard input. Figures and edges are numbered from 0.\n\
 Status: 0 done; 1 something was refused, and standard error says why; 2 reading or writing failed, or the words\n\
 ask for nothing that there is.\n",
     )
@@ -62,9 +62,10 @@ the charged sides of slivers in red, a scale, and shots, cost and sliver.\n",
 
 fn help_of_walk() -> u32 {
     printed(
-        b"pinarewhemi walk FILE K EDGE\n\
+        b"pinarewhemi walk JOB K EDGE\n\
 \n\
 The way of one edge of figure K of a job, from the bytes of the job to the shots that it ends up on, step by step.\n\
+JOB is a job, as pinarewhemi pack makes one of a text drawing; - is standard input.\n\
 pinarewhemi walk alone prints the walk over drawing B in numbers. docs/WALK.md tells what it shows.\n",
     )
 }

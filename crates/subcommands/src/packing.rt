@@ -28,7 +28,7 @@ fn pack_text(text: &[u8]) -> u32 {
 
 // Packs the drawing that word 2 names.
 pub fn pack_words() -> u32 {
-    let mut text = [0u8; MOST_TEXT];
+    let mut text = [0u8; MOST_TEXT + 1];
     let got = read_argument(b"pinarewhemi", 2, &mut text);
     let failed = got.failed;
     if failed {

@@ -16,8 +16,10 @@ use terminal::DONE;
 use terminal::FAILED;
 use terminal::REFUSED;
 use terminal::arguments::read_argument;
+use terminal::errors::say;
+use terminal::errors::say_number;
 
-// The longest drawing that is read, in bytes; a job is much shorter.
+// The longest drawing, in bytes; a job is much shorter. One byte more is read, so that a longer one shows.
 pub const MOST_TEXT: usize = 262144;
 
 // Room that is enough for every figure: entries of the table, and numbers of the list, undivided and divided.
@@ -90,8 +92,22 @@ fn tell_bad_line(i: usize, line: usize, why: Expected) {
     tell_line(b"pinarewhemi", &name[..length], line, why);
 }
 
-// The job that the drawing of word i is packed to.
+// Tells that the drawing that word i names is too long.
+fn tell_long(i: usize) {
+    let mut name = io::buffer();
+    let length = os::arg(i, &mut name);
+    say(b"pinarewhemi: ");
+    say(&name[..length]);
+    say_number(b": a drawing has at most ", MOST_TEXT as u64);
+    say(b" bytes, and this one has more\n");
+}
+
+// The job that the drawing of word i is packed to. One that is too long was not read to its end: a part of it would be another drawing.
 pub fn packed(i: usize, text: &[u8], job: &mut [u8]) -> Job {
+    if MOST_TEXT < text.len() {
+        tell_long(i);
+        return no_job(REFUSED);
+    }
     match pack(text, job) {
         Packed::Job(bytes) => Job {
             bytes,
@@ -117,7 +133,7 @@ fn job_of(i: usize, bytes: &[u8], job: &mut [u8]) -> Job {
 
 // Reads the file that word i names: a job as it is, one byte more than the longest, so that a longer one shows; a drawing is packed.
 pub fn read_job(i: usize, job: &mut [u8]) -> Job {
-    let mut text = [0u8; MOST_TEXT];
+    let mut text = [0u8; MOST_TEXT + 1];
     let got = read_argument(b"pinarewhemi", i, &mut text);
     let failed = got.failed;
     if failed {

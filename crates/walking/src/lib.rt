@@ -22,6 +22,8 @@ use edge::edge_shots;
 use ends::outcome_of;
 use ends::print_runs;
 use ends::print_shots;
+use explanation::figures;
+use explanation::jobs;
 use figure::MOST_CORNERS;
 use figure::MOST_RINGS;
 use fracture::fracture;
@@ -44,7 +46,6 @@ use outline::draw;
 use pieces::Charge;
 use pieces::print_pieces;
 use refusal::Refusal;
-use refusal::refusal_no;
 use terminal::DONE;
 use terminal::FAILED;
 use terminal::REFUSED;
@@ -54,6 +55,7 @@ use terminal::arguments::number_argument;
 use terminal::arguments::read_argument;
 use terminal::errors::complain;
 use terminal::errors::complain_of;
+use terminal::errors::say;
 use terminal::output::close;
 use words::text;
 ghost use Prim.Native.Nat.{_≤_};
@@ -271,15 +273,10 @@ fn walk_down(
     print_runs(&list, &runs, count);
 }
 
-// A figure with nothing to walk, in one line on standard error.
-fn refuse_figure(k: usize, why: Refusal) -> u32 {
-    complain_of(
-        b"walk: figure ",
-        k as u64,
-        b" is refused by ",
-        refusal_no(why) as u64,
-        b"\n",
-    );
+// A figure with nothing to walk, told in words.
+fn refuse_figure(k: usize, why: Refusal, corners: &[u16], lengths: &[u16]) -> u32 {
+    say(b"walk: ");
+    figures::explain(k, why, corners, lengths);
     REFUSED
 }
 
@@ -341,7 +338,7 @@ fn walk_edge(
     };
     let answer = drawing.answer;
     match answer {
-        Answer::Refused(why) => refuse_figure(k, why),
+        Answer::Refused(why) => refuse_figure(k, why, corners, lengths),
         Answer::Accepted => walk_drawn(
             job,
             header,
@@ -411,22 +408,17 @@ fn walk_figure(job: &[u8], header: Header, k: usize, number: usize) -> u32 {
     walk_front(job, header, at, k, &corners, &lengths, size, number)
 }
 
-// A job that is refused, in one line on standard error.
-fn refuse_job(why: Refusal, at: usize) -> u32 {
-    complain_of(
-        b"walk: the job is refused by ",
-        refusal_no(why) as u64,
-        b" at byte ",
-        at as u64,
-        b"\n",
-    );
+// A job that is refused, told in words.
+fn refuse_job(job: &[u8], why: Refusal, at: usize) -> u32 {
+    say(b"walk: job ");
+    jobs::explain(job, why, at);
     REFUSED
 }
 
 // The walk of one edge of figure k of a job.
 fn walk_job(job: &[u8], k: usize, number: usize) -> u32 {
     match whole(job) {
-        Head::Fault(why, at) => refuse_job(why, at),
+        Head::Fault(why, at) => refuse_job(job, why, at),
         Head::Header {
             threshold,
             weight,

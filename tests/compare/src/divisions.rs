@@ -278,7 +278,7 @@ pub fn drawings(plan: &Plan, progress: &Progress) {
     ));
 }
 
-/// The fracture before division, by the documents.
+/// The fracture before division, by the scope.
 fn before_division(pinwheels: bool, drawing: &Drawing, rule: (u32, u32), list: &mut [u16]) -> Told {
     let mut table = vec![0; 14_400];
     if pinwheels {

@@ -1,4 +1,4 @@
-//! Fractures compared: the documents' rows, buffers of every length, ring lengths of every value, rings
+//! Fractures compared: the scope's rows, buffers of every length, ring lengths of every value, rings
 //! in every order, every cutting of small grids, and many seeded drawings, of one ring and of several,
 //! in buffers full of what the last one left.
 
@@ -88,13 +88,13 @@ impl Case<'_> {
     }
 }
 
-/// The rows of pinwheels: the law against the document in both modes, then the library against the law.
+/// The rows of pinwheels: the law against the scope in both modes, then the library against the law.
 pub fn wheel_rows(plan: &Plan, progress: &Progress) {
     for (row, wheels) in UNTURNED.iter().map(|row| (row, false)).chain(WHEELS.iter().map(|row| (row, true))) {
         let drawing = row.drawing();
         let (table, list) = (vec![7; row.room.0], vec![9; row.room.1]);
         let case = Case { drawing: &drawing, rule: Some(row.rule), table: &table, list: &list };
-        let from = || format!("the document's row: {}", row.name);
+        let from = || format!("the scope's row: {}", row.name);
         let Left { told, list, .. } =
             if wheels { case.compare_pinwheel(plan, progress, &from) } else { case.compare(plan, progress, &from) };
         let [shots, cost, sliver, ..] = told.numbers;
@@ -141,7 +141,7 @@ fn by_default() -> [(Drawing, [u64; 3], &'static [u16]); 4] {
     ]
 }
 
-/// The documents' drawings: the law against the documents, then the others against the law.
+/// The scope's drawings: the law against the scope, then the others against the law.
 pub fn rows(plan: &Plan, progress: &Progress) {
     for (drawing, cuts) in counted() {
         assert_eq!(Law.cuts(&drawing), Told::done(&[cuts]), "{drawing:?}");
@@ -156,12 +156,12 @@ pub fn rows(plan: &Plan, progress: &Progress) {
         let drawing = row.drawing();
         let (table, list) = (vec![7; row.room.0], vec![9; row.room.1]);
         let case = Case { drawing: &drawing, rule: Some(row.rule), table: &table, list: &list };
-        let Left { told, list, .. } = case.compare(plan, progress, &|| format!("the documents' row: {}", row.name));
+        let Left { told, list, .. } = case.compare(plan, progress, &|| format!("the scope's row: {}", row.name));
         let [shots, cost, sliver, ..] = told.numbers;
-        assert_eq!((told.number, [shots, cost, sliver]), row.outcome, "the documents' row: {}", row.name);
-        assert_eq!(&list.held()[..row.list.len()], row.list, "the documents' row: {}", row.name);
+        assert_eq!((told.number, [shots, cost, sliver]), row.outcome, "the scope's row: {}", row.name);
+        assert_eq!(&list.held()[..row.list.len()], row.list, "the scope's row: {}", row.name);
         let case = Case { drawing: &drawing, rule: None, table: &table, list: list.held() };
-        case.compare(plan, progress, &|| format!("the documents' row: {}, no rule named", row.name));
+        case.compare(plan, progress, &|| format!("the scope's row: {}, no rule named", row.name));
     }
     for (drawing, told, shots) in by_default() {
         let case = Case { drawing: &drawing, rule: None, table: &[7; 14_400], list: &[9; 900] };
@@ -350,7 +350,7 @@ fn of_few_lines(s: &mut Seeded) -> Drawing {
     }
 }
 
-/// The document's W2, whose frame a pinwheel makes cheaper: the law's tables against every cutting, as grids from
+/// The scope's W2, whose frame a pinwheel makes cheaper: the law's tables against every cutting, as grids from
 /// seeds hardly ever show such a piece. The rows hold the library to the law on it.
 fn w2_cheaper() -> usize {
     let drawing = Drawing::outline(&W2);

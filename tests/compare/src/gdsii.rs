@@ -35,7 +35,7 @@ fn ask(library: Library, bytes: &[u8], lengths: (usize, usize, usize), seed: u64
 /// With room for every answer.
 const AMPLE: (usize, usize, usize) = (64, 14_400, 900);
 
-/// What a row of the document says of an element: the number and, of 8, the offset.
+/// What a row of the scope says of an element: the number and, of 8, the offset.
 fn refused(library: Library, bytes: &[u8], number: u32, offset: u64, progress: &Progress) {
     let (read, made) = ask(library, bytes, AMPLE, 3, progress);
     assert_eq!(read, Told::of(number, &[0, 0, 0, offset]), "{bytes:x?}");
@@ -46,7 +46,7 @@ fn signed(n: i64) -> u64 {
     n as u64
 }
 
-/// The document's rows: the law against the document, and the library against the law.
+/// The scope's rows: the law against the scope, and the library against the law.
 pub fn rows(plan: &Plan, progress: &Progress) {
     let Some(library) = plan.library else { return };
     let l = element(&L);
@@ -88,7 +88,7 @@ pub fn rows(plan: &Plan, progress: &Progress) {
     let shift = [signed(PLATE[0].0.into()), signed(PLATE[0].1.into())];
     assert_eq!(read, Told::done(&[4, shift[0], shift[1]]));
     assert_eq!(made, Told::done(&[1, 1000, 0, 0, shift[0], shift[1]]));
-    progress.done("GDSII: the document's rows".into());
+    progress.done("GDSII: the scope's rows".into());
 }
 
 /// The worked element, and the same with the records that may be left out.

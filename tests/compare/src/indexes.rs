@@ -114,7 +114,7 @@ fn on(library: Library, state: &mut State, by: Change, progress: &Progress) {
     true_index(library, state, progress);
 }
 
-/// Item 10's worked rows, against the numbers that the document's design gives.
+/// Item 10's worked rows, against the numbers that its design gives.
 pub fn rows(plan: &Plan, progress: &Progress) {
     let Some(library) = plan.library else { return };
     let whole = worked_job();

@@ -1,4 +1,4 @@
-//! The job calls compared: every string of three bytes as a number, the documents' rows about rings,
+//! The job calls compared: every string of three bytes as a number, the scope's rows about rings,
 //! the writers and unpacking with buffers of every length, jobs at the limits, jobs with rings with
 //! every byte set to every value, and jobs damaged at every byte.
 
@@ -13,7 +13,7 @@ use law::bytes::{header, job, written_outline};
 use law::{Calls, Drawing, Law, Told};
 use std::sync::atomic::{AtomicUsize, Ordering};
 
-/// The documents' rows, every string of up to three bytes, then places at and past the end.
+/// The scope's rows, every string of up to three bytes, then places at and past the end.
 pub fn numbers(plan: &Plan, progress: &Progress) {
     let Some(library) = plan.library else { return };
     let compare = |bytes: &[u8], at: usize| {
@@ -47,7 +47,7 @@ pub fn numbers(plan: &Plan, progress: &Progress) {
     progress.done("numbers: every string of one, two and three bytes".into());
 }
 
-/// Item 1's rows about bytes: the law against the document, and the library against the law.
+/// Item 1's rows about bytes: the law against the scope, and the library against the law.
 pub fn ring_rows(plan: &Plan, progress: &Progress) {
     let Some(library) = plan.library else { return };
     let mut s = Seeded::new(plan.seed << 32 | 0x4146);

@@ -52,7 +52,7 @@ pub fn rows(plan: &Plan, progress: &Progress) {
             assert_eq!(ask(library, list, entries, 5, progress).0, Told::refused(21), "{list:?}");
         }
     }
-    progress.done("joining: the document's rows".into());
+    progress.done("joining: the scope's rows".into());
 }
 
 /// Lists from seeds, and the lists of fractures, in tables around the limit.

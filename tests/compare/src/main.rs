@@ -1,5 +1,5 @@
 //! The comparison that the gate runs: the proved library, through its C interface, and the C++
-//! baselines against the documents in plain Rust (`law`), answer by answer and buffer by buffer.
+//! baselines against the scope in plain Rust (`law`), answer by answer and buffer by buffer.
 //!
 //!     compare [--outlines N] [--jobs N] [--seed S] [--threads T] [--record FILE] [--without-library]
 //!

@@ -34,7 +34,7 @@ fn ask(library: Library, bytes: &[u8], room: usize, progress: &Progress) -> (Tol
     (right, written)
 }
 
-/// Item 11's worked rows, against the numbers that the document's design gives.
+/// Item 11's worked rows, against the numbers that its design gives.
 pub fn rows(plan: &Plan, progress: &Progress) {
     let Some(library) = plan.library else { return };
     let whole = worked_job();

@@ -25,7 +25,7 @@ pub const FRAMED_PRINTED_AT_40: &str =
     "job 1\noutline 0 shots 4 cost 21600 sliver 440\n0 0 30 100\n30 0 70 30\n30 70 70 100\n70 0 100 100\n";
 
 /// A row: the drawing, threshold and weight, table and list lent, and the outcome: number, shots,
-/// cost, sliver, and the shot list where the document gives it (else empty).
+/// cost, sliver, and the shot list where the scope gives it (else empty).
 pub struct Row {
     pub name: &'static str,
     pub corners: &'static [u16],

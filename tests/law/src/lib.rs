@@ -1,7 +1,7 @@
 //! The scope (docs/SCOPE.md) in plain Rust: what
 //! every call answers and what it leaves in lent memory.
 //!
-//! Written from the documents alone, and built otherwise than the proved library, so that the two
+//! Written from the scope alone, and built otherwise than the proved library, so that the two
 //! can be held against each other: cells are judged by a ray at a unit square, kinds and exposed
 //! sides by scanning cells, costs by a memoised recursion from the frame down that keeps a tree of
 //! verdicts, and a job is read into a list of parts in one pass.

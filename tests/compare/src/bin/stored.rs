@@ -1,5 +1,5 @@
 //! Writes the stored runs of the job program: for each a file NAME.in with its standard input, and
-//! NAME.out with what the documents have it print. The runs are kept in tests/stored, and the gate holds
+//! NAME.out with what the scope has it print. The runs are kept in tests/stored, and the gate holds
 //! those files to what this program writes, and the job program to them.
 //!
 //!     stored DIR
