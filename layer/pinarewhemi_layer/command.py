@@ -6,6 +6,7 @@ import os
 import re
 import signal
 import sys
+from typing import NamedTuple
 
 ALL, SOME_REFUSED, FAILED, INTERRUPTED = 0, 1, 2, 130
 
@@ -114,38 +115,24 @@ def runner_of(given):
     return workers.Alone(), 1
 
 
-def gathered_of(db, given, source, layout, top, index, copies, runner, show):
-    """The figures of the layer, by the road that suits it or that was asked for."""
-    from . import windows
-    from .core import gather, merged
+class Drawn(NamedTuple):
+    """The layer that was read and prepared: its layout, top cell and index, the database units to the nm, how often each
+    cell is placed, and what a worker needs to have it too."""
 
-    flat, held = windows.counts(db, layout, copies, index)
-    if given.hierarchy or (not given.windows and flat >= windows.LITTLE * held):
-        show("merging", 0, 1)
-        return gather(db, layout, merged(db, layout, top, index, copies), copies, show)
-    windows.hold(source, layout, top, index)
-    tasks = [(source, window) for window in windows.plan(db, layout, top, copies, index)]
-    return windows.gather_windows(db, top, runner.run(windows.take, tasks, stage(show, "windows")))
+    layout: object
+    top: object
+    index: int
+    units: int
+    copies: dict
+    source: object
 
 
-def stage(show, name):
-    """Shows the progress of one stage."""
-    return lambda done, total: show(name, done, total)
+def read_layer(db, given, layer):
+    """Reads the file, and prepares the layer."""
+    from . import core, files, windows
 
-
-def run(given, show):
-    """From the words to what was done, which is in the files that were asked for."""
-    from . import beyond, core, files, jobs, klayout_db, windows
-
-    db = klayout_db.find()
-    layer = core.Layer(*given.layer)
-    fracturer = core.Fracturer(*given.rule, given.largest, given.pinwheels)
-    options = files.format_of(db, given.out)
-    files.refuse_outputs(given.out, given.report)
-    show("reading", 0, 1)
     layout = files.read(db, given.file, None if given.keep else layer)
     source = windows.source_of(given.file, layer, given.cell)
-    parted = beyond.of(db) if given.beyond else None
     try:
         top = core.top_of(db, layout, given.cell)
         index = core.index_of(db, layout, top, layer)
@@ -155,22 +142,74 @@ def run(given, show):
         units, copies = core.prepare(db, layout, top)
     except core.Told as fault:
         raise core.Told(f"{given.file}: {fault}") from None
+    return Drawn(layout, top, index, units, copies, source)
+
+
+def gather_layer(db, given, drawn, runner, gathered, more, show):
+    """Gathers the figures of the layer, by the road that suits it or that was asked for."""
+    from . import windows
+    from .core import gather, merged
+
+    layout, top, index, _, copies, source = drawn
+    flat, held = windows.counts(db, layout, copies, index)
+    if given.hierarchy or (not given.windows and flat >= windows.LITTLE * held):
+        show("merging", 0, 1)
+        gather(db, layout, merged(db, layout, top, index, copies), copies, gathered, show)
+        return
+    windows.hold(source, layout, top, index)
+    tasks = [(source, window) for window in windows.plan(db, layout, top, copies, index)]
+    windows.gather_windows(db, top, runner.run(windows.take, tasks, stage(show, "windows")), gathered, more)
+
+
+def stage(show, name):
+    """Shows the progress of one stage."""
+    return lambda done, total: show(name, done, total)
+
+
+def gather_and_answer(db, given, drawn, fracturer, placing, show):
+    """Gathers the figures of the layer and answers each distinct one, by those who do the work. What is known while
+    windows are still at work is placed already."""
+    from . import beyond, core, jobs
+
+    gathered, answers, units = placing.gathered, placing.given, drawn.units
+    parted = beyond.of(db) if given.beyond else None
+    early = jobs.Early(fracturer, units, parted, answers)
     runner, workers = runner_of(given)
+
+    def more():
+        """While workers have the next windows: answers and places what the last one gave."""
+        if workers > 1 and given.jobs is None and early.answer(gathered.forms):
+            placing.more()
+
     try:
-        gathered = gathered_of(db, given, source, layout, top, index, copies, runner, show)
-        shown = stage(show, "distinct")
-        answers = jobs.spread_answers(fracturer, gathered.forms, units, parted, workers, runner, given.jobs, shown)
+        gather_layer(db, given, drawn, runner, gathered, more, show)
+        forms, shown = gathered.forms[len(answers) :], stage(show, "distinct")
+        rest = jobs.spread_answers(fracturer, forms, units, parted, workers, runner, given.jobs, shown)
     finally:
         runner.close()
-    if answers is None:
-        answers = core.answers(fracturer, gathered.forms, units, parted, show)
+    answers += core.answers(fracturer, forms, units, parted, show) if rest is None else rest
+
+
+def run(given, show):
+    """From the words to what was done, which is in the files that were asked for."""
+    from . import core, files, klayout_db
+
+    db = klayout_db.find()
+    layer = core.Layer(*given.layer)
+    fracturer = core.Fracturer(*given.rule, given.largest, given.pinwheels)
+    options = files.format_of(db, given.out)
+    files.refuse_outputs(given.out, given.report)
+    show("reading", 0, 1)
+    drawn = read_layer(db, given, layer)
+    placing = core.Placing(db, drawn.layout, layer, drawn.units, core.Gathered(), [], given.keep)
+    gather_and_answer(db, given, drawn, fracturer, placing, show)
     if not given.keep:
-        core.drop_layers(db, layout)
-    core.Placing(db, layout, layer, gathered, answers, units).all(show)
-    done = core.Done(layer, gathered, answers)
+        core.drop_layers(db, drawn.layout, placing.layers)
+    placing.all(show)
+    done = core.Done(layer, placing.gathered, placing.given)
     show("writing", 0, 1)
     with files.Aside() as aside:
-        files.write(db, layout, given.out, options, aside)
+        files.write(db, drawn.layout, given.out, options, aside)
         if given.report:
             files.report(done, given.report, aside)
         aside.settle()

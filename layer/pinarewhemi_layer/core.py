@@ -232,10 +232,9 @@ def merged(db, layout, top, layer, cells):
     raise Told("KLayout's merging cell by cell does not settle on this layer: --windows takes the other road")
 
 
-def gather(db, layout, work, copies, show=None):
-    """The distinct figures of a merged layer and where they stand, hierarchy kept: in the cells of which `copies` says
-    how often each is placed. The working layer is gone then."""
-    gathered = Gathered()
+def gather(db, layout, work, copies, gathered, show=None):
+    """Gathers the distinct figures of a merged layer and where they stand, hierarchy kept: in the cells of which `copies`
+    says how often each is placed. The working layer is gone then."""
     gathered.copies = copies
     total = sum(layout.cell(index).shapes(work).size() for index in gathered.copies)
     done = 0
@@ -252,7 +251,6 @@ def gather(db, layout, work, copies, show=None):
         if figures:
             gathered.places[index] = figures
     layout.delete_layer(work)
-    return gathered
 
 
 def rings_of(form):
@@ -287,41 +285,40 @@ def answers(fracturer, forms, units, beyond=None, show=None):
 
 
 class Placing:
-    """Puts answers into cells: boxes and paths where a figure stands, or, where that is fewer elements, a cell of its
-    shots that is placed."""
+    """Puts the answers for what was gathered into the cells: boxes and paths where a figure stands, or, where that is
+    fewer elements, a cell of its shots that is placed. Of both there may be more later. The layers are new ones, unless
+    those that were there are kept."""
 
-    def __init__(self, db, layout, layer, gathered, given, units):
-        self.db, self.layout, self.gathered, self.given, self.units = db, layout, gathered, given, units
-        self.layers = [layout.layer(layer.number, datatype) for datatype in (SHOTS, SIDES, BEYOND)]
+    def __init__(self, db, layout, layer, units, gathered, given, keep):
+        self.db, self.layout, self.units, self.gathered, self.given = db, layout, units, gathered, given
+        infos = [db.LayerInfo(layer.number, datatype) for datatype in (SHOTS, SIDES, BEYOND)]
+        self.layers = [layout.layer(info) if keep else layout.insert_layer(info) for info in infos]
         self.cells = {}
+        self.begun = {}
+
+    def into(self, index):
+        """The placing into one cell."""
+        if index not in self.begun:
+            self.begun[index] = CellPlacing(self, self.layout.cell(index))
+        return self.begun[index]
+
+    def more(self):
+        """Places what was gathered since the last time, all of which is answered."""
+        for index, figures in self.gathered.places.items():
+            self.into(index).more(figures)
 
     def all(self, show=None):
-        """Places everything."""
+        """Places everything that was not placed yet."""
         total = sum(map(len, self.gathered.places.values())) // 3
         done = 0
         for index, figures in self.gathered.places.items():
-            self.into(self.layout.cell(index), figures)
+            cell = self.into(index)
+            cell.more(figures)
+            cell.end()
+            del self.begun[index]
             done += len(figures) // 3
             if show:
                 show("placed", done, total)
-
-    def into(self, cell, figures):
-        """Places the figures of one cell."""
-        often = collections.Counter(figures[0::3])
-        shapes = [cell.shapes(layer) for layer in self.layers]
-        placed = {form: self.cell_of(form) for form, copies in often.items() if self.worth(form, copies)}
-        # one instance for all: a new one each time takes thrice the time
-        trans, insert = self.db.Trans, cell.insert
-        instance = self.db.CellInstArray(0, trans())
-        numbers = iter(figures)
-        for form, x, y in zip(numbers, numbers, numbers):
-            index = placed.get(form)
-            if index is None:
-                self.draw(form, x, y, *shapes)
-            else:
-                instance.cell_index = index
-                instance.trans = trans(x, y)
-                insert(instance)
 
     def worth(self, form, copies):
         """Whether placing a cell of its shots takes fewer elements than drawing them for each copy."""
@@ -329,11 +326,15 @@ class Placing:
         elements = len(answer.shots) // 4 + len(answer.sides) if answer.refused is None else 1
         return elements + copies < elements * copies
 
+    def shapes_of(self, cell):
+        """The shapes of a cell on our layers."""
+        return [cell.shapes(layer) for layer in self.layers]
+
     def cell_of(self, form):
         """The cell with the shots of a form, at 0, 0."""
         if form not in self.cells:
             cell = self.layout.create_cell(f"PINAREWHEMI_{form}")
-            self.draw(form, 0, 0, *[cell.shapes(layer) for layer in self.layers])
+            self.draw(form, 0, 0, *self.shapes_of(cell))
             self.cells[form] = cell.cell_index()
         return self.cells[form]
 
@@ -351,6 +352,54 @@ class Placing:
             sides.insert_path(db.Path(ends, 0))
 
 
+class CellPlacing:
+    """The placing into one cell, as figures come: those of a form wait until there are so many that a cell of its shots
+    is worth it, or to the end. So it does not matter how many come at a time."""
+
+    def __init__(self, placing, cell):
+        self.placing, self.cell = placing, cell
+        self.placed, self.waiting, self.done = {}, {}, 0
+
+    def more(self, figures):
+        """Places what a list of form, x, y has beyond what it had the last time."""
+        self.put(figures[self.done :] if self.done else figures)
+        self.done = len(figures)
+
+    def put(self, figures):
+        """Places figures of which a cell of shots is placed here; the others wait."""
+        db, placed, insert = self.placing.db, self.placed, self.cell.insert
+        # one instance, turn and shift for all: new ones each time take thrice the time
+        shift, turn = db.Vector(), db.Trans()
+        instance = db.CellInstArray(0, turn)
+        numbers = iter(figures)
+        for form, x, y in zip(numbers, numbers, numbers):
+            index = placed.get(form)
+            if index is None:
+                self.wait(form, x, y)
+                continue
+            shift.x, shift.y = x, y
+            turn.disp = shift
+            instance.trans = turn
+            instance.cell_index = index
+            insert(instance)
+
+    def wait(self, form, x, y):
+        """One more of a form of which no cell of shots is placed here: with it, that may be worth it."""
+        waiting = self.waiting.setdefault(form, [])
+        waiting += (form, x, y)
+        if self.placing.worth(form, len(waiting) // 3):
+            self.placed[form] = self.placing.cell_of(form)
+            self.put(self.waiting.pop(form))
+
+    def end(self):
+        """Draws those that still wait."""
+        shapes = self.placing.shapes_of(self.cell)
+        for figures in self.waiting.values():
+            numbers = iter(figures)
+            for form, x, y in zip(numbers, numbers, numbers):
+                self.placing.draw(form, x, y, *shapes)
+
+
 def refuse_taken(db, layout, top, layer):
     """What is kept must not mix with what we write."""
     within = [top.cell_index(), *top.called_cells()]
@@ -360,10 +409,11 @@ def refuse_taken(db, layout, top, layer):
             raise Told(f"there are shapes on {layer.number}/{datatype} already, where ours would go")
 
 
-def drop_layers(db, layout):
-    """All layers are gone; the cells stay."""
+def drop_layers(db, layout, kept):
+    """All layers but some are gone; the cells stay."""
     for index in layout.layer_indexes():
-        layout.delete_layer(index)
+        if index not in kept:
+            layout.delete_layer(index)
 
 
 def top_of(db, layout, name=None):
@@ -404,9 +454,11 @@ def fracture_layer(
     if keep:
         refuse_taken(db, layout, top, layer)
     units, copies = prepare(db, layout, top)
-    gathered = gather(db, layout, merged(db, layout, top, index, copies), copies, show)
+    gathered = Gathered()
+    gather(db, layout, merged(db, layout, top, index, copies), copies, gathered, show)
     given = answers(fracturer, gathered.forms, units, beyond, show)
+    placing = Placing(db, layout, layer, units, gathered, given, keep)
     if not keep:
-        drop_layers(db, layout)
-    Placing(db, layout, layer, gathered, given, units).all(show)
+        drop_layers(db, layout, placing.layers)
+    placing.all(show)
     return Done(layer, gathered, given)

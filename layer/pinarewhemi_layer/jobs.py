@@ -14,9 +14,8 @@ SECONDS, BUNDLE_SECONDS, BUNDLES = 1.0, 0.1, 8
 JOB_BYTES, JOB_OUTLINES, HEADER = 4096, 255, 6
 
 
-def planned(rings, pinwheels):
-    """About how long the figure will take, in seconds: cuts grow as the fifth power of the lines."""
-    corners = sum(map(len, rings)) // 2
+def planned(corners, pinwheels):
+    """About how long a figure of so many corners will take, in seconds: cuts grow as the fifth power of the lines."""
     return 30e-6 + 4e-6 * corners + (2e-3 * (corners / 32) ** 5 if pinwheels else 0)
 
 
@@ -76,13 +75,31 @@ def keep(folder, bundles):
         raise Told(f"{folder}: cannot be written: {fault.strerror}") from None
 
 
+class Early:
+    """Answers distinct figures while workers are at work on where they stand: as long as little is planned, since what
+    takes longer is spread over the workers too."""
+
+    def __init__(self, fracturer, units, beyond, answers):
+        self.fracturer, self.units, self.beyond, self.answers = fracturer, units, beyond, answers
+        self.left = SECONDS
+
+    def answer(self, forms):
+        """Answers the forms that are not answered yet; whether all of them are then."""
+        for form in forms[len(self.answers) :]:
+            self.left -= planned(form.num_points(), self.fracturer.pinwheels)
+            if self.left < 0:
+                return False
+            self.answers.append(answer(self.fracturer, form, self.units, self.beyond))
+        return True
+
+
 def spread_answers(fracturer, forms, units, beyond, workers, runner, folder, show):
     """The answers for all forms, in their order. None where so little is planned that spreading is not worth it, and no
     folder is asked for."""
     if folder is None and workers < 2:
         return None
     rings = [rings_of(form) for form in forms]
-    total = sum(planned(figure, fracturer.pinwheels) for figure in rings)
+    total = sum(planned(form.num_points(), fracturer.pinwheels) for form in forms)
     if folder is None and total < SECONDS:
         return None
     enough = max(BUNDLE_SECONDS, min(SECONDS, total / (BUNDLES * workers)))
@@ -94,7 +111,7 @@ def spread_answers(fracturer, forms, units, beyond, workers, runner, folder, sho
             continue
         carried.append(number)
         outlines.append(outline_of(scaled))
-        work += planned(scaled, fracturer.pinwheels)
+        work += planned(forms[number].num_points(), fracturer.pinwheels)
         if work >= enough:
             bundles.append(pack(fracturer.threshold, fracturer.weight, outlines))
             outlines, work = [], 0.0

@@ -12,7 +12,7 @@ import os
 from typing import NamedTuple
 
 from . import files, klayout_db
-from .core import MOST, Gathered, Layer, index_of, prepare, prune, rings_of, top_of
+from .core import MOST, Layer, index_of, prepare, prune, rings_of, top_of
 
 # Flat shapes to a window, and below how many times the hierarchical count a layer has little hierarchy.
 SHAPES, LITTLE = 16384, 4
@@ -151,9 +151,8 @@ def plan(db, layout, top, copies, index):
     ]
 
 
-def gather_windows(db, top, pieces):
-    """Puts together what the windows gave, in their order: all in the top cell."""
-    gathered = Gathered()
+def gather_windows(db, top, pieces, gathered, more):
+    """Gathers what the windows gave, in their order, all in the top cell; `more` is called behind each window."""
     index = top.cell_index()
     gathered.copies[index] = 1
     places = gathered.places[index] = array.array("q")
@@ -165,9 +164,9 @@ def gather_windows(db, top, pieces):
             places.extend((numbers[form], x, y))
         for rings in piece.long:
             long.insert(polygon_of(db, rings))
+        more()
     long.min_coherence = True
     for polygon in long.merged().each():
         frame = polygon.bbox()
         x, y = frame.left, frame.bottom
         places.extend((gathered.number(polygon.move(-x, -y)), x, y))
-    return gathered

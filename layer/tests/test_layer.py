@@ -3,6 +3,7 @@
 import contextlib
 import csv
 import io
+import itertools
 import os
 import pty
 import resource
@@ -671,6 +672,31 @@ class Inside(WithFolder):
         ended = subprocess.run([program, "-b", "-r", self.path("inside.py")], env=around, capture_output=True, text=True)
         self.assertEqual(ended.returncode, 0, ended.stderr)
         self.assertEqual(ended.stdout.strip().splitlines()[-1], outside)
+
+    def test_drc_script(self):
+        """The DRC script of docs/LAYER.md as it stands there: what it writes is what is beyond the limits."""
+        program = shutil.which("klayout")
+        if not program:
+            self.skipTest("there is no program klayout")
+        with open(os.path.join(ROOT, "docs", "LAYER.md")) as document:
+            lines = document.read().partition("**From a DRC script**")[2].splitlines()[2:]
+        script = list(itertools.takewhile(lambda line: line.startswith("    "), lines))
+        self.assertGreater(len(script), 4)
+        with open(self.path("beyond.drc"), "w") as file:
+            file.write("".join(line[4:] + "\n" for line in script))
+        self.stored(layers.make(db), "chip.gds")
+        os.symlink(os.path.join(ROOT, "layer"), self.path("layer"))
+        around = {**os.environ, "HOME": self.folder, "QT_QPA_PLATFORM": "offscreen"}
+        words = [program, "-b", "-r", "beyond.drc"]
+        ended = subprocess.run(words, cwd=self.folder, env=around, capture_output=True, text=True)
+        self.assertEqual(ended.returncode, 0, ended.stderr)
+        beyond = []
+        for name in ("beyond.gds", "shots.oas"):
+            found = db.Layout()
+            found.read(self.path(name))
+            beyond.append(region_of(found, found.top_cell(), 4, 9).merged())
+        self.assertGreater(beyond[0].count(), 90)
+        self.assertTrue((beyond[0] ^ beyond[1]).is_empty())
 
     def test_undone_in_the_window(self):
         """In KLayout's window, without a screen: fractured, the slivers in red, and undone in one step; where there are

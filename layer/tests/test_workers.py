@@ -13,7 +13,7 @@ from unittest import mock
 
 import pinarewhemi
 from pinarewhemi_layer import jobs, windows, workers
-from pinarewhemi_layer.core import Told, survey
+from pinarewhemi_layer.core import Gathered, Told, survey
 
 from . import layers
 from .test_layer import WithFolder, db
@@ -56,7 +56,9 @@ class Windows(WithFolder):
                 planned = windows.plan(db, layout, top, survey(db, layout, top)[0], index)
             self.assertGreater(len(planned), 2)
             pieces = [windows.take((source, window._replace(margin=margin))) for window in planned]
-            gathered = windows.gather_windows(db, top, pieces)
+            gathered, behind = Gathered(), mock.Mock()
+            windows.gather_windows(db, top, pieces, gathered, behind)
+            self.assertEqual(behind.call_count, len(planned))
             (places,) = gathered.places.values()
             numbers = iter(places)
             found = collections.Counter(
@@ -101,16 +103,22 @@ class SameBytes(WithFolder):
         self.addCleanup(patched.stop)
 
     def test_workers(self):
-        """1, 2 and 4 processes; windows, and bundles of jobs where work is planned."""
-        with mock.patch.object(jobs, "SECONDS", 0.001), mock.patch.object(jobs, "BUNDLE_SECONDS", 0.002):
-            for words in ((), ("--pinwheels",), ("--largest", 200)):
-                one = self.bytes_of(*words)
-                for number in (2, 4):
-                    self.assertEqual(self.bytes_of("--workers", number, *words), one)
-            self.given = self.chip
-            for words in (("--hierarchy",), ("--windows", "--beyond")):
-                one = self.bytes_of(*words)
-                self.assertEqual(self.bytes_of("--workers", 2, *words), one)
+        """1, 2 and 4 processes; windows, and bundles of jobs where work is planned: from the first window on, from one in
+        the middle on, or never, so that none, some or all is placed while windows are at work."""
+        for seconds in (0.001, 0.02, 60):
+            with mock.patch.object(jobs, "SECONDS", seconds), mock.patch.object(jobs, "BUNDLE_SECONDS", 0.002):
+                self.assert_same_bytes()
+
+    def assert_same_bytes(self):
+        self.given = self.flat
+        for words in ((), ("--pinwheels",), ("--largest", 200), ("--keep",)):
+            one = self.bytes_of(*words)
+            for number in (2, 4):
+                self.assertEqual(self.bytes_of("--workers", number, *words), one)
+        self.given = self.chip
+        for words in (("--hierarchy",), ("--windows", "--beyond")):
+            one = self.bytes_of(*words)
+            self.assertEqual(self.bytes_of("--workers", 2, *words), one)
 
     def test_jobs_are_kept(self):
         """The job files read back, and hold the distinct figures that a job can carry."""
