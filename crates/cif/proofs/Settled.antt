@@ -2,22 +2,15 @@
 --
 --   write-settled, read-settled == for each call
 use Prim.Native.Nat.{ℕ}
-use mathlib.Core.Path.{_≡_, _∙_, refl, sym, ap, ap₂}
+use mathlib.Core.Path.{_≡_, _∙_, sym, ap, ap₂}
 use mathlib.Core.List.{List}
-use native.Mathlib.Omega.{arith}
-use Rattle.refusal.specs.declared.Refusal.{Refusal}
-use Rattle.refusal.specs.Refusals.{refusalNo}
-use Rattle.refusal.proofs.Refusals.{refusal-one, refusal-some}
+use Rattle.refusal.proofs.Refusals.{refusal-one, never}
 use Rattle.cif.specs.Calls.{WriteSaid, cifWritten, writeTold, ReadSaid, ReadSays, readTold}
 use Rattle.cif.specs.declared.Written.{Written}
 use Rattle.cif.specs.declared.Written.the-variants as write
 use Rattle.cif.specs.declared.Listed.{Listed}
 use Rattle.cif.specs.declared.Listed.the-variants as list
 use Rattle.cif.proofs.Back.{read-one}
-
--- a refusal's number is no 0
-never : (r : Refusal) → 0 ≡ refusalNo r → ⊥
-never r e = omega (arith, refusal-some r)
 
 write-same : (u v : Written) (o p : List ℕ) → writeTold u o ≡ writeTold v p → (u ≡ v) × (o ≡ p)
 write-same (write.Bytes n) (write.Bytes m) o p e =

@@ -13,9 +13,7 @@ use native.Mathlib.Omega.{arith}
 use lib.Dec.{ltb, eqb}
 use lib.ListN.{length, getD}
 use borrow.Author.Tests.{eqb-true, eqb-false, ltb-true, ltb-false}
-use Rattle.refusal.specs.declared.Refusal.{Refusal}
-use Rattle.refusal.specs.Refusals.{refusalNo}
-use Rattle.refusal.proofs.Refusals.{refusal-one, refusal-some}
+use Rattle.refusal.proofs.Refusals.{refusal-one, never}
 use Rattle.figure.specs.Corners.{Corner, Link}
 use Rattle.figure.specs.Figure.{Figure, cornersOf}
 use Rattle.figure.specs.Inside.{insideAt}
@@ -32,9 +30,6 @@ use Rattle.edge.specs.Landing.{Run, landing, runs, edgeRuns}
 use Rattle.edge.specs.Promise.{EdgeSaid, runNumbers, unwalked, handed, edgeWalked, edgeTold}
 use Rattle.edge.proofs.Runs.{Right, runs-right, runs-unique}
 use Rattle.edge.proofs.Writing.{run-numbers-length}
-
-never : (r : Refusal) → 0 ≡ refusalNo r → ⊥
-never r e = omega (arith, refusal-some r)
 
 edge-one : (u v : Walked) (l m : List ℕ) → edgeTold u l ≡ edgeTold v m → u ≡ v
 edge-one (answer.Runs n) (answer.Runs m) l l′ e = ap answer.Runs (ap (λ (s : EdgeSaid). s .count) e)

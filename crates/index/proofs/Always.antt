@@ -7,9 +7,9 @@
 --   found-true       == by a true index what is found is the outline of the job, whatever is told of both
 --   pick-true, pick-placed == so a pick is what taking the outline gives, and lies where that lies, also among outlines of equal bytes
 use Prim.Native.Nat.{ℕ, _<_, _≤_}
-use mathlib.Core.Path.{_≡_, _∙_, refl, sym, ap, ap₂, subst}
+use mathlib.Core.Path.{_≡_, _∙_, refl, sym, ap, subst}
 use mathlib.Core.Logic.{inl, inr}
-use mathlib.Core.List.{List, [], _++_}
+use mathlib.Core.List.{List, _++_}
 use mathlib.Core.Bool.{Bool, true, false, cond, _&&_}
 use native.Mathlib.Omega.{arith}
 use lib.Dec.{leb, ltb}
@@ -20,21 +20,17 @@ use Rattle.sum.proofs.Sum.{le-or}
 use Rattle.refusal.specs.declared.Refusal.{Refusal}
 use Rattle.refusal.specs.declared.Refusal.the-variants.{Length, Full, Long, Missing, Room}
 use Rattle.refusal.specs.Refusals.{refusalNo}
-use Rattle.refusal.proofs.Refusals.{refusal-some}
+use Rattle.refusal.proofs.Refusals.{never}
 use Rattle.number.specs.Reading.{Reading, read, fault}
+use Rattle.number.proofs.Number.{cond-cases}
 use Rattle.number.proofs.Reading.{many-nth, many-length}
 use Rattle.figure.specs.Figure.{Figure, badFigure}
 use Rattle.job.specs.Job.{mostBytes, mostOutlines, Part, part, outlines, Job, job}
-use Rattle.job.specs.Calls.{told, noPart, partBytes, partTaken, taken}
+use Rattle.job.specs.Calls.{told, noPart, partTaken, taken}
 use Rattle.job.specs.Placed.{startOf, takenAt}
-use Rattle.job.proofs.Beyond.{either}
 use Rattle.job.proofs.Job.{job-whole, part-read}
 use Rattle.index.specs.Index.{startsOf, TrueIndex, OpenSaid, unopened, openedBy, opened, ChangeSaid, unchanged, changedBy, changedTo, withOutline, withoutOutline, appendedTo, appended, removedFrom, removed, found, pickedBy, picked, startIn, pickedAt}
 use Rattle.index.specs.Reached.{Reached, by-open, by-append, by-remove, not-opened, not-appended, not-removed}
-
--- a refusal's number is no 0
-never : (r : Refusal) → refusalNo r ≡ 0 → ⊥
-never r e = omega (arith, refusal-some r, e)
 
 -- the starts of a job at the front of a list
 front-true : (s index : List ℕ) {j : Job} {last : ℕ} → job s ≡ read j last → TrueIndex s (startsOf j ++ drop (length (j .parts)) index) (length (j .parts))
@@ -55,10 +51,10 @@ opened-true s index e = go (job s) refl e
         → TrueIndex s (u .index) (u .outlines) → cond b u (unopened (refusalNo Room) 0 index) .number ≡ 0
         → TrueIndex s (cond b u (unopened (refusalNo Room) 0 index) .index) (cond b u (unopened (refusalNo Room) 0 index) .outlines)
     fits j last q true u h f = h
-    fits j last q false u h f = absurd (never Room f)
+    fits j last q false u h f = absurd (never Room (sym f))
 
     go : (u : Reading Job) → job s ≡ u → openedBy index u .number ≡ 0 → TrueIndex s (openedBy index u .index) (openedBy index u .outlines)
-    go (fault r p) q f = absurd (never r f)
+    go (fault r p) q f = absurd (never r (sym f))
     go (read j last) q f = fits j last q (leb (length (j .parts)) (length index)) _ (front-true s index q) f
 
 pub unopened-kept : (s index : List ℕ) → (opened s index .number ≡ 0 → ⊥) → opened s index .index ≡ index
@@ -68,7 +64,7 @@ unopened-kept s index = go (job s)
     go : (u : Reading Job) → (openedBy index u .number ≡ 0 → ⊥) → openedBy index u .index ≡ index
     go (fault r p) = λ n. refl
     go (read j last) =
-        either (λ (u : OpenSaid). (u .number ≡ 0 → ⊥) → u .index ≡ index) (leb (length (j .parts)) (length index)) _ _
+        cond-cases (λ (u : OpenSaid). (u .number ≡ 0 → ⊥) → u .index ≡ index) (leb (length (j .parts)) (length index)) _ _
         (λ e n. absurd (n refl))
         (λ e n. refl)
 
@@ -78,7 +74,7 @@ Left index u =
     (u .number ≡ 0 → TrueIndex (take (u .bytes) (u .out)) (u .index) (u .outlines)) × ((u .number ≡ 0 → ⊥) → u .index ≡ index)
 
 left-refused : (index out : List ℕ) (r : Refusal) (at : ℕ) → Left index (unchanged (refusalNo r) at index out)
-left-refused index out r at = ((λ e. absurd (never r e)), λ n. refl)
+left-refused index out r at = ((λ e. absurd (never r (sym e))), λ n. refl)
 
 left-cond : (index : List ℕ) (b : Bool) (u v : ChangeSaid) → Left index u → Left index v → Left index (cond b u v)
 left-cond index true u v x y = x

@@ -8,23 +8,20 @@
 use Prim.Native.Nat.{ℕ, _≤_}
 use mathlib.Core.Path.{_≡_, _∙_, refl, sym, ap}
 use mathlib.Core.List.{List, _++_}
-use mathlib.Core.Bool.{Bool, _&&_}
+use mathlib.Core.Bool.{_&&_}
 use native.Mathlib.Omega.{arith}
 use lib.Dec.{leb, ltb}
 use lib.ListN.{length, getD, drop, length-map}
 use Rattle.refusal.specs.declared.Refusal.{Refusal}
 use Rattle.refusal.specs.declared.Refusal.the-variants.{Length, Full, Long, Missing, Room}
 use Rattle.refusal.specs.Refusals.{refusalNo}
-use Rattle.refusal.proofs.Refusals.{refusal-some}
+use Rattle.refusal.proofs.Refusals.{never}
 use Rattle.number.specs.Reading.{Reading, read, fault}
+use Rattle.number.proofs.Number.{cond-cases}
 use Rattle.figure.specs.Figure.{Figure, badFigure}
 use Rattle.job.specs.Job.{mostBytes, mostOutlines, Part, Job, job}
-use Rattle.job.proofs.Beyond.{either, written-beyond}
+use Rattle.job.proofs.Beyond.{written-beyond}
 use Rattle.index.specs.Index.{startsOf, OpenSaid, unopened, openedBy, opened, ChangeSaid, unchanged, changedBy, changedTo, withOutline, withoutOutline, appendedTo, appended, removedFrom, removed}
-
--- a refusal's number is no 0
-never : (r : Refusal) → refusalNo r ≡ 0 → ⊥
-never r e = omega (arith, refusal-some r, e)
 
 -- behind the starts of a job at the front of an index
 starts-beyond : (j : Job) (index : List ℕ) (i d : ℕ) → length (j .parts) ≤ i
@@ -42,12 +39,12 @@ unfolding opened
 open-beyond s index = go (job s)
   where
     no : (r : Refusal) (at : ℕ) → OpenKept index (unopened (refusalNo r) at index)
-    no r at = record { beyond = λ i d h. refl; done = λ e. absurd (never r e) }
+    no r at = record { beyond = λ i d h. refl; done = λ e. absurd (never r (sym e)) }
 
     go : (u : Reading Job) → OpenKept index (openedBy index u)
     go (fault r at) = no r at
     go (read j last) =
-        either (OpenKept index) (leb (length (j .parts)) (length index)) _ _
+        cond-cases (OpenKept index) (leb (length (j .parts)) (length index)) _ _
         (λ e. record { beyond = starts-beyond j index; done = λ z. refl })
         (λ e. no Room 0)
 
@@ -58,7 +55,7 @@ pub record ChangeKept (index out : List ℕ) (u : ChangeSaid) : Type 0 where
 
 module _ (index out : List ℕ) where
   no : (r : Refusal) (at : ℕ) → ChangeKept index out (unchanged (refusalNo r) at index out)
-  no r at = record { beyond = λ i d h. refl; behind = λ i d h. refl; done = λ e. absurd (never r e) }
+  no r at = record { beyond = λ i d h. refl; behind = λ i d h. refl; done = λ e. absurd (never r (sym e)) }
 
   changed-beyond : (b : List ℕ) → ChangeKept index out (changedTo b index out)
   unfolding changedTo
@@ -67,7 +64,7 @@ module _ (index out : List ℕ) where
       go : (u : Reading Job) → ChangeKept index out (changedBy b index out u)
       go (fault r at) = no r at
       go (read j last) =
-          either (ChangeKept index out) (leb (length b) (length out) && leb (length (j .parts)) (length index)) _ _
+          cond-cases (ChangeKept index out) (leb (length b) (length out) && leb (length (j .parts)) (length index)) _ _
           (λ e. record { beyond = starts-beyond j index; behind = written-beyond b out; done = λ z. refl })
           (λ e. no Room 0)
 
@@ -78,9 +75,9 @@ module _ (index out : List ℕ) where
       go : (u : Reading Job) → ChangeKept index out (appendedTo f index out u)
       go (fault r at) = no r at
       go (read j last) =
-          either (ChangeKept index out) (badFigure f) _ _ (λ e. no Length 0)
-          (λ e. either (ChangeKept index out) (leb mostOutlines (length (j .parts))) _ _ (λ e. no Full 0)
-          (λ e. either (ChangeKept index out) (ltb mostBytes (length (withOutline j f))) _ _ (λ e. no Long 0)
+          cond-cases (ChangeKept index out) (badFigure f) _ _ (λ e. no Length 0)
+          (λ e. cond-cases (ChangeKept index out) (leb mostOutlines (length (j .parts))) _ _ (λ e. no Full 0)
+          (λ e. cond-cases (ChangeKept index out) (ltb mostBytes (length (withOutline j f))) _ _ (λ e. no Long 0)
           (λ e. changed-beyond (withOutline j f))))
 
   pub remove-beyond : (s : List ℕ) (k : ℕ) → ChangeKept index out (removed s k index out)
@@ -90,4 +87,4 @@ module _ (index out : List ℕ) where
       go : (u : Reading Job) → ChangeKept index out (removedFrom k index out u)
       go (fault r at) = no r at
       go (read j last) =
-          either (ChangeKept index out) (ltb k (length (j .parts))) _ _ (λ e. changed-beyond (withoutOutline j k)) (λ e. no Missing 0)
+          cond-cases (ChangeKept index out) (ltb k (length (j .parts))) _ _ (λ e. changed-beyond (withoutOutline j k)) (λ e. no Missing 0)

@@ -10,35 +10,31 @@
 use Prim.Native.Nat.{ℕ, suc, _+_, _-_, _<_, _≤_}
 use mathlib.Core.Path.{_≡_, _∙_, refl, sym, ap, ap₂, subst}
 use mathlib.Core.Logic.{_⊎_, _↔_, inl, inr}
-use mathlib.Core.List.{List, [], _∷_}
+use mathlib.Core.List.{List, []}
 use mathlib.Core.Bool.{Bool, true, false, cond, _&&_}
 use native.Mathlib.Omega.{arith}
 use lib.Dec.{leb, ltb}
-use lib.ListN.{length, getD, length-append}
+use lib.ListN.{length, getD}
 use borrow.Author.Tests.{le-leb, lt-leb, lt-ltb, le-ltb, leb-true, leb-false, ltb-true, ltb-false}
 use Rattle.sum.specs.Sum.{All}
 use Rattle.refusal.specs.declared.Refusal.{Refusal}
 use Rattle.refusal.specs.declared.Refusal.the-variants.{Length, Full, Long, Missing, Room}
 use Rattle.refusal.specs.Refusals.{refusalNo}
-use Rattle.refusal.proofs.Refusals.{refusal-one, refusal-some}
+use Rattle.refusal.proofs.Refusals.{refusal-one, never}
 use Rattle.number.specs.Reading.{Reading, read, fault, past}
 use Rattle.number.proofs.Reading.{then-end, past-fault}
 use Rattle.number.proofs.Bytes.{AllBytes}
 use Rattle.figure.specs.Figure.{Figure, BadLengths, badFigure}
 use Rattle.figure.proofs.Fault.{bad-lengths, good-lengths}
 use Rattle.job.specs.Job.{mostBytes, mostOutlines, Part, part, outline, Job, job}
-use Rattle.job.specs.Calls.{TakeSaid, told, partBytes}
-use Rattle.job.specs.Faults.{figureWants, JobSays}
+use Rattle.job.specs.Calls.{TakeSaid, told}
+use Rattle.job.specs.Faults.{figureWants}
 use Rattle.job.proofs.Job.{part-past}
 use Rattle.job.proofs.Wanted.{one, follow, FollowTold, follow-told, legal-same, bad-follow}
 use Rattle.job.proofs.Exactly.{job-exactly, job-says, says-job}
-use Rattle.index.specs.Index.{OpenSaid, unopened, openedBy, opened, ChangeSaid, unchanged, changedBy, changedTo, figures, withOutline, withoutOutline, appendedTo, appended, removedFrom, removed, found, pickedBy, picked}
+use Rattle.index.specs.Index.{OpenSaid, unopened, openedBy, opened, ChangeSaid, unchanged, changedBy, changedTo, withOutline, withoutOutline, appendedTo, appended, removedFrom, removed, found, pickedBy, picked}
 use Rattle.index.specs.Faults.{longer, shorter, Unread, OpenFault, not-opened, open-room, AppendFault, not-read, append-lengths, append-full, append-long, append-room, RemoveFault, not-taken, remove-missing, remove-room, PickFault, pick-long, pick-missing, pick-unread}
 use Rattle.index.proofs.Offsets.{with-long, with-back, with-count, without-long, without-back, without-count}
-
--- a refusal's number is no 0
-never : (r : Refusal) → 0 ≡ refusalNo r → ⊥
-never r e = omega (arith, refusal-some r)
 
 -- any answer u, of which a number and an offset are read, `no n o` being a refusal: a law for each condition, and cases
 module _ {U : Type 0} (num off : U → ℕ) (no : ℕ → ℕ → U) (num-no : (n o : ℕ) → num (no n o) ≡ n) (off-no : (n o : ℕ) → off (no n o) ≡ o)

@@ -2,12 +2,9 @@
 --
 --   open-settled, append-settled, remove-settled, pick-settled, find-settled == for each call of the crate
 use Prim.Native.Nat.{ℕ}
-use mathlib.Core.Path.{_≡_, _∙_, refl, sym, ap, ap₂}
+use mathlib.Core.Path.{_≡_, _∙_, sym, ap, ap₂}
 use mathlib.Core.List.{List}
-use native.Mathlib.Omega.{arith}
-use Rattle.refusal.specs.declared.Refusal.{Refusal}
-use Rattle.refusal.specs.Refusals.{refusalNo}
-use Rattle.refusal.proofs.Refusals.{refusal-one, refusal-some}
+use Rattle.refusal.proofs.Refusals.{refusal-one, never}
 use Rattle.figure.specs.Figure.{Figure}
 use Rattle.job.specs.Calls.{TakeSaid, told}
 use Rattle.job.specs.Steps.{locatedTold}
@@ -19,10 +16,6 @@ use Rattle.index.specs.declared.changing.Changed.{Changed}
 use Rattle.index.specs.declared.changing.Changed.the-variants as changes
 use Rattle.index.specs.Index.{OpenSaid, opened, openTold, ChangeSaid, appended, removed, changeTold, found, picked}
 use Rattle.index.specs.Steps.{placeOf}
-
--- a refusal's number is no 0
-never : (r : Refusal) → 0 ≡ refusalNo r → ⊥
-never r e = omega (arith, refusal-some r)
 
 open-one : (u v : Opened) (l m : List ℕ) → openTold u l ≡ openTold v m → (u ≡ v) × (l ≡ m)
 open-one (opens.Outlines n) (opens.Outlines n′) l m e =

@@ -1,6 +1,5 @@
 -- Behind what is written everything is as it came in, place by place, and all of it beside a refusal. Assumes nothing.
 --
---   either           == what holds of both ways of a test holds of the test
 --   written-beyond   == bytes at the front of a buffer: every place behind them is as it was
 --   Kept out u       == what a writer leaves of a buffer: the places behind the bytes written as they came in, all of them beside a
 --                       refusal, and its length
@@ -11,7 +10,7 @@
 use Prim.Native.Nat.{ℕ, _+_, _-_, _*_, _≤_}
 use mathlib.Core.Path.{_≡_, _∙_, refl, sym, ap}
 use mathlib.Core.List.{List, _++_}
-use mathlib.Core.Bool.{Bool, true, false, cond, _&&_, false≢true}
+use mathlib.Core.Bool.{Bool, true, false, _&&_, false≢true}
 use native.Mathlib.Omega.{arith}
 use lib.Dec.{leb, ltb}
 use lib.ListN.{length, getD, drop, length-append, length-drop}
@@ -19,6 +18,7 @@ use lib.Seq.{getD-append-add, getD-drop}
 use borrow.Author.Tests.{leb-true}
 use Rattle.number.specs.Reading.{Reading, read, fault}
 use Rattle.number.proofs.Bytes.{AllBytes}
+use Rattle.number.proofs.Number.{cond-cases}
 use Rattle.rule.specs.Rules.{inRange}
 use Rattle.figure.specs.Figure.{Figure, total, badFigure}
 use Rattle.figure.proofs.Fault.{rings-good}
@@ -27,10 +27,6 @@ use Rattle.job.specs.Job.{mostOutlines, figureOf, outline, filled}
 use Rattle.job.specs.Calls.{UnpackSaid, filledBy, partUnpacked, unpacked, WriteSaid, writtenTo, headerWritten, outlineWritten}
 use Rattle.job.proofs.Job.{filled-inv}
 use Rattle.job.proofs.RoundTrip.{outline-only}
-
-pub either : {A : Type 0} (P : A → Type 0) (b : Bool) (x y : A) → (b ≡ true → P x) → (b ≡ false → P y) → P (cond b x y)
-either P true x y f g = f refl
-either P false x y f g = g refl
 
 module _ (b out : List ℕ) where
   pub written-beyond : (i d : ℕ) → length b ≤ i → getD (b ++ drop (length b) out) i d ≡ getD out i d
@@ -58,7 +54,7 @@ untouched out u e = record { beyond = λ i d h. ap (λ (l : List ℕ). getD l i 
 
 written-kept : (out b : List ℕ) → Kept out (writtenTo out b)
 written-kept out b =
-    either (Kept out) (leb (length b) (length out)) _ _
+    cond-cases (Kept out) (leb (length b) (length out)) _ _
     (λ p. record {
       beyond = written-beyond b out;
       refused = λ h. absurd (h refl);
@@ -74,13 +70,13 @@ header-rule t w k out e = rw e
 pub header-beyond : (t w k : ℕ) (out : List ℕ) → Kept out (headerWritten t w k out)
 unfolding headerWritten
 header-beyond t w k out =
-    either (Kept out) (inRange t w) _ _
-    (λ p. either (Kept out) (ltb mostOutlines k) _ _ (λ q. untouched out _ refl) (λ q. written-kept out (headerBytes _ _ _)))
+    cond-cases (Kept out) (inRange t w) _ _
+    (λ p. cond-cases (Kept out) (ltb mostOutlines k) _ _ (λ q. untouched out _ refl) (λ q. written-kept out (headerBytes _ _ _)))
     (λ p. untouched out _ refl)
 
 pub outline-beyond : (f : Figure) (out : List ℕ) → Kept out (outlineWritten f out)
 unfolding outlineWritten
-outline-beyond f out = either (Kept out) (badFigure f) _ _ (λ p. untouched out _ refl) (λ p. written-kept out (figureBytes _))
+outline-beyond f out = cond-cases (Kept out) (badFigure f) _ _ (λ p. untouched out _ refl) (λ p. written-kept out (figureBytes _))
 
 -- `unpack`
 
@@ -115,7 +111,7 @@ unfolding filledBy
 filled-kept f l ns twice =
     let a : Bool = leb (length (f .numbers)) (length l) in
     let b : Bool = leb (length (f .lengths)) (length ns) in
-    either (Unspoiled l ns) (a && b) _ _
+    cond-cases (Unspoiled l ns) (a && b) _ _
     (λ p. record {
       list-beyond = λ i d h. written-beyond (f .numbers) l i d (omega (arith, h, twice));
       lengths-beyond = written-beyond (f .lengths) ns;

@@ -24,19 +24,17 @@ use lib.ListN.{length, getD, take, drop, length-append, length-drop, length-map,
 use lib.Seq.{take-append-seam, drop-append-seam, drop-drop}
 use borrow.Author.Tests.{le-leb, le-ltb, ltb-false, eqb-true, eqb-false, ne-eqb}
 use Rattle.sum.specs.Sum.{All}
-use Rattle.refusal.specs.declared.Refusal.{Refusal}
 use Rattle.refusal.specs.declared.Refusal.the-variants.{Rule, Length, Range, Room}
-use Rattle.refusal.specs.Refusals.{refusalNo}
-use Rattle.refusal.proofs.Refusals.{refusal-some}
+use Rattle.refusal.proofs.Refusals.{never}
 use Rattle.rule.specs.Rules.{limit, inRange}
 use Rattle.rule.proofs.Rules.{range-true}
+use Rattle.number.proofs.Number.{cond-cases}
 use Rattle.figure.specs.Figure.{Figure, figure, share, total, badFigure}
 use Rattle.job.specs.Bytes.{headerBytes, figureBytes, outlinesBytes, jobBytes}
 use Rattle.job.specs.Job.{mostOutlines, figureOf}
 use Rattle.job.specs.Calls.{checked, TakeSaid, taken, told, unpacked, WriteSaid, writtenTo, headerWritten, outlineWritten}
 use Rattle.job.specs.ByCalls.{front, after, behind, figuresWritten, jobWritten}
 use Rattle.job.proofs.Rings.{share-back}
-use Rattle.job.proofs.Beyond.{either}
 use Rattle.job.proofs.RoundTrip.{Drawable, Writable, written-checked, written-taken, written-unpacked}
 
 abbrev pub ringsOf : Figure → List (List ℕ)
@@ -47,10 +45,6 @@ noFigure = figure [] []
 
 abbrev pub stood : List ℕ → List ℕ → WriteSaid
 stood b out = record { number = 0; bytes = length b; out = b ++ drop (length b) out }
-
--- a refusal's number is no 0
-never : (r : Refusal) → refusalNo r ≡ 0 → ⊥
-never r e = omega (arith, refusal-some r, e)
 
 -- the bytes that stand at the front are read there
 front-stood : (b out : List ℕ) → front (stood b out) ≡ b
@@ -64,7 +58,7 @@ module _ (out b : List ℕ) where
 
   fitted : writtenTo out b .number ≡ 0 → writtenTo out b ≡ stood b out
   fitted =
-      either (λ (u : WriteSaid). u .number ≡ 0 → u ≡ stood b out) (leb (length b) (length out)) _ _ (λ p e. refl) (λ p e. absurd (never Room e))
+      cond-cases (λ (u : WriteSaid). u .number ≡ 0 → u ≡ stood b out) (leb (length b) (length out)) _ _ (λ p e. refl) (λ p e. absurd (never Room (sym e)))
 
 range-in : (t w : ℕ) → t ≤ limit → w ≤ limit → inRange t w ≡ true
 unfolding inRange
@@ -79,11 +73,11 @@ module _ (t w k : ℕ) (out : List ℕ) where
   header-in : headerWritten t w k out .number ≡ 0 → (inRange t w ≡ true) × (k ≤ mostOutlines)
   unfolding headerWritten
   header-in =
-      either (λ (u : WriteSaid). u .number ≡ 0 → (inRange t w ≡ true) × (k ≤ mostOutlines)) (inRange t w) _ _
-      (λ p. either (λ (u : WriteSaid). u .number ≡ 0 → (inRange t w ≡ true) × (k ≤ mostOutlines)) (ltb mostOutlines k) _ _
-      (λ q e. absurd (never Range e))
+      cond-cases (λ (u : WriteSaid). u .number ≡ 0 → (inRange t w ≡ true) × (k ≤ mostOutlines)) (inRange t w) _ _
+      (λ p. cond-cases (λ (u : WriteSaid). u .number ≡ 0 → (inRange t w ≡ true) × (k ≤ mostOutlines)) (ltb mostOutlines k) _ _
+      (λ q e. absurd (never Range (sym e)))
       (λ q e. (p, ltb-false mostOutlines k q)))
-      (λ p e. absurd (never Rule e))
+      (λ p e. absurd (never Rule (sym e)))
 
   -- a header that is written is in range, and has those bytes
   pub calls-header : headerWritten t w k out .number ≡ 0
@@ -102,7 +96,7 @@ module _ (f : Figure) (out : List ℕ) where
   figure-in : outlineWritten f out .number ≡ 0 → badFigure f ≡ false
   unfolding outlineWritten
   figure-in =
-      either (λ (u : WriteSaid). u .number ≡ 0 → badFigure f ≡ false) (badFigure f) _ _ (λ p e. absurd (never Length e)) (λ p e. p)
+      cond-cases (λ (u : WriteSaid). u .number ≡ 0 → badFigure f ≡ false) (badFigure f) _ _ (λ p e. absurd (never Length (sym e))) (λ p e. p)
 
   -- a figure that is written passes 2, and its bytes are its rings'
   pub calls-figure : outlineWritten f out .number ≡ 0 → (badFigure f ≡ false) × (outlineWritten f out ≡ stood (figureBytes (ringsOf f)) out)

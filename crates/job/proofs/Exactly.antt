@@ -27,7 +27,7 @@ use borrow.Author.Tests.{le-ltb, ltb-true, ltb-false}
 use Rattle.refusal.specs.declared.Refusal.{Refusal}
 use Rattle.refusal.specs.declared.Refusal.the-variants.{Extra, Long, Missing, Room}
 use Rattle.refusal.specs.Refusals.{refusalNo}
-use Rattle.refusal.proofs.Refusals.{refusal-one, refusal-some}
+use Rattle.refusal.proofs.Refusals.{refusal-one, never}
 use Rattle.number.specs.Reading.{Reading, read, fault, andThen, past}
 use Rattle.number.specs.Number.{number}
 use Rattle.number.specs.Faults.{Sound}
@@ -125,9 +125,6 @@ module _ (s : List ℕ) where
       (a, b)
 
 -- Checking
-
-never : (r : Refusal) → 0 ≡ refusalNo r → ⊥
-never r e = omega (arith, refusal-some r)
 
 module _ (s : List ℕ) where
   check-fault : (r : Refusal) (o : ℕ) → checked s .number ≡ refusalNo r → checked s .offset ≡ o → job s ≡ fault r o

@@ -4,10 +4,7 @@
 use Prim.Native.Nat.{ℕ}
 use mathlib.Core.Path.{_≡_, _∙_, refl, sym, ap, ap₂}
 use mathlib.Core.List.{List}
-use native.Mathlib.Omega.{arith}
-use Rattle.refusal.specs.declared.Refusal.{Refusal}
-use Rattle.refusal.specs.Refusals.{refusalNo}
-use Rattle.refusal.proofs.Refusals.{refusal-one, refusal-some}
+use Rattle.refusal.proofs.Refusals.{refusal-one, never}
 use Rattle.figure.specs.Figure.{Figure}
 use Rattle.job.specs.declared.read.Checked.{Checked}
 use Rattle.job.specs.declared.read.Checked.the-variants as check
@@ -16,10 +13,6 @@ use Rattle.job.specs.declared.unpack.Unpacked.the-variants as unpack
 use Rattle.job.specs.declared.write.Written.{Written}
 use Rattle.job.specs.declared.write.Written.the-variants as write
 use Rattle.job.specs.Calls.{CheckSaid, checked, checkTold, TakeSaid, taken, told, UnpackSaid, unpacked, unpackTold, WriteSaid, headerWritten, outlineWritten, writeTold}
-
--- a refusal's number is no 0
-never : (r : Refusal) → 0 ≡ refusalNo r → ⊥
-never r e = omega (arith, refusal-some r)
 
 check-one : (u v : Checked) → checkTold u ≡ checkTold v → u ≡ v
 check-one (check.Job t w k) (check.Job t′ w′ k′) e =

@@ -1,7 +1,7 @@
 -- Laws of the table of refusal numbers. Assumes nothing.
 --
 --   refusal-one    == the numbers tell the refusals apart
---   refusal-some   == none is 0, which says that nothing is wrong
+--   refusal-some, never == none is 0, which says that nothing is wrong
 --   told-as        == what an answer tells, where a match has found which case it is
 use Prim.Native.Nat.{ℕ, _≤_}
 use mathlib.Core.Path.{_≡_, refl, sym, _∙_, ap}
@@ -73,6 +73,9 @@ refusal-some Full = omega arith
 refusal-some Shots = omega arith
 refusal-some Text = omega arith
 refusal-some Edge = omega arith
+
+pub never : (r : Refusal) → 0 ≡ refusalNo r → ⊥
+never r e = omega (arith, refusal-some r, e)
 
 -- what an answer tells, where a match has found which case it is
 pub told-as : {A B : Type 0} (tell : A → B) {r x : A} {b : B} → r ≡ x → tell r ≡ b → tell x ≡ b

@@ -14,8 +14,9 @@ use Rattle.refusal.specs.declared.Refusal.the-variants.{Long, Room}
 use Rattle.refusal.specs.Refusals.{refusalNo}
 use Rattle.refusal.proofs.Refusals.{refusal-some}
 use Rattle.number.specs.Reading.{Reading, read, fault}
+use Rattle.number.proofs.Number.{cond-cases}
 use Rattle.job.specs.Job.{mostBytes, Header, header}
-use Rattle.job.proofs.Beyond.{either, written-beyond}
+use Rattle.job.proofs.Beyond.{written-beyond}
 use Rattle.saving.specs.Salvage.{SaveSaid, keptFrom, savedBytes, unsaved, savedBy, saved}
 
 pub record SaveKept (out : List ℕ) (u : SaveSaid) : Type 0 where
@@ -24,7 +25,7 @@ pub record SaveKept (out : List ℕ) (u : SaveSaid) : Type 0 where
 
 pub save-beyond : (s out : List ℕ) → SaveKept out (saved s out)
 unfolding saved
-save-beyond s out = either (SaveKept out) (ltb mostBytes (length s)) _ _ (λ e. no Long 0) (λ e. go (header s))
+save-beyond s out = cond-cases (SaveKept out) (ltb mostBytes (length s)) _ _ (λ e. no Long 0) (λ e. go (header s))
   where
     no : (r : Refusal) (at : ℕ) → SaveKept out (unsaved (refusalNo r) at out)
     no r at = record { beyond = λ i d h. refl; done = λ e. absurd (omega (arith, refusal-some r, e)) }
@@ -33,6 +34,6 @@ save-beyond s out = either (SaveKept out) (ltb mostBytes (length s)) _ _ (λ e. 
     go (fault r at) = no r at
     go (read h first) =
         let b : List ℕ = savedBytes s h first (keptFrom s (h .count) first) in
-        either (SaveKept out) (leb (length b) (length out)) _ _
+        cond-cases (SaveKept out) (leb (length b) (length out)) _ _
         (λ e. record { beyond = written-beyond b out; done = λ z. refl })
         (λ e. no Room 0)

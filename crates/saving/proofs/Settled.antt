@@ -10,19 +10,14 @@ use native.Mathlib.Omega.{arith}
 use lib.Dec.{leb, ltb}
 use lib.ListN.{length, drop, length-append}
 use borrow.Author.Tests.{leb-true}
-use Rattle.refusal.specs.declared.Refusal.{Refusal}
 use Rattle.refusal.specs.declared.Refusal.the-variants.{Long, Room}
 use Rattle.refusal.specs.Refusals.{refusalNo}
-use Rattle.refusal.proofs.Refusals.{refusal-one, refusal-some}
+use Rattle.refusal.proofs.Refusals.{refusal-one, never}
 use Rattle.number.specs.Reading.{Reading, read, fault}
 use Rattle.job.specs.Job.{mostBytes, Header, header}
 use Rattle.saving.specs.declared.Saved.{Saved}
 use Rattle.saving.specs.declared.Saved.the-variants as save
 use Rattle.saving.specs.Salvage.{SaveSaid, unsaved, keptFrom, savedBytes, savedBy, saved, saveTold}
-
--- a refusal's number is no 0
-never : (r : Refusal) → 0 ≡ refusalNo r → ⊥
-never r e = omega (arith, refusal-some r)
 
 save-one : (u v : Saved) (l m : List ℕ) → saveTold u l ≡ saveTold v m → (u ≡ v) × (l ≡ m)
 save-one (save.Job b k x d) (save.Job b′ k′ x′ d′) l m e =

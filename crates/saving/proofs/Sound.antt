@@ -7,21 +7,19 @@
 --   save-sound       == the bytes written are an accepted job by the same rule, with the outlines kept
 --   save-whole       == a sound job comes back byte for byte, with nothing lost and nothing dropped
 --   save-again       == so saving what was saved changes nothing
-use Prim.Native.Nat.{ℕ, zero, suc, _+_, _-_, _<_, _≤_}
+use Prim.Native.Nat.{ℕ, _+_, _-_, _<_, _≤_}
 use mathlib.Core.Path.{_≡_, _∙_, refl, sym, ap, ap₂, subst}
-use mathlib.Core.Logic.{_⊎_, inl, inr}
+use mathlib.Core.Logic.{inl, inr}
 use mathlib.Core.List.{List, [], _∷_, _++_, map}
 use mathlib.Core.Bool.{Bool, true, false, cond}
 use native.Mathlib.Omega.{arith}
 use lib.Dec.{leb, ltb}
 use lib.ListN.{length, getD, take, drop, length-append, length-map, length-take, length-drop, take-append-drop, List·getD-map}
 use lib.Seq.{take-at, take-all}
-use borrow.Author.Tests.{le-leb, leb-true, ltb-true, ltb-false}
-use Rattle.refusal.specs.declared.Refusal.{Refusal}
+use borrow.Author.Tests.{le-leb, ltb-true, ltb-false}
 use Rattle.refusal.specs.declared.Refusal.the-variants.{Long, Room}
 use Rattle.refusal.specs.Refusals.{refusalNo}
-use Rattle.refusal.proofs.Refusals.{refusal-some}
-use Rattle.rule.specs.Rules.{limit}
+use Rattle.refusal.proofs.Refusals.{never}
 use Rattle.number.specs.Reading.{Reading, read, fault}
 use Rattle.number.specs.Number.{numberBytes}
 use Rattle.number.proofs.Reading.{many-length}
@@ -31,17 +29,12 @@ use Rattle.job.specs.Job.{mostBytes, mostOutlines, figureOf, Part, part, outlin
 use Rattle.job.specs.Calls.{noPart}
 use Rattle.job.proofs.Job.{job-whole}
 use Rattle.job.proofs.RoundTrip.{Drawable, partsOf, Figures, outlines-only, header-only, job-back}
-use Rattle.job.proofs.Anew.{accepted-range}
 use Rattle.index.specs.Index.{figures}
 use Rattle.index.proofs.Made.{header-length}
 use Rattle.saving.specs.Salvage.{Left, keptFrom, savedBytes, SaveSaid, unsaved, savedAs, savedBy, saved}
 use Rattle.saving.specs.Report.{Report}
 use Rattle.saving.proofs.Keeping.{kept-all, kept-reads, kept-within}
 use Rattle.saving.proofs.Saves.{header-range, first-within, to-saved}
-
--- a refusal's number is no 0
-never : (r : Refusal) → refusalNo r ≡ 0 → ⊥
-never r e = omega (arith, refusal-some r, e)
 
 abbrev doneBy : List ℕ → List ℕ → Header → ℕ → Left → SaveSaid
 doneBy s out h first l =
@@ -71,12 +64,12 @@ save-written s out z = go (ltb mostBytes (length s)) refl (header s) refl z
         → cond b (doneBy s out h first (keptFrom s (h .count) first)) (unsaved (refusalNo Room) 0 out) .number ≡ 0
         → saved s out ≡ cond b (doneBy s out h first (keptFrom s (h .count) first)) (unsaved (refusalNo Room) 0 out) → Written s out
     fits h first e short true q n same = record { head = h; first = first; header-is = e; short = short; told = same }
-    fits h first e short false q n same = absurd (never Room n)
+    fits h first e short false q n same = absurd (never Room (sym n))
 
     go : (a : Bool) → ltb mostBytes (length s) ≡ a → (u : Reading Header) → header s ≡ u
         → cond a (unsaved (refusalNo Long) 0 out) (savedBy s out u) .number ≡ 0 → Written s out
-    go true p u e n = absurd (never Long n)
-    go false p (fault r o) e n = absurd (never r n)
+    go true p u e n = absurd (never Long (sym n))
+    go false p (fault r o) e n = absurd (never r (sym n))
     go false p (read h first) e n =
         let short = ltb-false mostBytes (length s) p in
         fits h first e short (leb (length (savedBytes s h first (keptFrom s (h .count) first))) (length out)) refl n
