@@ -70,8 +70,8 @@ impl Plan {
 
 fn plan() -> Plan {
     let mut plan = Plan {
-        outlines: 120_000,
-        jobs: 120_000,
+        outlines: 60_000,
+        jobs: 48_000,
         seed: 1,
         threads: std::thread::available_parallelism().map_or(1, |n| n.get()),
         record: None,
