@@ -157,7 +157,7 @@ def gather_layer(db, given, drawn, runner, gathered, more, show):
         gather(db, layout, merged(db, layout, top, index, copies), copies, gathered, show)
         return
     windows.hold(source, layout, top, index)
-    tasks = [(source, window) for window in windows.plan(db, layout, top, copies, index)]
+    tasks = windows.tasks_of(source, windows.plan(db, layout, top, copies, index))
     windows.gather_windows(db, top, runner.run(windows.take, tasks, stage(show, "windows")), gathered, more)
 
 
@@ -166,7 +166,7 @@ def stage(show, name):
     return lambda done, total: show(name, done, total)
 
 
-def gather_and_answer(db, given, drawn, fracturer, placing, show):
+def gather_and_answer(db, given, drawn, runner, workers, fracturer, placing, show):
     """Gathers the figures of the layer and answers each distinct one, by those who do the work. What is known while
     windows are still at work is placed already."""
     from . import beyond, core, jobs
@@ -174,25 +174,21 @@ def gather_and_answer(db, given, drawn, fracturer, placing, show):
     gathered, answers, units = placing.gathered, placing.given, drawn.units
     parted = beyond.of(db) if given.beyond else None
     early = jobs.Early(fracturer, units, parted, answers)
-    runner, workers = runner_of(given)
 
     def more():
         """While workers have the next windows: answers and places what the last one gave."""
         if workers > 1 and given.jobs is None and early.answer(gathered.forms):
             placing.more()
 
-    try:
-        gather_layer(db, given, drawn, runner, gathered, more, show)
-        forms, shown = gathered.forms[len(answers) :], stage(show, "distinct")
-        rest = jobs.spread_answers(fracturer, forms, units, parted, workers, runner, given.jobs, shown)
-    finally:
-        runner.close()
+    gather_layer(db, given, drawn, runner, gathered, more, show)
+    forms, shown = gathered.forms[len(answers) :], stage(show, "distinct")
+    rest = jobs.spread_answers(fracturer, forms, units, parted, workers, runner, given.jobs, shown)
     answers += core.answers(fracturer, forms, units, parted, show) if rest is None else rest
 
 
 def run(given, show):
     """From the words to what was done, which is in the files that were asked for."""
-    from . import core, files, klayout_db
+    from . import core, files, klayout_db, windows
 
     db = klayout_db.find()
     layer = core.Layer(*given.layer)
@@ -200,9 +196,15 @@ def run(given, show):
     options = files.format_of(db, given.out)
     files.refuse_outputs(given.out, given.report)
     show("reading", 0, 1)
-    drawn = read_layer(db, given, layer)
-    placing = core.Placing(db, drawn.layout, layer, drawn.units, core.Gathered(), [], given.keep)
-    gather_and_answer(db, given, drawn, fracturer, placing, show)
+    runner, workers = runner_of(given)
+    try:
+        if not given.hierarchy:
+            runner.ahead(windows.open_ahead, windows.source_of(given.file, layer, given.cell))
+        drawn = read_layer(db, given, layer)
+        placing = core.Placing(db, drawn.layout, layer, drawn.units, core.Gathered(), [], given.keep)
+        gather_and_answer(db, given, drawn, runner, workers, fracturer, placing, show)
+    finally:
+        runner.close()
     if not given.keep:
         core.drop_layers(db, drawn.layout, placing.layers)
     placing.all(show)

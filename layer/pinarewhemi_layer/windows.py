@@ -14,8 +14,12 @@ from typing import NamedTuple
 from . import files, klayout_db
 from .core import MOST, Layer, index_of, prepare, prune, rings_of, top_of
 
-# Flat shapes to a window, and below how many times the hierarchical count a layer has little hierarchy.
-SHAPES, LITTLE = 16384, 4
+# Flat shapes to a window, and below how many times the hierarchical count a layer has little hierarchy. KLayout merges many
+# small windows faster than few large ones; but each distinct form is handed over once for each task, so a task has several.
+SHAPES, LITTLE = 4096, 4
+WINDOWS = 4
+# How many forms a process keeps the rings of.
+KEPT = 65536
 
 
 class Source(NamedTuple):
@@ -38,8 +42,8 @@ class Window(NamedTuple):
 
 
 class Pieces(NamedTuple):
-    """What a window gives: the distinct forms as rings, (form, x, y) one after the other for each place, and the pieces
-    of long figures as rings, where they stand."""
+    """What the windows of a task give: the distinct forms as rings, (form, x, y) one after the other for each place, and
+    the pieces of long figures as rings, where they stand."""
 
     forms: list
     places: array.array
@@ -75,6 +79,11 @@ def opened(db, source):
     return _held[source]
 
 
+def open_ahead(source):
+    """Has this process hold the layer of a source: the work of a worker before the first window."""
+    opened(klayout_db.find(), source)
+
+
 def polygon_of(db, rings):
     """The polygon of rings, hull first."""
     pairs = [[db.Point(x, y) for x, y in zip(ring[0::2], ring[1::2])] for ring in rings]
@@ -89,31 +98,53 @@ def box_of(db, *sides):
     return db.Box(*[max(-MOST, min(side, MOST)) for side in sides])
 
 
-def take(task):
-    """What a window has: the work of a worker. `task` is a source and a window."""
-    source, window = task
-    db = klayout_db.find()
-    layout, top, index = opened(db, source)
+def merged_in(db, held, window):
+    """The merged figures that touch a window or its margin, whole or not."""
+    layout, top, index = held
     left, bottom, right, above, margin = window
-    box = box_of(db, left, bottom, right, above)
     around = box_of(db, left - margin, bottom - margin, right + margin, above + margin)
     region = db.Region(db.RecursiveShapeIterator(layout, top, index, around, False))
     region.min_coherence = True
+    return region.merged()
+
+
+# The rings of forms that this process met: most windows of a layer have the same ones.
+_rings = {}
+
+
+def kept_rings(form):
+    """The rings of a form, reckoned once."""
+    rings = _rings.get(form)
+    if rings is None:
+        if len(_rings) >= KEPT:
+            _rings.clear()
+        rings = _rings[form] = tuple(map(tuple, rings_of(form)))
+    return rings
+
+
+def take(task):
+    """What some windows have: the work of a worker. `task` is a source and the windows."""
+    source, planned = task
+    db = klayout_db.find()
+    held = opened(db, source)
     numbers, forms, places, long = {}, [], array.array("q"), []
-    for polygon in region.merged().each():
-        frame = polygon.bbox()
-        if max(frame.width(), frame.height()) > margin:
-            if frame.touches(box):
-                long.append(rings_of(polygon))
-            continue
-        x, y = frame.left, frame.bottom
-        if left <= x < right and bottom <= y < above:
-            form = polygon.move(-x, -y)
-            number = numbers.get(form)
-            if number is None:
-                number = numbers[form] = len(forms)
-                forms.append(rings_of(form))
-            places.extend((number, x, y))
+    for window in planned:
+        left, bottom, right, above, margin = window
+        box = box_of(db, left, bottom, right, above)
+        for polygon in merged_in(db, held, window).each():
+            frame = polygon.bbox()
+            if max(frame.width(), frame.height()) > margin:
+                if frame.touches(box):
+                    long.append(rings_of(polygon))
+                continue
+            x, y = frame.left, frame.bottom
+            if left <= x < right and bottom <= y < above:
+                form = polygon.move(-x, -y)
+                number = numbers.get(form)
+                if number is None:
+                    number = numbers[form] = len(forms)
+                    forms.append(kept_rings(form))
+                places.extend((number, x, y))
     return Pieces(forms, places, long)
 
 
@@ -151,17 +182,25 @@ def plan(db, layout, top, copies, index):
     ]
 
 
+def tasks_of(source, planned):
+    """The windows in tasks, in their order."""
+    return [(source, planned[first : first + WINDOWS]) for first in range(0, len(planned), WINDOWS)]
+
+
 def gather_windows(db, top, pieces, gathered, more):
-    """Gathers what the windows gave, in their order, all in the top cell; `more` is called behind each window."""
+    """Gathers what the tasks gave, in their order, all in the top cell; `more` is called behind each task."""
     index = top.cell_index()
     gathered.copies[index] = 1
     places = gathered.places[index] = array.array("q")
-    long = db.Region()
+    known, long = {}, db.Region()
     for piece in pieces:
-        numbers = [gathered.number(polygon_of(db, rings)) for rings in piece.forms]
-        held = iter(piece.places)
-        for form, x, y in zip(held, held, held):
-            places.extend((numbers[form], x, y))
+        for rings in piece.forms:
+            if rings not in known:
+                known[rings] = gathered.number(polygon_of(db, rings))
+        numbers = [known[rings] for rings in piece.forms]
+        first = len(places)
+        places.extend(piece.places)
+        places[first::3] = array.array("q", map(numbers.__getitem__, piece.places[0::3]))
         for rings in piece.long:
             long.insert(polygon_of(db, rings))
         more()

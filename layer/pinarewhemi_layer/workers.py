@@ -30,6 +30,9 @@ class Pool:
     def __init__(self, workers):
         self.workers = workers
 
+    def ahead(self, function, given):
+        """Nothing: this process does it, and its workers are forked later."""
+
     def close(self):
         pass
 
@@ -70,6 +73,13 @@ class Dask:
         if not self.client.scheduler_info()["workers"]:
             self.close()
             raise Told(f"{address}: the scheduler has no worker")
+        self.begun = []
+
+    def ahead(self, function, given):
+        """Every worker begins with what its tasks will want done, while this process does it too. How it went, the tasks
+        will tell."""
+        for name in self.client.scheduler_info()["workers"]:
+            self.begun.append(self.client.submit(function, given, workers=[name], pure=False))
 
     def close(self):
         self.client.close()
@@ -88,6 +98,9 @@ class Dask:
 
 class Alone:
     """This process."""
+
+    def ahead(self, function, given):
+        """Nothing: this process does it."""
 
     def close(self):
         pass

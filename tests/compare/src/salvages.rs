@@ -80,7 +80,7 @@ pub fn rows(plan: &Plan, progress: &Progress) {
 const VALUES: [u8; 12] = [0, 1, 2, 3, 4, 5, 8, 33, 0x7f, 0x80, 0x81, 0xff];
 
 /// The worked job and jobs from seeds: cut at every length, every byte and one behind set to each of some values, and
-/// damaged at every byte in one of the ways. Of the 80 jobs of seed 1, the longest of 2,301 bytes: 549,318 calls.
+/// damaged at every byte in one of the ways. 80 jobs of seed 1, the longest of 2,301 bytes, are 549,318 calls.
 pub fn damaged(plan: &Plan, progress: &Progress) {
     let Some(library) = plan.library else { return };
     let count = (plan.jobs / 1500).clamp(8, 80) as u64;
