@@ -75,7 +75,8 @@ fn deliver(shots: &[u16], before: Before, weight: u32, largest: u32, list: &mut 
     requires { ⌜ Divisible (now shots) (before .shots) largest × ((weight ≤ limit) × ((before .sliver ≤ 2097120) × (before .shots ≤ 225))) ⌝ }
     ensures { λ a. ⌜ ((table : List ℕ) → told a table (now (list .exit)) ≡ listed weight (join (divided largest) (inFront (now (shots .entry)) (before .shots))) (before .sliver) (before .cuts) table (now (list .entry))) ⌝ }
 {
-    let n = before.shots as usize;
+    let whole = before.shots;
+    let n = whole as usize;
     let parts = count_parts(shots, n, largest);
     if list.len() < 4 * (parts as usize) {
         return Fractured::Refused(Refusal::List, parts);

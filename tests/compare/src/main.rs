@@ -125,6 +125,7 @@ fn main() {
     gdsii::longest(&plan, &progress);
     gdsii::others(&plan, &progress);
     gdsii::elements(&plan, &progress);
+    same::rows(&plan, &progress);
     same::figures(&plan, &progress);
     joins::rows(&plan, &progress);
     joins::lists(&plan, &progress);

@@ -7,7 +7,7 @@ use crate::room::{marks, Left};
 use crate::{Library, Plan};
 use drawings::seeded::Seeded;
 use drawings::{figures, outlines};
-use law::Drawing;
+use law::{Drawing, Told};
 use std::sync::atomic::{AtomicUsize, Ordering};
 
 /// The rings of a drawing whose lengths announce just its corners, each as pairs; none of another.
@@ -151,4 +151,60 @@ pub fn figures(plan: &Plan, progress: &Progress) {
     progress.done(format!(
         "same drawing, same shots: {total} figures from seeds, {accepted} accepted; {redrawings} times redrawn, {moves} times moved, {pairs} times by a dearer rule"
     ));
+}
+
+/// L, drawn and moved in some ways: its corners, and the shots by 25, 40.
+const DRAWN: [([u16; 12], [u16; 8]); 6] = [
+    ([0, 0, 100, 0, 100, 20, 60, 20, 60, 80, 0, 80], [0, 0, 60, 80, 60, 0, 100, 20]),
+    ([60, 20, 60, 80, 0, 80, 0, 0, 100, 0, 100, 20], [0, 0, 60, 80, 60, 0, 100, 20]),
+    ([0, 80, 60, 80, 60, 20, 100, 20, 100, 0, 0, 0], [0, 0, 60, 80, 60, 0, 100, 20]),
+    ([100, 20, 100, 0, 0, 0, 0, 80, 60, 80, 60, 20], [0, 0, 60, 80, 60, 0, 100, 20]),
+    ([7, 13, 107, 13, 107, 33, 67, 33, 67, 93, 7, 93], [7, 13, 67, 93, 67, 13, 107, 33]),
+    (
+        [65435, 65455, 65535, 65455, 65535, 65475, 65495, 65475, 65495, 65535, 65435, 65535],
+        [65435, 65455, 65495, 65535, 65495, 65455, 65535, 65475],
+    ),
+];
+
+/// Its cost by a threshold and a weight, dearer and dearer in either.
+const DEARER: [(u32, u32, u64); 12] = [
+    (25, 0, 2000),
+    (25, 1, 2080),
+    (25, 10, 2800),
+    (25, 39, 5120),
+    (25, 40, 5200),
+    (25, 41, 5280),
+    (25, 100, 10000),
+    (20, 40, 2000),
+    (21, 40, 5200),
+    (60, 40, 5200),
+    (61, 40, 10800),
+    (101, 40, 10800),
+];
+
+/// The worked rows of Item 14, as numbers: L drawn otherwise, moved, and by dearer rules; and two rings that are refused
+/// alike whichever comes first.
+pub fn rows(plan: &Plan, progress: &Progress) {
+    let Some(library) = plan.library else { return };
+    let fracture = |rings: &[&[u16]], rule| {
+        let drawing = Drawing { corners: rings.concat(), rings: rings.iter().map(|r| r.len() as u16 / 2).collect() };
+        let figure = Figure { library, drawing, rule, room: (9, 8) };
+        progress.same();
+        figure.fracture(&figure.drawing, rule)
+    };
+    for (corners, shots) in &DRAWN {
+        let left = fracture(&[corners], (25, 40));
+        assert_eq!(left.told, Told::done(&[2, 5200, 80, 4]), "{corners:?}");
+        assert_eq!(left.table.held(), [3400, 1000, 1000, 6600, 5200, 1000, 4200, 4200, 0], "{corners:?}");
+        assert_eq!(left.list.held(), shots, "{corners:?}");
+    }
+    for (threshold, weight, cost) in DEARER {
+        let told = fracture(&[&DRAWN[0].0], (threshold, weight)).told;
+        assert_eq!((told.number, told.numbers[1]), (0, cost), "{threshold} {weight}");
+    }
+    let (one, other): (&[u16], &[u16]) = (&[0, 0, 10, 0, 20, 0, 20, 10, 0, 10], &[0, 0, 10, 0, 10, 10, 5, 5]);
+    for rings in [[one, other], [other, one]] {
+        assert_eq!(fracture(&rings, (25, 40)).told, Told::refused(3), "{rings:?}");
+    }
+    progress.done("same drawing, same shots: the worked rows".into());
 }

@@ -24,18 +24,18 @@ returns c table = told-short _ _ _ _ _ _ _ _ (c .before .count-parts .ensures .0
 write-all-requires : tie.Need-write-all-requires
 write-all-requires c κs = search needs
 
-mul-t17 : tie.Need-mul-t17
-mul-t17 c = search needs
-
 mul-t18 : tie.Need-mul-t18
-mul-t18 c =
-    let s = c .before .before .before .before .before .before .before .before .before in
+mul-t18 c = search needs
+
+mul-t19 : tie.Need-mul-t19
+mul-t19 c =
+    let s = c .before .before .before .before .before .before .before .before in
     record { fits = omega (arith, mul-le-mul (s .pre .1 .0) (s .pre .1 .1 .0)) }
 
-add-t19 : tie.Need-add-t19
-add-t19 c =
+add-t20 : tie.Need-add-t20
+add-t20 c =
     let n = c .before .before .before .before .before in
-    let s = n .before .before .before .before in
+    let s = n .before .before .before in
     record { fits = omega (arith, mul-le-mul (s .pre .1 .0) (s .pre .1 .1 .0), n .count-parts .ensures .1) }
 
 same-length : tie.Need-same-length
@@ -57,8 +57,8 @@ deliver-spec =
     mul-if1
     returns
     write-all-requires
-    mul-t17
     mul-t18
-    add-t19
+    mul-t19
+    add-t20
     same-length
     returns-2)
