@@ -7,7 +7,7 @@
 --   filled-more          == the table with the strips of one more width stored
 --   straight-start       == the costs are prices where the vertical cuts are weighed, in the straight-cut mode
 --   State, state-*       == all strips narrower than w are filled, and no number of the side store is above `mostCost`
-use Prim.Native.Nat.{ℕ, zero, suc, _+_, _*_, _-_, _≤_, _<_, _^_}
+use Prim.Native.Nat.{ℕ, _+_, _*_, _-_, _≤_, _<_, _^_}
 use mathlib.Core.Path.{_≡_, refl, sym, _∙_, ap, ap₂, subst}
 use mathlib.Core.Logic.{_⊎_, inl, inr}
 use mathlib.Core.List.{List, _++_}
@@ -31,7 +31,7 @@ use Rattle.table.specs.Cuts.{uncut, Judged}
 use Rattle.table.specs.Cuts.{parted}
 use Rattle.table.specs.Fill.{Ready, Beyond}
 use Rattle.table.proofs.Entry
-use Rattle.table.proofs.Run.{lowest-same}
+use Rattle.table.proofs.Run.{lowest-same, zeros-at}
 use Rattle.table.proofs.Pairs.{row-before}
 use Rattle.table.proofs.Judging.{judged-piece}
 use Rattle.tally.specs.Sums.{Grown, Flanked, Widths}
@@ -227,11 +227,6 @@ pub record State (mode : Mode) (g : Grid) (r : Rule) (w : ℕ) (t₀ t side : Li
   pub beyond : Beyond (entryCount (g .columns) (g .rows)) t₀ t
   pub side-long : length side ≡ 1920
   pub cheap : (a p q : ℕ) → a < 16 → p < q → q ≤ g .rows → getD side (spot (g .rows) a p q) 0 ≤ mostCost
-
-zeros-at : (n i : ℕ) → _≡_ {A = ℕ} (getD (replicate n 0) i 0) 0
-zeros-at zero i = refl
-zeros-at (suc n) zero = refl
-zeros-at (suc n) (suc i) = zeros-at n i
 
 pub state-none : (mode : Mode) (g : Grid) (r : Rule) (t : List ℕ) → State mode g r 1 t t (replicate 1920 0)
 state-none mode g r t =
