@@ -28,7 +28,7 @@ use Rattle.piece.proofs.Cells.{Within}
 use Rattle.piece.proofs.Kind.{outside-cell, full-cell, kind-none, kind-all}
 use Rattle.table.specs.Run.{Wrote}
 use Rattle.table.specs.Entry.{pairCount}
-use Rattle.table.proofs.Run.{wrote-more}
+use Rattle.table.proofs.Run.{wrote-more, zeros-at}
 use Rattle.table.proofs.Entry.{count-closed}
 use Rattle.demands.specs.Cuts.{linesWithin, weighed, linePairs, weighedCuts}
 use Rattle.demands.proofs.Bounded.{pairs-same, pairs-add, pairs-ones, pairs-lines, everyLine, lines-all}
@@ -544,11 +544,6 @@ passing-end {cells} {columns} {rows} {column} s h =
 pub record Widening (cells : List ℕ) (columns rows column : ℕ) (reaches : List ℕ) (sum : ℕ) : Type 0 where
   pub passing : Passing cells columns rows column sum
   pub reached : Reached cells columns rows column reaches
-
-zeros-at : (n i : ℕ) → _≡_ {A = ℕ} (getD (replicate n 0) i 0) 0
-zeros-at zero i = refl
-zeros-at (suc n) zero = refl
-zeros-at (suc n) (suc i) = zeros-at n i
 
 pub widening-none : (cells : List ℕ) (columns rows : ℕ) → Widening cells columns rows columns (replicate 16 0) 0
 widening-none cells columns rows =

@@ -16,7 +16,7 @@ pub fn farther(cell: u8, next: u8, further: u32) -> u32
 }
 
 // From the reaches of the rows at the next column to those at this one.
-fn widen(cells: &[u8], column: usize, rows: usize, reaches: &mut [u32; 16])
+fn widen(cells: &[u8], column: usize, rows: usize, reaches: &mut [u32; MOST_LINES])
     requires { ⌜ Widenable (now cells) column rows (now reaches) ⌝ }
     ensures { λ _. ⌜ Wrote (widened (now (cells .entry)) column (now (reaches .entry))) 0 rows (now (reaches .entry)) (now (reaches .exit)) ⌝ }
 {
@@ -40,7 +40,7 @@ pub fn least(m: u32, n: u32) -> u32
 }
 
 // Twice the lines within the pieces of one sort that have the cell of this column and the row b at their low corner.
-fn corner(cells: &[u8], reaches: &[u32; 16], column: usize, b: usize, rows: usize) -> u32
+fn corner(cells: &[u8], reaches: &[u32; MOST_LINES], column: usize, b: usize, rows: usize) -> u32
     requires { ⌜ Climbable (now cells) column rows (now reaches) × (b < rows) ⌝ }
     ensures { λ r. ⌜ (r ≡ corner (cellAt (now (cells .entry)) column) (numberAt (now (reaches .entry))) rows b) × (r ≤ 9900) ⌝ }
 {
@@ -63,7 +63,7 @@ fn corner(cells: &[u8], reaches: &[u32; 16], column: usize, b: usize, rows: usiz
 }
 
 // The same of all rows of this column.
-fn corners_at(cells: &[u8], reaches: &[u32; 16], column: usize, rows: usize) -> u32
+fn corners_at(cells: &[u8], reaches: &[u32; MOST_LINES], column: usize, rows: usize) -> u32
     requires { ⌜ Climbable (now cells) column rows (now reaches) ⌝ }
     ensures { λ r. ⌜ (r ≡ over 0 rows (corner (cellAt (now (cells .entry)) column) (numberAt (now (reaches .entry))) rows)) × (r ≤ 148500) ⌝ }
 {
@@ -81,7 +81,7 @@ pub fn spared(cells: &[u8], columns: usize, rows: usize) -> u32
     requires { ⌜ (length (now cells) ≡ 256) × ((columns ≤ 15) × (rows ≤ 15)) ⌝ }
     ensures { λ r. ⌜ r ≡ sparedAll (now (cells .entry)) columns rows ⌝ }
 {
-    let mut reaches = [0u32; 16];
+    let mut reaches = [0u32; MOST_LINES];
     let mut sum: u32 = 0;
     let mut column = columns;
     while 0 < column {

@@ -29,7 +29,7 @@ use Rattle.figure.specs.declared.Axis.{Axis}
 use Rattle.figure.specs.declared.Axis.the-variants.{X, Y}
 use Rattle.figure.specs.Corners.{Corner, Link, any, changes, both, neither, same, alike, slanted, unturned, Turn, into, onward}
 use Rattle.figure.specs.Figure.{rings, edgesOf, turnsOf, badFigure, fault}
-use Rattle.figure.proofs.Fault.{bad-lengths, lengths-bad}
+use Rattle.figure.proofs.Fault.{bad-lengths, lengths-bad, or-elim}
 use Rattle.figure.proofs.Together.{slanted-all, unturned-all}
 use Rattle.outline.specs.Grid.{Grid}
 use Rattle.outline.specs.Inside.{grid, insideCells, empty}
@@ -132,10 +132,6 @@ and-true false b e = absurd (true≢false (sym e))
 or-true : (a b : Bool) → (a || b) ≡ true → (a ≡ true) ⊎ (b ≡ true)
 or-true true b e = inl refl
 or-true false b e = inr e
-
-or-elim : {P : Type 0} (a b : Bool) → (a || b) ≡ true → (a ≡ true → P) → (b ≡ true → P) → P
-or-elim true b e f g = f refl
-or-elim false b e f g = g e
 
 or-left : (a b : Bool) → a ≡ true → (a || b) ≡ true
 or-left a b e = ap (λ a. a || b) e

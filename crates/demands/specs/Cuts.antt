@@ -9,6 +9,7 @@
 --   Ahead, ahead f       == what is told of a figure before it is fractured: its refusal, 2 to 5, or 0 and the cuts to weigh
 -- At unit squares. Nothing from here on knows of lines, cells or pieces. The figure F says of each unit square whether it is inside,
 -- onX and onY say of each place whether a corner lies at it
+--   at a cs v            == a corner of cs lies at the place v along the axis a
 --   marks on a c         == how many places from a to below c are marked
 --   squaresIn F s        == how many unit squares of the rectangle s are inside
 --   area s               == how many it has
@@ -56,7 +57,6 @@ pub record Ahead : Type 0 where
 unfoldable pub ahead : Figure → Ahead
 ahead f = record { number = refusal f; cuts = cond (eqb (refusal f) 0) (weighedCuts (grid f)) 0 }
 
--- whether a corner lies at the place v along the axis a
 unfoldable pub at : Axis → List Corner → ℕ → Bool
 at a cs v = any (eqb v) (map (coordinate a) cs)
 

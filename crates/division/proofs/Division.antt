@@ -28,6 +28,7 @@ use Rattle.rule.proofs.Charge.{sliver-flecks}
 use Rattle.shot.specs.Shot.{Shot, holds}
 use Rattle.shot.specs.Bad.{shotOf}
 use Rattle.piece.specs.Cuts.{run}
+use Rattle.table.proofs.Entry.{run-length}
 use Rattle.demands.specs.Square.{prior, exposed, leftOf, rightOf, bottomOf, topOf, shotSliver}
 use Rattle.division.specs.Division.{across, upward, partCount, start, part, divided, product}
 use Rattle.division.proofs.Evenly.{count-some, count-one, start-first, start-last, start-up, step-most, step-some, step-wide}
@@ -98,11 +99,6 @@ rows-at f n long d a (suc k) (suc i) j h q =
     ∙ getD-append-add (f a) (join f (run (suc a) k)) (i * n + j) d
     ∙ rows-at f n long d (suc a) k i j (omega arith) q
     ∙ ap (λ v. getD (f v) j d) z
-
-run-length : (k n : ℕ) → length (run k n) ≡ n
-unfolding run
-run-length k zero = refl
-run-length k (suc n) = ap suc (run-length (suc k) n)
 
 module _ (m : ℕ) (s : Shot) where
   abbrev w : ℕ

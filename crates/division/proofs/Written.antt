@@ -27,6 +27,7 @@ use Rattle.shot.specs.Bad.{shotOf}
 use Rattle.shot.proofs.Shot.{numbers-length, numbers-append}
 use Rattle.shot.proofs.Bad.{four-at}
 use Rattle.piece.specs.Cuts.{run}
+use Rattle.table.proofs.Entry.{run-length}
 use Rattle.demands.specs.Promise.{written}
 use Rattle.division.specs.declared.side.Side.{Side}
 use Rattle.division.specs.Division.{partCount, start, part, divided, product}
@@ -74,11 +75,6 @@ run-last k (suc n) = let e : suc k + n ≡ k + suc n = omega arith in ap (λ l. 
 
 run-next : (n : ℕ) → run 0 (suc n) ≡ run 0 n ++ (n ∷ [])
 run-next n = let e : 0 + n ≡ n = omega arith in run-last 0 n ∙ ap (λ v. run 0 n ++ (v ∷ [])) e
-
-run-length : (k n : ℕ) → length (run k n) ≡ n
-unfolding run
-run-length k zero = refl
-run-length k (suc n) = ap suc (run-length (suc k) n)
 
 map-more : (f : ℕ → Shot) (l : List ℕ) (i : ℕ) → map f (l ++ (i ∷ [])) ≡ map f l ++ (f i ∷ [])
 map-more f [] i = refl

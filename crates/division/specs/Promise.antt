@@ -71,7 +71,7 @@ dividedOutcome ask m =
 
 -- 1, 19, 2, .., 7 have the turns 2, 3, 4, .., 14
 unfoldable pub turn : Refusal → ℕ
-turn c = cond (eqb (refusalNo c) 19) 3 (2 * refusalNo c)
+turn c = cond (eqb (refusalNo c) (refusalNo because.Largest)) 3 (2 * refusalNo c)
 
 module _ (ask : Asked) (m : ℕ) where
   pub data Condition (c : Refusal) : Type 0 where
@@ -80,7 +80,7 @@ module _ (ask : Asked) (m : ℕ) where
     -- the shot list holds fewer than four numbers for each divided shot
     short : c ≡ because.List → length (ask .list) < 4 * sumOf (product m) (reported (outcome (aside ask))) → Condition c
     -- 1 to 6, as they are without M
-    before : refusalNo c < 7 → undivided.Condition (aside ask) c → Condition c
+    before : refusalNo c < refusalNo because.List → undivided.Condition (aside ask) c → Condition c
 
   pub record First (c : Refusal) : Type 0 where
     pub holds : Condition c

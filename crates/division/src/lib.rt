@@ -1,6 +1,7 @@
 // The largest shot: the fracture of a figure for a writer that cannot expose beyond a side. The shots are those of the fracture without
 // it, each divided into parts that fit.
 use fracture::Fractured;
+use fracture::NUMBERS;
 use piece::Mode;
 use refusal::Refusal;
 use rule::Made;
@@ -23,9 +24,6 @@ ghost use Rattle.division.specs.Steps.{inFront, Divisible};
 
 mod side;
 mod writing;
-
-// The shots of every figure before division have room in so many numbers.
-pub const ROOM_ASIDE: usize = 900;
 
 // In nm; a largest side may not be below twice the threshold either.
 pub const LEAST_LARGEST: u32 = 200;
@@ -127,7 +125,7 @@ fn divide(
     requires { ⌜ (inRange threshold weight ≡ true) × (badLargest threshold largest ≡ false) ⌝ }
     ensures { λ a. ⌜ told a (now (table .exit)) (now (list .exit)) ≡ dividedOutcome (asked mode (now (corners .entry)) (now (lengths .entry)) threshold weight (now (table .entry)) (now (list .entry))) largest ⌝ }
 {
-    let mut aside = [0u16; ROOM_ASIDE];
+    let mut aside = [0u16; NUMBERS];
     let answer = undivided(corners, lengths, threshold, weight, mode, table, &mut aside);
     match answer {
         Fractured::Done {

@@ -15,10 +15,9 @@ use Prim.Native.Nat.{ℕ, suc}
 use mathlib.Core.Path.{_≡_, refl}
 use mathlib.Core.List.{List, [], _∷_}
 use Rattle.sum.specs.Sum.{only, sumOf, over, join}
-use Rattle.figure.specs.Corners.{corners, coordinate, last, steps, around, any, edges, threes, lastButOne, turns, changes, odd, both, neither, same, alike as bends, slanted, unturned}
+use Rattle.figure.specs.Corners.{corners, coordinate, last, steps, around, any, edges, threes, lastButOne, turns, changes, odd, both, neither, same, alike as bends, slanted, unturned, still, origin}
 use Rattle.figure.specs.Figure.{Figure, figure, share, badLength, badFigure, fault}
 use Rattle.figure.specs.Inside.{wall, walls, covers, count, within, insideAt}
-use Rattle.figure.specs.Steps.{still, origin}
 use Rattle.outline.specs.Inside.{gridOf, grid, insideCells, empty}
 use Rattle.outline.specs.Lines.{insert, rising, lines, place}
 use Rattle.outline.specs.Promise.{refusal}

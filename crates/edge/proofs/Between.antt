@@ -11,10 +11,10 @@ use Rattle.sum.specs.Sum.{All}
 use Rattle.sum.proofs.Lists.{All-imp}
 use Rattle.figure.specs.declared.Axis.{Axis}
 use Rattle.figure.specs.declared.Axis.the-variants.{X, Y}
-use Rattle.figure.specs.Corners.{corners, coordinate, slanted}
+use Rattle.figure.specs.Corners.{corners, coordinate, slanted, origin}
 use Rattle.figure.specs.Figure.{figure, rings}
 use Rattle.figure.specs.Inside.{insideAt}
-use Rattle.figure.specs.Steps.{corner, origin, Right}
+use Rattle.figure.specs.Steps.{corner, Right}
 use Rattle.figure.proofs.Sharing.{corners-whole}
 use Rattle.figure.proofs.Corners.{length-corners, coordinate-x, coordinate-y}
 use Rattle.figure.proofs.Turns.{All-both, any-all}

@@ -22,10 +22,10 @@ use Rattle.sum.proofs.Sum.{le-or}
 use Rattle.figure.specs.declared.Axis.{Axis}
 use Rattle.figure.specs.declared.Axis.the-variants.{X, Y}
 use Rattle.sum.specs.Sum.{only, sumOf}
-use Rattle.figure.specs.Corners.{Corner, Link, corners, edges, changes, coordinate, odd}
+use Rattle.figure.specs.Corners.{Corner, Link, corners, edges, changes, coordinate, odd, still, origin}
 use Rattle.figure.specs.Figure.{Figure, figure, share, badFigure}
 use Rattle.figure.specs.Inside.{walls, within, insideAt}
-use Rattle.figure.specs.Steps.{before, edge, still, origin}
+use Rattle.figure.specs.Steps.{before, edge}
 use Rattle.figure.proofs.Corners.{corner-at, edge-at, before-less, length-edges}
 use Rattle.figure.proofs.ByRings.{inside-rings}
 use Rattle.figure.proofs.Walking.{Reached, reached-start, reached-room, reached-some, reached-next, share-next, share-end}

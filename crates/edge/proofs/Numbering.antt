@@ -19,9 +19,9 @@ use Rattle.sum.specs.Sum.{join}
 use Rattle.sum.proofs.Sum.{le-or}
 use Rattle.figure.specs.declared.Axis.{Axis}
 use Rattle.figure.specs.declared.Axis.the-variants.{X, Y}
-use Rattle.figure.specs.Corners.{Corner, corners, coordinate, steps, changes}
+use Rattle.figure.specs.Corners.{Corner, corners, coordinate, steps, changes, origin, still}
 use Rattle.figure.specs.Figure.{figure, share, badFigure}
-use Rattle.figure.specs.Steps.{corner, origin, still}
+use Rattle.figure.specs.Steps.{corner}
 use Rattle.figure.proofs.Corners.{length-corners, corner-at}
 use Rattle.figure.proofs.Sharing.{corners-whole}
 use Rattle.figure.proofs.Walking.{Reached, reached-start, reached-room, reached-next, share-next, share-end}

@@ -25,9 +25,8 @@ use lib.ListN.{getD}
 use Rattle.sum.specs.Sum.{only, sumOf, join}
 use Rattle.figure.specs.declared.Axis.{Axis}
 use Rattle.figure.specs.declared.Axis.the-variants.{X, Y}
-use Rattle.figure.specs.Corners.{Corner, Link, coordinate, steps, changes}
+use Rattle.figure.specs.Corners.{Corner, Link, coordinate, steps, changes, still, origin}
 use Rattle.figure.specs.Figure.{Figure, rings}
-use Rattle.figure.specs.Steps.{still, origin}
 use Rattle.demands.specs.Square.{prior, exposed}
 
 unfoldable pub leaving : List Corner → List (Link Corner)

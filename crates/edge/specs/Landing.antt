@@ -50,7 +50,6 @@ pub record Landing : Type 0 where
   pub shot : ℕ
   pub side : ℕ
 
--- the first shot that has the side c there
 unfoldable pub shotWith : ℕ → Axis → List Shot → ℕ → ℕ → ℕ
 shotWith c a l p k = cond (eqb c 0) 0 (first (λ s. eqb (facing a (shape s) p k) c) l 1)
 

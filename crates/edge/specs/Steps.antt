@@ -91,7 +91,6 @@ pub record Nearer (place k best r : ℕ) : Type 0 where
   pub within : r ≤ best
   pub none : (k < place → place < r → ⊥)
 
--- the place of the corner i of a list along the axis b
 unfoldable pub placeOf : Axis → List ℕ → ℕ → ℕ
 placeOf b l i = coordinate b (corner l i)
 
@@ -124,7 +123,6 @@ put4 t i a b c d = take i t ++ ((a ∷ b ∷ c ∷ d ∷ []) ++ drop (i + 4) t)
 unfoldable pub runsWritten : (ℕ → Landing) → ℕ → ℕ → List ℕ → List ℕ
 runsWritten f k high t = written (runNumbers (runs f k (high - k))) t
 
--- the edge from the corner i of a list to its corner j
 unfoldable pub between : List ℕ → ℕ → ℕ → Link Corner
 between l i j = record { from = corner l i; to = corner l j }
 

@@ -11,7 +11,7 @@ ghost use Prim.Native.Nat.{_≤_};
 enum Fault {
     Slanted,
     Idle,
-    Straight,
+    Unturned,
 }
 
 // A corner of a ring.
@@ -81,7 +81,7 @@ fn is_at_fault(ring: &[u16], k: usize, fault: Fault) -> bool {
     match fault {
         Fault::Slanted => x && y,
         Fault::Idle => x == y,
-        Fault::Straight => x == changes_x(ring, previous(k, ring.len() / 2)),
+        Fault::Unturned => x == changes_x(ring, previous(k, ring.len() / 2)),
     }
 }
 
@@ -131,7 +131,7 @@ fn passes(a: u16, b: u16, c: u16) -> bool {
 }
 
 // A corner between two edges of the same direction: they go on through it, or back.
-fn say_straight(ring: &[u16], k: usize) {
+fn say_no_turn(ring: &[u16], k: usize) {
     let count = ring.len() / 2;
     let from = corner_of(ring, previous(k, count));
     let here = corner_of(ring, k);
@@ -152,7 +152,7 @@ fn say_fault(ring: &[u16], k: usize, fault: Fault) {
             say(b" changes both coordinates");
         }
         Fault::Idle => say_idle(ring, k),
-        Fault::Straight => say_straight(ring, k),
+        Fault::Unturned => say_no_turn(ring, k),
     }
 }
 
@@ -203,7 +203,7 @@ fn say_first(corners: &[u16], lengths: &[u16], fault: Fault) -> bool {
 // Why a figure is not right-angled though none of its edges is slanted.
 fn say_unturned(corners: &[u16], lengths: &[u16]) {
     if !say_first(corners, lengths, Fault::Idle) {
-        say_first(corners, lengths, Fault::Straight);
+        say_first(corners, lengths, Fault::Unturned);
     }
 }
 

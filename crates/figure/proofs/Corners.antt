@@ -14,8 +14,8 @@ use lib.Dec.{eqb}
 use lib.ListN.{length, getD, length-map, List·getD-map}
 use Rattle.figure.specs.declared.Axis.{Axis}
 use Rattle.figure.specs.declared.Axis.the-variants.{X, Y}
-use Rattle.figure.specs.Corners.{corners, coordinate, last, steps, around, any, edges, turns, changes, both, neither, alike, slanted, unturned, Corner, Link, Turn, into, onward, threes, lastButOne}
-use Rattle.figure.specs.Steps.{origin, still, stop, corner, edge, turn, before}
+use Rattle.figure.specs.Corners.{corners, coordinate, last, steps, around, any, edges, turns, changes, both, neither, alike, slanted, unturned, Corner, Link, Turn, into, onward, threes, lastButOne, origin, still}
+use Rattle.figure.specs.Steps.{stop, corner, edge, turn, before}
 
 pub length-corners : (l : List ℕ) → length (corners l) ≡ length l / 2
 unfolding corners

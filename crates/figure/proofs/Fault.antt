@@ -4,6 +4,7 @@
 --   fault-right                          == a figure without a fault passes 2, 3 and 4
 --   Good, rings-good                     == what passing 2 says of a figure
 --   bad-lengths, good-lengths, lengths-bad   == 2 holds exactly when a ring count, a ring length or the total is bad, in words
+--   or-elim                              == a disjunction of tests that holds, by its two ways
 --   shape-one                            == two answers that tell the same are the same
 use Prim.Native.Nat.{ℕ, _*_, _≤_, _<_}
 use mathlib.Core.Path.{_≡_, refl, sym, _∙_, ap}
@@ -95,11 +96,11 @@ shape-one shape.Right (shape.Refused why) e = absurd (not-right why e)
 shape-one (shape.Refused why) shape.Right e = absurd (not-right why (sym e))
 shape-one (shape.Refused u) (shape.Refused v) e = ap shape.Refused (refusal-one u v e)
 
--- 2 in words: the test passes exactly when a length is bad
-or-elim : {P : Type 0} (a b : Bool) → (a || b) ≡ true → (a ≡ true → P) → (b ≡ true → P) → P
+pub or-elim : {P : Type 0} (a b : Bool) → (a || b) ≡ true → (a ≡ true → P) → (b ≡ true → P) → P
 or-elim true b e f g = f refl
 or-elim false b e f g = g e
 
+-- 2 in words: the test passes exactly when a length is bad
 any-member : (t : ℕ → Bool) (l : List ℕ) → any t l ≡ true → (s : ℕ) × Member s l × (t s ≡ true)
 unfolding any
 any-member t [] e = absurd (true≢false (sym e))

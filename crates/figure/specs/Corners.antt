@@ -1,9 +1,11 @@
 -- To believe: the corners of a ring, its edges and its turns, and what refusals 3 and 4 say of them.
 --
 --   Corner           == a place in x and one in y, in nm
+--   origin           == the corner at 0 in both
 --   corners l        == the corners that the list x, y, x, y, .. gives
 --   coordinate a c   == the place of the corner c along the axis a
 --   Link             == a step from one thing to the next
+--   still a          == the step from a to itself
 --   around l         == from the last member of l to the first, and from each member to the next: once round
 --   edges cs         == the edges of the ring with the corners cs, the closing one among them
 --   Turn             == three corners in a row
@@ -30,6 +32,9 @@ pub record Corner : Type 0 where
   pub x : ℕ
   pub y : ℕ
 
+unfoldable pub origin : Corner
+origin = record { x = 0; y = 0 }
+
 unfoldable pub corners : List ℕ → List Corner
 corners [] = []
 corners (u ∷ []) = []
@@ -42,6 +47,9 @@ coordinate Y c = c .y
 pub record Link (A : Type 0) : Type 0 where
   pub from : A
   pub to : A
+
+unfoldable pub still : {A : Type 0} → A → Link A
+still a = record { from = a; to = a }
 
 module _ {A : Type 0} where
   -- the last of p and what follows it

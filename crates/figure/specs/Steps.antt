@@ -9,14 +9,8 @@ use mathlib.Core.Path.{_≡_}
 use mathlib.Core.Bool.{Bool, false, _||_}
 use mathlib.Core.List.{List}
 use lib.ListN.{getD}
-use Rattle.figure.specs.Corners.{Corner, Link, Turn, corners, edges, turns, any, slanted, unturned}
+use Rattle.figure.specs.Corners.{Corner, origin, Link, still, Turn, corners, edges, turns, any, slanted, unturned}
 use Rattle.figure.specs.Figure.{Figure, rings, badFigure}
-
-unfoldable pub origin : Corner
-origin = record { x = 0; y = 0 }
-
-unfoldable pub still : {A : Type 0} → A → Link A
-still a = record { from = a; to = a }
 
 unfoldable pub corner : List ℕ → ℕ → Corner
 corner l k = getD (corners l) k origin

@@ -1,5 +1,6 @@
 // From a filled table to the list, by straight cuts: is there room for the shots, and then the shots.
 use super::Fractured;
+use super::NUMBERS;
 use emission::emit;
 use emission::measuring::slivers;
 use outline::Line;
@@ -49,7 +50,7 @@ pub fn frame_of(plan: Plan) -> Numbered
 }
 
 // Whether so many numbers have room for the shots of the frame. There are no more shots than cells, so most lists need no count; for
-// the others the shots are written aside, where 900 numbers are room for those of any grid.
+// the others the shots are written aside, where there is room for those of any grid.
 fn room_for(
     costs: &[u32],
     cells: &[u8],
@@ -67,7 +68,7 @@ fn room_for(
     if 4 * (columns * rows) <= numbers {
         return Room::Enough;
     }
-    let mut aside = [0u16; 900];
+    let mut aside = [0u16; NUMBERS];
     let end = emit(costs, cells, xs, ys, &mut aside, plan, 0, frame);
     let needed = end / 4;
     if numbers < 4 * needed {

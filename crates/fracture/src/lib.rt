@@ -27,6 +27,12 @@ ghost use Rattle.fracture.specs.Told.{told, byDefault, aheadTold};
 mod delivery;
 mod pinwheel;
 
+// Room that is enough for every figure, whatever it is asked: entries of the table, one for each piece of 16 by 16 lines.
+pub const ENTRIES: usize = 14400;
+
+// And numbers of the list, four for each of 225 shots.
+pub const NUMBERS: usize = 900;
+
 // What a fracture answers: how many shots, their cost in thousandths of a shot, their sliver length in nm, and how many cuts were weighed;
 // or why there are none, and beside it how many shots there are where the list is too short for them, else 0.
 pub enum Fractured {

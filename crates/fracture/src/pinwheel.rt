@@ -1,6 +1,7 @@
 // The fracture of a figure by pinwheels beside straight cuts. These are the steps of the straight-cut mode with another fill and another
 // emission: they stand apart, so that a straight call makes no room on the stack for the store of the pinwheel fill or the parts of a pinwheel.
 use crate::Fractured;
+use crate::NUMBERS;
 use crate::delivery::Room;
 use crate::delivery::frame_of;
 use emission::measuring::slivers;
@@ -63,7 +64,7 @@ fn room_for(
     if 4 * (columns * rows) <= numbers {
         return Room::Enough;
     }
-    let mut aside = [0u16; 900];
+    let mut aside = [0u16; NUMBERS];
     let end = emit(costs, cells, xs, ys, &mut aside, plan, 0, frame);
     let needed = end / 4;
     if numbers < 4 * needed {

@@ -28,7 +28,7 @@ use Rattle.sum.proofs.Sum.{le-or}
 use Rattle.refusal.specs.declared.Refusal.{Refusal}
 use Rattle.refusal.specs.declared.Refusal.the-variants as because
 use Rattle.refusal.specs.Refusals.{refusalNo}
-use Rattle.refusal.proofs.Refusals.{refusal-one, refusal-some}
+use Rattle.refusal.proofs.Refusals.{refusal-one, refusal-some, never}
 use Rattle.rule.specs.Rules.{inRange, presetTold}
 use Rattle.number.specs.Reading.{Reading, read, fault}
 use Rattle.number.specs.Faults.{AllBytes}
@@ -289,9 +289,6 @@ module _ (s : List ℕ) (bytes : AllBytes s) {first n : ℕ} {x y : ℤ} {l : Li
       ap₂ (λ (m : List ℕ) k. shotsTold x y (outcome (asked Straight m (k ∷ []) 25 40 table list))) (o .0) (sym (ring-length s (runOf first n)))
       ∙ ap₂ (λ (u v : ℤ). shotsTold u v (fractured (points s (runOf first n)) table list)) (o .1) (o .2)
       ∙ sym (ap (pointsFractured table list) ps-read)
-
-never : (r : Refusal) → 0 ≡ refusalNo r → ⊥
-never r e = omega (arith, refusal-some r)
 
 -- Reading
 

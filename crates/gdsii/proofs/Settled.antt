@@ -4,19 +4,15 @@
 use Prim.Native.Nat.{ℕ}
 use mathlib.Core.Path.{_≡_, _∙_, refl, sym, ap, ap₂}
 use mathlib.Core.List.{List}
-use native.Mathlib.Omega.{arith}
 use lib.IntN.{ℤ}
 use Rattle.refusal.specs.declared.Refusal.{Refusal}
 use Rattle.refusal.specs.Refusals.{refusalNo}
-use Rattle.refusal.proofs.Refusals.{refusal-one, refusal-some}
+use Rattle.refusal.proofs.Refusals.{refusal-one, never}
 use Rattle.gdsii.specs.declared.Boundary.{Boundary}
 use Rattle.gdsii.specs.declared.Boundary.the-variants as reading
 use Rattle.gdsii.specs.declared.Plate.{Plate}
 use Rattle.gdsii.specs.declared.Plate.the-variants as plate
 use Rattle.gdsii.specs.Calls.{BoundarySaid, boundaryRead, boundaryTold, PlateSaid, boundaryFractured, plateTold}
-
-never : (r : Refusal) → 0 ≡ refusalNo r → ⊥
-never r e = omega (arith, refusal-some r)
 
 boundary-one : (u v : Boundary) (l m : List ℕ) → boundaryTold u l ≡ boundaryTold v m → u ≡ v
 boundary-one (reading.Corners n x y) (reading.Corners n′ x′ y′) l m e =

@@ -87,7 +87,6 @@ pub data Legal (s : List ℕ) : ℕ → List Want → ℕ → List Want → Type
   more : {at v next last : ℕ} {w : Want} {ws end : List Want} → Sound s at v next → allowed w v ≡ true
       → Legal s next (after w v ++ ws) last end → Legal s at (w ∷ ws) last end
 
--- what the bytes at a place say of a number from low to high
 abbrev pub Ranged : List ℕ → ℕ → ℕ → ℕ → Reading ℕ → Type 0
 Ranged s low high at (read v next) = Sound s at v next × ((low ≤ v) × (v ≤ high))
 Ranged s low high at (fault r o) =

@@ -3,16 +3,17 @@
 --   shots-exactly    == 21 exactly if the list is no list of shots with area
 --   room-exactly     == 14 exactly if it is one and the table has fewer entries than it has shots
 --   joined-exactly   == no refusal exactly if it is one and the table is long enough
+--   written-beyond   == behind an entry for each shot every entry of the table is as it came in, and all of them beside a refusal
 --   answer-length    == the table stays as long as it is
-use Prim.Native.Nat.{ℕ, _-_, _<_, _≤_}
+use Prim.Native.Nat.{ℕ, _+_, _-_, _<_, _≤_}
 use native.Mathlib.Omega.{arith}
 use mathlib.Core.Path.{_≡_, refl, sym, _∙_, ap}
 use mathlib.Core.Logic.{_⊎_, inl, inr}
 use mathlib.Core.Bool.{Bool, true, false, true≢false}
 use mathlib.Core.List.{List, map}
 use lib.Dec.{eqb, ltb}
-use lib.ListN.{length, take, length-map, length-drop}
-use lib.Seq.{take-all}
+use lib.ListN.{length, getD, take, drop, length-map, length-drop}
+use lib.Seq.{take-all, getD-drop}
 use borrow.Author.Tests.{eqb-true, eqb-false, ltb-true, ltb-false}
 use Rattle.sum.proofs.Sum.{le-or}
 use Rattle.shot.specs.Shot.{Shot, shotsIn}
@@ -59,6 +60,25 @@ module _ (l : List ℕ) (t : List Joined) (s : JoinSaid) (p : Promise l t s) whe
       by (bad e h) = (λ z. absurd (true≢false (sym e ∙ z .0)), λ z. absurd (omega (arith, p .number, h)))
       by (short e k h) = (λ z. absurd (omega (arith, z .1)), λ z. absurd (omega (arith, p .number, h)))
       by (fits e k h) = (λ z. p .number ∙ h, λ z. (e, k))
+
+-- ---- behind what is written
+drop-beyond : (m : ℕ) (u t : List Joined) → drop m u ≡ drop m t → (i : ℕ) (d : Joined) → m ≤ i → getD u i d ≡ getD t i d
+drop-beyond m u t e i d h =
+    let n : ℕ = i - m in
+    let z : i ≡ m + n = omega arith in
+    ap (λ k. getD u k d) z ∙ sym (getD-drop m u n d) ∙ ap (λ (v : List Joined). getD v n d) e ∙ getD-drop m t n d ∙ ap (λ k. getD t k d) (sym z)
+
+pub written-beyond : (l : List ℕ) (t : List Joined) (s : JoinSaid) → Promise l t s
+    → ((i : ℕ) (d : Joined) → length (shotsIn l) ≤ i → getD (s .table) i d ≡ getD t i d)
+    × ((s .number ≡ 0 → ⊥) → (i : ℕ) (d : Joined) → getD (s .table) i d ≡ getD t i d)
+written-beyond l t s p = (behind (eqb (s .number) 0) refl, refused)
+  where
+    refused : (s .number ≡ 0 → ⊥) → (i : ℕ) (d : Joined) → getD (s .table) i d ≡ getD t i d
+    refused z i d = ap (λ (u : List Joined). getD u i d) (p .refused z .1)
+
+    behind : (b : Bool) → eqb (s .number) 0 ≡ b → (i : ℕ) (d : Joined) → length (shotsIn l) ≤ i → getD (s .table) i d ≡ getD t i d
+    behind true e i d h = drop-beyond (length (shotsIn l)) (s .table) t (p .joined (eqb-true (s .number) 0 e) .beyond) i d h
+    behind false e i d h = refused (eqb-false (s .number) 0 e) i d
 
 -- ---- the table's length
 long-by : (l : List Shot) (u : List Joined) → map asShot (take (length l) u) ≡ l → (length l ≤ length u) ⊎ (length u < length l) → length l ≤ length u

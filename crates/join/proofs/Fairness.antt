@@ -20,7 +20,7 @@ use Rattle.shot.specs.Shot.{Shot}
 use Rattle.join.specs.declared.Joined.{Joined}
 use Rattle.join.specs.Join.{at, beside, below, canJoin, asShot, partnerAt, pairs}
 use Rattle.join.specs.Steps.{mated, takes, first, settled, mateOf, setPartner, linked, paired, counted, pairsTo, Within}
-use Rattle.join.proofs.Pairs.{same-or-not, length-partner, length-linked, at-partner, at-others, within-linked}
+use Rattle.join.proofs.Pairs.{same-or-not, length-partner, length-linked, at-partner, at-others, partner-mated, within-linked}
 
 -- ---- the order of two shots
 or-swap : (p q r s : Bool) → (p || q || r || s) ≡ (q || p || s || r)
@@ -40,10 +40,6 @@ canJoin-swap a b = or-swap (beside a b) (beside b a) (below a b) (below b a)
 shot-mated : (e : Joined) (j : ℕ) → asShot (mated e j) ≡ asShot e
 unfolding mated asShot
 shot-mated e j = refl
-
-partner-mated : (e : Joined) (j : ℕ) → mated e j .partner ≡ j
-unfolding mated
-partner-mated e j = refl
 
 abbrev pub shotAt : List Joined → ℕ → Shot
 shotAt t i = asShot (at t i)

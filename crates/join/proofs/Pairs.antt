@@ -35,7 +35,7 @@ pub at-others : (t : List Joined) (i j k : ℕ) → (k ≡ i → ⊥) → at (se
 unfolding at setPartner
 at-others t i j k h = getD-set-other t i k (mated (getD t i noEntry) j) noEntry h
 
-partner-mated : (e : Joined) (j : ℕ) → mated e j .partner ≡ j
+pub partner-mated : (e : Joined) (j : ℕ) → mated e j .partner ≡ j
 unfolding mated
 partner-mated e j = refl
 

@@ -22,6 +22,7 @@ use mathlib.Core.List.{List, map}
 use lib.Dec.{ltb, eqb}
 use lib.ListN.{length, getD, take, drop}
 use Rattle.sum.specs.Sum.{only, over}
+use Rattle.refusal.specs.declared.Refusal.the-variants as because
 use Rattle.refusal.specs.Refusals.{refusalNo}
 use Rattle.shot.specs.Shot.{Shot, shotsIn}
 use Rattle.shot.specs.Bad.{badShots}
@@ -73,7 +74,7 @@ partnerAt t i = at t i .partner
 
 -- ---- the call
 unfoldable pub refusal : List ℕ → ℕ → ℕ
-refusal l room = cond (badShots l) 21 (cond (ltb room (length (shotsIn l))) 14 0)
+refusal l room = cond (badShots l) (refusalNo because.Shots) (cond (ltb room (length (shotsIn l))) (refusalNo because.Room) 0)
 
 pub record JoinSaid : Type 0 where
   pub number : ℕ

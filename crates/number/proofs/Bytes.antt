@@ -5,6 +5,7 @@
 --   stands-join, stands-front, stands-back == the two parts of what stands at a place
 --   stands-whole     == the whole of some bytes stands at their front
 --   bytes-one, bytes-two, bytes-three == the cases of `numberBytes`
+--   bytes-typed      == every list of numbers of the type u8 has `AllBytes`
 --   bytes-length     == a number has 1 to 3 bytes
 --   bytes-all        == each of them is a byte
 --   number-back      == a number's bytes are read as that number, up to the place past them
@@ -20,11 +21,16 @@ use lib.Dec.{ltb}
 use lib.ListN.{length, getD, take, drop, length-take, length-drop, length-append}
 use lib.Seq.{drop-cons, getD-take, getD-drop, take-add, take-append-seam, drop-append-seam, take-take, take-length, drop-drop, drop-at}
 use borrow.Author.Tests.{ltb-true, ltb-false, lt-ltb, le-ltb}
+use mir.Syntax.{w8}
+use mir.Val.{Fits}
 use Rattle.number.specs.Reading.{read}
 pub use Rattle.number.specs.Faults.{AllBytes}
 use Rattle.number.specs.Faults.{GoesOn, worth}
 use Rattle.number.specs.Number.{most, number, numberBytes}
 use Rattle.number.proofs.Number.{cond-cases, goes-first, goes-at, sound-exactly, number-one, number-two, number-three}
+
+pub bytes-typed : (s : List ℕ) → ((i : ℕ) → Fits w8 (getD s i 0)) → AllBytes s
+bytes-typed s h i = omega (arith, h i)
 
 -- what stands at a place
 

@@ -31,10 +31,10 @@ use Rattle.sum.proofs.Sum.{le-or}
 use Rattle.sum.proofs.Lists.{All-parts, join-append, sumOf-one}
 use Rattle.figure.specs.declared.Axis.{Axis}
 use Rattle.figure.specs.declared.Axis.the-variants.{X, Y}
-use Rattle.figure.specs.Corners.{Corner, Link, corners, coordinate, around, edges, changes, odd, slanted, unturned}
+use Rattle.figure.specs.Corners.{Corner, Link, corners, coordinate, around, edges, changes, odd, slanted, unturned, origin, still}
 use Rattle.figure.specs.Figure.{Figure, figure, share, cornersOf, edgesOf, mostCorners}
 use Rattle.figure.specs.Inside.{Wall, wall, walls, count}
-use Rattle.figure.specs.Steps.{origin, still, corner, edge, before, Right}
+use Rattle.figure.specs.Steps.{corner, edge, before, Right}
 use Rattle.figure.proofs.Corners.{length-corners, length-edges, length-around, around-at, edge-at, before-less, before-none, before-some}
 use Rattle.figure.proofs.Fault.{rings-good}
 use Rattle.figure.proofs.ByRings.{odd-bit}

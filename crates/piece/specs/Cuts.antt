@@ -45,7 +45,6 @@ pub data Cut : Type 0 where
   vertical horizontal : ℕ → Cut
   wheel : Turn → ℕ → ℕ → ℕ → ℕ → Cut
 
--- n numbers from k up
 unfoldable pub run : ℕ → ℕ → List ℕ
 run k zero = []
 run k (suc n) = k ∷ run (suc k) n

@@ -62,7 +62,6 @@ cellSum f p = over (p .a) (p .c) (λ i. over (p .b) (p .d) (f i))
 unfoldable pub cells : Piece → ℕ
 cells p = cellSum (λ i j. 1) p
 
--- n inside cells of m
 unfoldable pub kindOf : ℕ → ℕ → Kind
 kindOf n m = elim (eqb n 0) [ true ↦ outside | false ↦ elim (eqb n m) [ true ↦ full | false ↦ mixed ] ]
 

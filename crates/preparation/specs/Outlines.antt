@@ -7,7 +7,7 @@
 --   anyRefused s n       == that of one of its first n outlines is
 -- Inner
 --   Indexed a s index    == beside a job that is accepted stands its true index
---   Ready s index h      == the job s is accepted, h is what it says before its outlines, and beside it stands its true index
+--   Admitted s index h   == the job s is accepted, h is what it says before its outlines, and beside it stands its true index
 --   Fronts f v r l ns    == the figure f stands at the front of two lists: 2v numbers of the one, and r of the other
 use Prim.Native.Nat.{ℕ, zero, suc, _*_, _≤_}
 use mathlib.Core.Path.{_≡_}
@@ -34,7 +34,7 @@ abbrev pub Indexed : Checked → List ℕ → List ℕ → Type 0
 Indexed (check.Job t w k) s index = TrueIndex s index k
 Indexed (check.Refused r at) s index = Unit {0}
 
-pub record Ready (s index : List ℕ) (h : Header) : Type 0 where
+pub record Admitted (s index : List ℕ) (h : Header) : Type 0 where
   pub sound : Sound s h
   pub entries : TrueIndex s index (h .outlines)
 

@@ -3,6 +3,8 @@ pub mod lines;
 mod outlines;
 
 use explanation::jobs;
+use fracture::ENTRIES;
+use fracture::NUMBERS;
 use job::MOST_BYTES;
 use job::MOST_OUTLINES;
 use job::read::Checked;
@@ -79,11 +81,11 @@ fn told(status: u32) -> u32
 }
 
 // The run of the job that the one word names, or of standard input. One byte more than the longest job is read, so that a longer one
-// shows. The table has an entry for every piece of 16 by 16 lines, and the list room for 225 shots.
+// shows. Table and list are enough for every figure.
 fn read_and_run() -> u32 {
     let mut job = [0u8; MOST_BYTES + 1];
-    let mut table = [0u32; 14400];
-    let mut list = [0u16; 900];
+    let mut table = [0u32; ENTRIES];
+    let mut list = [0u16; NUMBERS];
     let got = read_only(b"prep", &mut job);
     let failed = got.failed;
     if failed {

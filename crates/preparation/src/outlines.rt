@@ -26,7 +26,7 @@ ghost use Rattle.demands.specs.Promise.{outcome};
 ghost use Rattle.fracture.specs.Told.{told};
 ghost use Rattle.preparation.specs.Lines.{refusedBy};
 ghost use Rattle.terminal.specs.Output.{Remembers};
-ghost use Rattle.preparation.specs.Outlines.{Indexed, Ready, said, isRefused, anyRefused, Fronts};
+ghost use Rattle.preparation.specs.Outlines.{Indexed, Admitted, said, isRefused, anyRefused, Fronts};
 
 // What a job says before its outlines: its rule, and how many there are.
 pub struct Header {
@@ -80,7 +80,7 @@ pub fn begin(job: &[u8], index: &mut [u16]) -> Checked
 
 // The bytes of outline k of a job that was accepted. Picking them is not refused: the two numbers that are lent for that stay 0.
 fn part_of<'a>(job: &'a [u8], index: &[u16], k: usize, header: Header) -> &'a [u8]
-    requires { ⌜ Ready (now job) (now index) header ⌝ }
+    requires { ⌜ Admitted (now job) (now index) header ⌝ }
     requires { ⌜ k < header .outlines ⌝ }
     ensures { λ r. ⌜ handed 0 0 (now r) ≡ taken (now (job .entry)) k ⌝ }
 {
@@ -99,7 +99,7 @@ fn unpack_outline(
     corners: &mut [u16],
     lengths: &mut [u16],
 ) -> Shape
-    requires { ⌜ Ready (now job) (now index) header ⌝ }
+    requires { ⌜ Admitted (now job) (now index) header ⌝ }
     requires { ⌜ k < header .outlines ⌝ }
     requires { ⌜ (64 ≤ length (now corners)) × (8 ≤ length (now lengths)) ⌝ }
     ensures { λ r. ⌜ Fronts (said (now (job .entry)) k) (r .corners) (r .rings) (now (corners .exit)) (now (lengths .exit)) ⌝ }
@@ -141,7 +141,7 @@ fn fracture_outline(
     table: &mut [u32],
     list: &mut [u16],
 ) -> Fractured
-    requires { ⌜ Ready (now job) (now index) header ⌝ }
+    requires { ⌜ Admitted (now job) (now index) header ⌝ }
     requires { ⌜ k < header .outlines ⌝ }
     ensures { λ a. ⌜ told a (now (table .exit)) (now (list .exit)) ≡ outcome (record { mode = Straight; figure = said (now (job .entry)) k; threshold = header .threshold; weight = header .weight; table = now (table .entry); list = now (list .entry) }) ⌝ }
 {
@@ -180,7 +180,7 @@ fn run_outline(
     list: &mut [u16],
     out: Output,
 ) -> Ran
-    requires { ⌜ Ready (now job) (now index) header ⌝ }
+    requires { ⌜ Admitted (now job) (now index) header ⌝ }
     requires { ⌜ k < header .outlines ⌝ }
     requires { ⌜ (14400 ≤ length (now table)) × (900 ≤ length (now list)) ⌝ }
     ensures { λ r. ⌜ r .refused ≡ isRefused (now (job .entry)) k ⌝ }
@@ -211,7 +211,7 @@ pub fn run_outlines(
     list: &mut [u16],
     out: Output,
 ) -> Ran
-    requires { ⌜ Ready (now job) (now index) header ⌝ }
+    requires { ⌜ Admitted (now job) (now index) header ⌝ }
     requires { ⌜ (14400 ≤ length (now table)) × (900 ≤ length (now list)) ⌝ }
     ensures { λ r. ⌜ (r .out .failed ≡ true) ⊎ (r .refused ≡ anyRefused (now (job .entry)) (header .outlines)) ⌝ }
     ensures { λ r. ⌜ Remembers out (r .out) ⌝ }

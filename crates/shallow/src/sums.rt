@@ -1,6 +1,7 @@
 // What a piece of a strip adds up to: a row of cells as the strip grows by a column, and rows one above the other.
 use crate::cuts::Strip;
 use outline::Line;
+use outline::MOST_LINES;
 use rule::Rule;
 use table::runs;
 use table::sides;
@@ -71,11 +72,11 @@ fn flanks(cells: &[u8], rule: Rule, strip: Strip, j: usize, height: u32) -> u32
         return 0;
     }
     let a = strip.a;
-    let left = 16 * a.0;
+    let left = MOST_LINES * a.0;
     let before = sides::column_before(a);
     let high = strip.c.0;
-    let right = 16 * (high - 1);
-    let after = 16 * high;
+    let right = MOST_LINES * (high - 1);
+    let after = MOST_LINES * high;
     let low_side = runs::exposed(cells[left + j], cells[before + j], height);
     let high_side = runs::exposed(cells[right + j], cells[after + j], height);
     low_side + high_side
@@ -88,7 +89,7 @@ pub fn grown(cells: &[u8], rule: Rule, strip: Strip, step: u32, j: usize, row: S
     ensures { λ r. ⌜ r ≡ grownRow (now (cells .entry)) rule strip step j row ⌝ }
 {
     let high = strip.c.0;
-    let near = 16 * (high - 1);
+    let near = MOST_LINES * (high - 1);
     let height = row.height;
     let cell = cells[near + j];
     let inside = count(cell);

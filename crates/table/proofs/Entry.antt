@@ -5,6 +5,7 @@
 --                   the lines i < j has the number i (2n + 1 - i) / 2 + (j - i - 1), and there are n (n + 1) / 2 pairs
 --   pair-*       == the number of a pair: its bounds, no two pairs have the same one, every number is a pair's
 --   entry-*      == the entry of a piece: below the count of entries, and no other piece's
+--   run-length   == a run of n numbers has n
 --   pairs-*      == the list of pairs: its length, and what stands at a pair's number
 --   tabled-*, costs-*   == the list of entries, of any price and of the costs: its length, what stands at a piece's entry, and when a table begins with it
 use Prim.Native.Nat.{ℕ, zero, suc, _+_, _*_, _-_, _/_, _≤_, _<_}
@@ -199,7 +200,7 @@ module _ {A B : Type 0} (y : A) (z : B) where
   grid-length f m len [] = omega arith
   grid-length f m len (x ∷ l) = omega (arith, length-append (f x) (join f l), len x, grid-length f m len l)
 
-run-length : (k n : ℕ) → length (run k n) ≡ n
+pub run-length : (k n : ℕ) → length (run k n) ≡ n
 unfolding run
 run-length k zero = refl
 run-length k (suc n) = ap suc (run-length (suc k) n)

@@ -1,5 +1,6 @@
 -- Laws of runs of numbers and of the least of several. Assumes nothing.
 --
+--   zeros-at                 == a list of zeros has a zero at every place
 --   wrote-none, wrote-more   == a run that is written from the front, one store after the other
 --   wrote-end                == where the run is at its end
 --   apart-more               == weighing a cut of several pieces: one piece more
@@ -7,16 +8,22 @@
 --   lowest-none, lowest-more == the least so far, with no line weighed yet, and with one more
 --   lowest-same              == for equal values, the same least
 --   lowest-between           == with no line between
-use Prim.Native.Nat.{ℕ, _+_, _-_, _≤_, _<_, _^_, min}
+use Prim.Native.Nat.{ℕ, zero, suc, _+_, _-_, _≤_, _<_, _^_, min}
 use mathlib.Core.Path.{_≡_, refl, sym, _∙_, ap, subst}
 use mathlib.Core.Logic.{_⊎_, inl, inr}
 use mathlib.Core.List.{List}
 use native.Mathlib.Omega.{arith}
-use lib.ListN.{length, getD, set, length-set}
+use lib.ListN.{length, getD, set, replicate, length-set}
 use lib.Seq.{getD-set-same, getD-set-other}
 use borrow.Author.Tests.{eq-eqb, ne-eqb}
 use Rattle.sum.proofs.Sum.{le-or}
 use Rattle.table.specs.Run.{Wrote, bare, weighedApart, Lowest}
+
+-- past its end too, a list of zeros has a zero
+pub zeros-at : (n i : ℕ) → _≡_ {A = ℕ} (getD (replicate n 0) i 0) 0
+zeros-at zero i = refl
+zeros-at (suc n) zero = refl
+zeros-at (suc n) (suc i) = zeros-at n i
 
 pub wrote-none : (f : ℕ → ℕ) (at : ℕ) (t : List ℕ) → Wrote f at 0 t t
 wrote-none f at t = record { long = refl; made = λ i h. absurd (omega arith); kept = λ k h. refl }

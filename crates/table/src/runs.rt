@@ -4,6 +4,13 @@ ghost use Prim.Native.Nat.{ℕ, _+_, _<_, _≤_, _^_, min};
 ghost use lib.ListN.{length, getD};
 ghost use Rattle.table.specs.Run.{Wrote, bare, weighedApart};
 
+// The strips of one width are filled side by side, so that a cut of several of them is weighed at once: the strip that begins at the x line
+// a stands in lane a.
+pub const LANES: usize = 16;
+
+// A side store has, at LANES * e + a, a number for the e-th piece of the strip in lane a, among the 120 pairs of y lines at most.
+pub const SIDE: usize = 1920;
+
 // The lesser of two costs.
 pub fn lesser(a: u32, b: u32) -> u32
     ensures { λ r. ⌜ r ≡ min a b ⌝ }

@@ -10,17 +10,17 @@
 --                      == and so are the exposed sides and the inside cells of pieces, also of those that end beyond the frame
 use Prim.Native.Nat.{ℕ, suc, _+_, _*_, _-_, _≤_, _<_}
 use mathlib.Core.Path.{_≡_, sym, _∙_, ap, ap₂, subst}
-use mathlib.Core.Bool.{Bool}
 use mathlib.Core.List.{List}
 use native.Mathlib.Omega.{arith}
 use native.Mathlib.Nat.{mul-le-mul}
 use lib.ListN.{getD, replicate, length-replicate, getD-replicate}
 use Rattle.sum.specs.Sum.{only, over}
-use Rattle.sum.proofs.Sum.{over-none, over-one, over-le, over-same, over-part, over-steps, over-add, over-swap, only-most}
+use Rattle.sum.proofs.Sum.{over-none, over-one, over-same, over-add, over-swap}
 use Rattle.outline.specs.Grid.{Grid, Sound}
 use Rattle.piece.specs.Piece.{box, lowSide, highSide, cellSum, insideCells, width, height, left, right, bottom, top}
 use Rattle.piece.proofs.Cells.{cells-product}
 use Rattle.piece.proofs.Kind.{inside-most}
+use Rattle.table.proofs.Side.{span-most}
 use Rattle.tally.specs.Sums.{Grown, Flanked}
 use Rattle.tally.specs.Bounds.{Measured}
 
@@ -41,18 +41,6 @@ grown-none g sound =
 -- as a loop over widths needs it
 pub grown-next : (g : Grid) (w : ℕ) (u : List ℕ) → Grown g w u → Grown g (w + 1 - 1) u
 grown-next g w u h = (let e : w ≡ w + 1 - 1 = omega arith in subst (λ n. Grown g n u) e h)
-
--- tested stretches between rising lines add up to at most the highest place
-span-most : (f : ℕ → ℕ) → ((i : ℕ) → f i ≤ f (suc i)) → ((i : ℕ) → f i ≤ 65535) → (t : ℕ → Bool) (b d : ℕ) → b ≤ d
-    → over b d (λ j. only (t j) (f (suc j) - f j)) ≤ 65535
-span-most f up most t b d h =
-    omega (
-      arith,
-      over-le b d (λ j. only (t j) (f (suc j) - f j)) (λ j. f (suc j) - f j) (λ j p q. only-most (t j) (f (suc j) - f j)),
-      over-part b d 0 d (λ j. f (suc j) - f j) (omega arith) h (omega arith),
-      over-steps d f up,
-      most d,
-    )
 
 module _ (g : Grid) (sound : Sound g) where
   pub left-most : (a c b d : ℕ) → b ≤ d → left g (box a c b d) ≤ 65535

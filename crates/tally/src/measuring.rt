@@ -1,6 +1,15 @@
 // Measuring a grid: what each of its cells adds to the sums of strips, and how wide the strips are.
+use crate::CELL_BOTTOMS;
+use crate::CELL_LEFTS;
+use crate::CELL_RIGHTS;
+use crate::CELL_TOPS;
+use crate::ROW;
+use crate::SHARES;
 use outline::Line;
+use outline::MOST_LINES;
 use table::runs;
+use table::runs::LANES;
+use table::sides::COLUMN_BEYOND;
 use table::sides::span;
 ghost use mathlib.Core.Path.{_≡_};
 ghost use mathlib.Core.List.{List};
@@ -9,6 +18,9 @@ ghost use lib.ListN.{length, getD, replicate};
 ghost use Rattle.outline.specs.Grid.{Grid, Drawn, stored};
 ghost use Rattle.tally.specs.Sums.{Widths};
 ghost use Rattle.tally.specs.Units.{lowNeighbour, five, shareOf, Measurable, Put, Laid, Row, UnitsTo, Units, Rising};
+
+// The number of the row beyond every frame.
+const BEYOND: usize = 15;
 
 // Where the cell before the k-th of a row or column of cells stands, the k-th standing at `here`: a step before it. Before the first
 // there is none: a cell beyond the frame stands in for it.
@@ -24,7 +36,7 @@ fn low_neighbour(k: usize, here: usize, step: usize, beyond: usize) -> usize
 
 // Stores the five shares of the cell at this place: whether it is inside, and its exposed sides.
 fn put_shares(
-    unit: &mut [u32; 2560],
+    unit: &mut [u32; SHARES],
     at: usize,
     cell: u8,
     bottom: u32,
@@ -36,36 +48,36 @@ fn put_shares(
     ensures { λ _. ⌜ Put (five cell bottom top left right) at (now (unit .entry)) (now (unit .exit)) ⌝ }
 {
     unit[at] = cell as u32;
-    unit[512 + at] = bottom;
-    unit[1024 + at] = top;
-    unit[1536 + at] = left;
-    unit[2048 + at] = right;
+    unit[CELL_BOTTOMS + at] = bottom;
+    unit[CELL_TOPS + at] = top;
+    unit[CELL_LEFTS + at] = left;
+    unit[CELL_RIGHTS + at] = right;
 }
 
 // Measures the cell (i, j): it counts where it is inside, and each of its sides where the cell across is not.
-fn measure_cell(unit: &mut [u32; 2560], xs: &[u16], ys: &[u16], cells: &[u8], i: usize, j: usize)
+fn measure_cell(unit: &mut [u32; SHARES], xs: &[u16], ys: &[u16], cells: &[u8], i: usize, j: usize)
     requires { ⌜ length (now unit) ≡ 2560 ⌝ }
     requires { ⌜ Measurable (now xs) (now ys) (now cells) i j ⌝ }
     ensures { λ _. ⌜ Put (shareOf (now (xs .entry)) (now (ys .entry)) (now (cells .entry)) i j) (32 * j + i) (now (unit .entry)) (now (unit .exit)) ⌝ }
 {
-    let here = 16 * i + j;
+    let here = MOST_LINES * i + j;
     let after = i + 1;
     let above = j + 1;
     let width = span(xs, Line(i), Line(after));
     let height = span(ys, Line(j), Line(above));
     let cell = cells[here];
-    let under = low_neighbour(j, here, 1, 16 * i + 15);
-    let before = low_neighbour(i, here, 16, 240 + j);
+    let under = low_neighbour(j, here, 1, MOST_LINES * i + BEYOND);
+    let before = low_neighbour(i, here, MOST_LINES, COLUMN_BEYOND + j);
     let bottom = runs::exposed(cell, cells[under], width);
     let top = runs::exposed(cell, cells[here + 1], width);
     let left = runs::exposed(cell, cells[before], height);
-    let right = runs::exposed(cell, cells[here + 16], height);
-    put_shares(unit, 32 * j + i, cell, bottom, top, left, right);
+    let right = runs::exposed(cell, cells[here + MOST_LINES], height);
+    put_shares(unit, ROW * j + i, cell, bottom, top, left, right);
 }
 
 // Measures the cells of the row j.
 fn measure_row(
-    unit: &mut [u32; 2560],
+    unit: &mut [u32; SHARES],
     xs: &[u16],
     ys: &[u16],
     cells: &[u8],
@@ -84,7 +96,7 @@ fn measure_row(
 
 // Measures all cells, into a list that is all zeros.
 pub fn measure(
-    unit: &mut [u32; 2560],
+    unit: &mut [u32; SHARES],
     xs: &[u16],
     ys: &[u16],
     cells: &[u8],
@@ -103,7 +115,7 @@ pub fn measure(
 }
 
 // The widths in nm of the strips of w columns.
-pub fn widths(wide: &mut [u32; 16], xs: &[u16], columns: usize, w: usize)
+pub fn widths(wide: &mut [u32; LANES], xs: &[u16], columns: usize, w: usize)
     requires { ⌜ (length (now wide) ≡ 16) × Rising (now xs) columns w ⌝ }
     ensures { λ _. ⌜ ((g : Grid) (ys cells : List ℕ) → g .columns ≡ columns → Drawn g (now (xs .entry)) ys cells → Widths g w (now (wide .exit))) ⌝ }
 {

@@ -40,7 +40,7 @@ use Rattle.strips.specs.Lanes as strips
 use Rattle.widths.specs.Lane.{spot}
 use Rattle.widths.specs.Price.{sheet, Done, Priced}
 use Rattle.widths.proofs.Lane.{pairs-small}
-use Rattle.widths.proofs.Fill.{Filled, State, priceOf, priced-start, straight-start, vertical as vertical-least, as-before}
+use Rattle.widths.proofs.Fill.{FilledBelow, State, priceOf, priced-start, straight-start, vertical as vertical-least, as-before}
 use Rattle.wheels.specs.declared.lanes.Strips.{Strips}
 use Rattle.wheels.specs.Wheel.{armAt, restAt, Weighed, Among, wheelsFrom, endsAt, turned, firstArms, secondArms, bothTurns, fromTo, ofLine, wheeled, Ground, FitsAt, Fitting, AllFit, WeighedBy, WroteBy}
 use Rattle.wheels.proofs.Costs.{Kept, kept-more, first-total, second-total}
@@ -220,7 +220,7 @@ module _ (g : Grid) (r : Rule) (sound : Sound g) (hw : r .weight ≤ limit) (pai
             )
         floor z (inr i) = omega (arith, i .3, at-most z (horizontal (i .0)) (i .1, i .2), across-horizontal Pinwheel g r (box a (a + w) b d) (i .0))
 
-    pub wheel-prices : (xs ys cs : List ℕ) → Drawn g xs ys cs → (t side sums wide : List ℕ) → Filled (cost Pinwheel g r) g w t
+    pub wheel-prices : (xs ys cs : List ℕ) → Drawn g xs ys cs → (t side sums wide : List ℕ) → FilledBelow (cost Pinwheel g r) g w t
         → Grown g w sums → Flanked g w sums → Widths g w wide
         → strips.Weighed (g .columns) (pairCount (g .rows)) w t side made
         → ((a p q : ℕ) → a < 16 → p < q → q ≤ g .rows → getD side (spot (g .rows) a p q) 0 ≤ mostCost)

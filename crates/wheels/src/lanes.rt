@@ -3,6 +3,7 @@
 // where those of the e-th piece of the strips v columns wide begin, from the strip on that begins at the x line x.
 use outline::Line;
 use table::numbering::pair_number;
+use table::runs::LANES;
 use table::runs::lesser;
 ghost use mathlib.Core.Path.{_≡_};
 ghost use mathlib.Core.Logic.{_⊎_};
@@ -44,7 +45,7 @@ fn spot(pairs: usize, v: usize, e: usize, x: usize) -> usize
     requires { ⌜ (1 ≤ v) × ((v ≤ 15) × ((pairs ≤ 225) × ((e ≤ 240) × (x ≤ 15)))) ⌝ }
     ensures { λ r. ⌜ r ≡ spotOf pairs v e x ⌝ }
 {
-    16 * ((v - 1) * pairs + e) + x
+    LANES * ((v - 1) * pairs + e) + x
 }
 
 // Where the inner parts stand, between the x lines `line` and x, whichever is the lower.
@@ -131,7 +132,7 @@ fn lower_starts(
     requires { ⌜ StartsFit (now store) s arms (now best) ⌝ }
     ensures { λ _. ⌜ Weighed (s .count) (Among 0 (arms .low) (startAt (now (store .entry)) s arms d (now (best .entry)))) (now (side .entry)) (now (side .exit)) ⌝ }
 {
-    let mut sums = [0u32; 16];
+    let mut sums = [0u32; LANES];
     let mut b: usize = 0;
     while b < arms.low {
         let near = pair_number(s.rows, Line(b), Line(arms.near));
@@ -140,7 +141,7 @@ fn lower_starts(
         let left = spot(s.pairs, arms.line, near, 0);
         let right = spot(s.pairs, s.width - arms.line, far, arms.line);
         add(&mut sums, store, left, right, best, lanes);
-        lower(side, 16 * piece, &sums, lanes);
+        lower(side, LANES * piece, &sums, lanes);
         b += 1;
     }
 }
@@ -161,7 +162,7 @@ fn weigh_lanes(
     requires { ⌜ (arms .after + 1 < arms .before) × FitsAt (now store) s arms d ⌝ }
     ensures { λ _. ⌜ Weighed (s .count) (endsAt (now (store .entry)) s arms d) (now (side .entry)) (now (side .exit)) ⌝ }
 {
-    let mut best = [u32::MAX; 16];
+    let mut best = [u32::MAX; LANES];
     gather_lines(&mut best, store, s, arms, d, lanes);
     lower_starts(side, store, &best, s, arms, d, lowered);
 }
@@ -180,6 +181,6 @@ pub fn weigh_some(side: &mut [u32], store: &[u32], s: Strips, arms: Arms, d: usi
     } else if count <= 12 {
         weigh_lanes(side, store, s, arms, d, 12, 12);
     } else {
-        weigh_lanes(side, store, s, arms, d, 16, 16);
+        weigh_lanes(side, store, s, arms, d, LANES, LANES);
     }
 }

@@ -6,6 +6,10 @@ use rule::Rule;
 use strips::storing;
 use strips::weighing;
 use table::numbering;
+use table::runs::LANES;
+use table::runs::SIDE;
+use tally::SHARES;
+use tally::SUMS;
 use tally::growing;
 use tally::measuring;
 use widths::settling;
@@ -28,6 +32,13 @@ mod turning;
 const SMALL: usize = 7;
 
 pub const FEW: usize = 5;
+
+// Room for the costs of all strips of such a grid, and of any, in all lanes: LANES for each width and pair of y lines, and LANES more.
+const FEW_STORE: usize = 1216;
+
+const SMALL_STORE: usize = 3152;
+
+const LARGE_STORE: usize = 28816;
 
 // Keeps the first n numbers of a side store, from the place `at` of the store on.
 fn keep(store: &mut [u32], side: &[u32], at: usize, n: usize)
@@ -82,10 +93,10 @@ fn fill_by(
     ensures { λ _. ⌜ now (table .exit) ≡ costs mode (stored columns rows (now (xs .entry)) (now (ys .entry)) (now (cells .entry))) rule ++ drop (length (costs mode (stored columns rows (now (xs .entry)) (now (ys .entry)) (now (cells .entry))) rule)) (now (table .entry)) ⌝ }
 {
     let pairs = numbering::pair_count(rows);
-    let mut unit = [0u32; 2560];
-    let mut sums = [0u32; 1024];
-    let mut side = [0u32; 1920];
-    let mut wide = [0u32; 16];
+    let mut unit = [0u32; SHARES];
+    let mut sums = [0u32; SUMS];
+    let mut side = [0u32; SIDE];
+    let mut wide = [0u32; LANES];
     measuring::measure(&mut unit, xs, ys, cells, columns, rows);
     let mut w: usize = 1;
     while w <= columns {
@@ -111,7 +122,7 @@ fn fill_by(
             w as u32,
             count,
         );
-        keep_by(mode, store, &side, 16 * ((w - 1) * pairs), 16 * pairs);
+        keep_by(mode, store, &side, LANES * ((w - 1) * pairs), LANES * pairs);
         storing::store_strips(table, &side, columns, pairs, w);
         w += 1;
     }
@@ -131,7 +142,7 @@ pub fn fill_few(
     requires { ⌜ (columns ≤ 5) × (rows ≤ 5) ⌝ }
     ensures { λ _. ⌜ now (table .exit) ≡ costs Pinwheel (stored columns rows (now (xs .entry)) (now (ys .entry)) (now (cells .entry))) rule ++ drop (length (costs Pinwheel (stored columns rows (now (xs .entry)) (now (ys .entry)) (now (cells .entry))) rule)) (now (table .entry)) ⌝ }
 {
-    let mut store = [0u32; 1216];
+    let mut store = [0u32; FEW_STORE];
     fill_by(
         Mode::Pinwheel,
         xs,
@@ -159,7 +170,7 @@ fn fill_small(
     requires { ⌜ (columns ≤ 7) × (rows ≤ 7) ⌝ }
     ensures { λ _. ⌜ now (table .exit) ≡ costs Pinwheel (stored columns rows (now (xs .entry)) (now (ys .entry)) (now (cells .entry))) rule ++ drop (length (costs Pinwheel (stored columns rows (now (xs .entry)) (now (ys .entry)) (now (cells .entry))) rule)) (now (table .entry)) ⌝ }
 {
-    let mut store = [0u32; 3152];
+    let mut store = [0u32; SMALL_STORE];
     fill_by(
         Mode::Pinwheel,
         xs,
@@ -186,7 +197,7 @@ fn fill_large(
     requires { ⌜ Ready (stored columns rows (now xs) (now ys) (now cells)) rule (now xs) (now ys) (now cells) (now table) ⌝ }
     ensures { λ _. ⌜ now (table .exit) ≡ costs Pinwheel (stored columns rows (now (xs .entry)) (now (ys .entry)) (now (cells .entry))) rule ++ drop (length (costs Pinwheel (stored columns rows (now (xs .entry)) (now (ys .entry)) (now (cells .entry))) rule)) (now (table .entry)) ⌝ }
 {
-    let mut store = [0u32; 28816];
+    let mut store = [0u32; LARGE_STORE];
     fill_by(
         Mode::Pinwheel,
         xs,

@@ -7,7 +7,7 @@
 --   filled-more          == the table with the strips of one more width stored
 --   straight-start       == the costs are prices where the vertical cuts are weighed, in the straight-cut mode
 --   State, state-*       == all strips narrower than w are filled, and no number of the side store is above `mostCost`
-use Prim.Native.Nat.{ℕ, zero, suc, _+_, _*_, _-_, _≤_, _<_, _^_}
+use Prim.Native.Nat.{ℕ, _+_, _*_, _-_, _≤_, _<_, _^_}
 use mathlib.Core.Path.{_≡_, refl, sym, _∙_, ap, ap₂, subst}
 use mathlib.Core.Logic.{_⊎_, inl, inr}
 use mathlib.Core.List.{List, _++_}
@@ -31,7 +31,7 @@ use Rattle.table.specs.Cuts.{uncut, Judged}
 use Rattle.table.specs.Cuts.{parted}
 use Rattle.table.specs.Fill.{Ready, Beyond}
 use Rattle.table.proofs.Entry
-use Rattle.table.proofs.Run.{lowest-same}
+use Rattle.table.proofs.Run.{lowest-same, zeros-at}
 use Rattle.table.proofs.Pairs.{row-before}
 use Rattle.table.proofs.Judging.{judged-piece}
 use Rattle.tally.specs.Sums.{Grown, Flanked, Widths}
@@ -47,11 +47,11 @@ unfoldable pub priceOf : Mode → Grid → Rule → ℕ → ℕ → ℕ → ℕ 
 priceOf mode g r w a b d = cost mode g r (box a (a + w) b d)
 
 -- each piece narrower than w has its price
-pub record Filled (price : Piece → ℕ) (g : Grid) (w : ℕ) (t : List ℕ) : Type 0 where
+pub record FilledBelow (price : Piece → ℕ) (g : Grid) (w : ℕ) (t : List ℕ) : Type 0 where
   pub right : (p : Piece) → Valid (g .columns) (g .rows) p → p .c < p .a + w → getD t (entryOf (g .columns) (g .rows) p) 0 ≡ price p
 
 -- the strips of one width are stored, whatever the price of a piece is
-module _ (price : Piece → ℕ) (g : Grid) (w : ℕ) (some : 1 ≤ w) (t : List ℕ) (f : Filled price g w t) where
+module _ (price : Piece → ℕ) (g : Grid) (w : ℕ) (some : 1 ≤ w) (t : List ℕ) (f : FilledBelow price g w t) where
   module _ (side u : List ℕ) (store : Stored (g .columns) (pairCount (g .rows)) w side t u)
       (right : (a b d : ℕ) → a + w ≤ g .columns → b < d → d ≤ g .rows → getD side (spot (g .rows) a b d) 0 ≡ price (box a (a + w) b d)) where
     here : (a b d : ℕ) → a + w ≤ g .columns → b < d → d ≤ g .rows → getD u (entryOf (g .columns) (g .rows) (box a (a + w) b d)) 0 ≡ price (box a (a + w) b d)
@@ -86,7 +86,7 @@ module _ (price : Piece → ℕ) (g : Grid) (w : ℕ) (some : 1 ≤ w) (t : List
         apart a l (inr z) = inl (omega (arith, i, row-before (pairNo (g .columns) (p .a) (p .c)) (pairNo (g .columns) a (a + w)) (pairCount (g .rows)) z))
         apart a l (inl z) = inr (omega (arith, row-before (pairNo (g .columns) a (a + w)) (pairNo (g .columns) (p .a) (p .c)) (pairCount (g .rows)) (less _ _ z (other a l))))
 
-    pub filled-more : Filled price g (w + 1) u
+    pub filled-more : FilledBelow price g (w + 1) u
     filled-more = record { right = λ p v n. go p v n (le-or (p .a + w) (p .c)) }
       where
         go : (p : Piece) → Valid (g .columns) (g .rows) p → p .c < p .a + (w + 1) → (p .a + w ≤ p .c) ⊎ (p .c < p .a + w) → getD u (entryOf (g .columns) (g .rows) p) 0 ≡ price p
@@ -106,7 +106,7 @@ module _ (mode : Mode) (g : Grid) (r : Rule) (xs ys cs : List ℕ) (sound : Soun
   pub cost-up : (a c b d : ℕ) → a < c → c ≤ g .columns → b < d → d ≤ g .rows → cost mode g r (box a c b d) ≤ mostCost
   cost-up a c b d ac cx bd dy = cost-most mode g r sound (box a c b d) (omega arith) cx (omega arith) dy hw
 
-  module _ (w : ℕ) (some : 1 ≤ w) (most : w ≤ g .columns) (t : List ℕ) (f : Filled (cost mode g r) g w t) where
+  module _ (w : ℕ) (some : 1 ≤ w) (most : w ≤ g .columns) (t : List ℕ) (f : FilledBelow (cost mode g r) g w t) where
     part : (a c b d : ℕ) → a < c → c ≤ g .columns → c < a + w → b < d → d ≤ g .rows
         → getD t (pairNo (g .columns) a c * pairCount (g .rows) + pairNo (g .rows) b d) 0 ≡ cost mode g r (box a c b d)
     part a c b d ac cx n bd dy =
@@ -223,15 +223,10 @@ module _ (mode : Mode) (g : Grid) (r : Rule) (xs ys cs : List ℕ) (sound : Soun
 
 -- where the fill stands
 pub record State (mode : Mode) (g : Grid) (r : Rule) (w : ℕ) (t₀ t side : List ℕ) : Type 0 where
-  pub filled : Filled (cost mode g r) g w t
+  pub filled : FilledBelow (cost mode g r) g w t
   pub beyond : Beyond (entryCount (g .columns) (g .rows)) t₀ t
   pub side-long : length side ≡ 1920
   pub cheap : (a p q : ℕ) → a < 16 → p < q → q ≤ g .rows → getD side (spot (g .rows) a p q) 0 ≤ mostCost
-
-zeros-at : (n i : ℕ) → _≡_ {A = ℕ} (getD (replicate n 0) i 0) 0
-zeros-at zero i = refl
-zeros-at (suc n) zero = refl
-zeros-at (suc n) (suc i) = zeros-at n i
 
 pub state-none : (mode : Mode) (g : Grid) (r : Rule) (t : List ℕ) → State mode g r 1 t t (replicate 1920 0)
 state-none mode g r t =

@@ -1,7 +1,11 @@
-// The pieces between two y lines, of all strips of one width: the strip that begins at the x line a stands in lane a. A side store has, at
-// 16 * e + a, the number of the e-th piece, among the pairs of y lines, of that strip.
+// The pieces between two y lines, of all strips of one width: the strip that begins at the x line a stands in lane a. What a side
+// store is, the crate `table` says (`SIDE`).
 use rule::Rule;
 use table::runs;
+use table::runs::LANES;
+use tally::BOTTOMS;
+use tally::FLANKS;
+use tally::TOPS;
 ghost use mathlib.Core.Path.{_≡_};
 ghost use Prim.Native.Nat.{ℕ, _+_, _*_, _-_, _<_, _≤_, _^_};
 ghost use lib.ListN.{length, getD};
@@ -10,13 +14,6 @@ ghost use Rattle.table.specs.Entry.{pairsBelow};
 ghost use Rattle.table.specs.Run.{Wrote, Lowest};
 ghost use Rattle.table.specs.Cuts.{Judged};
 ghost use Rattle.widths.specs.Lane.{copied, added, spot, partsAt, endsAt, Ruled, Settled, Enough};
-
-// Where the runs of sums begin: inside cells, exposed bottoms, tops and flanks.
-const BOTTOMS: usize = 256;
-
-const TOPS: usize = 512;
-
-const FLANKS: usize = 768;
 
 // The pieces between the y lines low and high, of a grid of so many rows of cells: how many cells each has, and its height in nm.
 // `first` is the number of the first pair of y lines whose low line is low.
@@ -65,13 +62,13 @@ fn weigh_lanes(best: &mut [u32], side: &[u32], level: Level, lanes: usize)
     let low = level.low;
     let high = level.high;
     let first = level.first;
-    let mut lower = 16 * first;
-    let mut upper = 16 * (first + (rows - low) + (high - low) - 2);
+    let mut lower = LANES * first;
+    let mut upper = LANES * (first + (rows - low) + (high - low) - 2);
     let mut k = low + 1;
     while k < high {
         runs::weigh_apart(best, side, lower, upper, lanes);
-        lower += 16;
-        upper += 16 * (rows - k - 1);
+        lower += LANES;
+        upper += LANES * (rows - k - 1);
         k += 1;
     }
 }
@@ -111,8 +108,8 @@ fn judge_lanes(
     let high = level.high;
     let cells = level.cells;
     let height = level.height;
-    let bottom = BOTTOMS + 16 * low;
-    let top = TOPS + 16 * (high - 1);
+    let bottom = BOTTOMS + LANES * low;
+    let top = TOPS + LANES * (high - 1);
     let mut l: usize = 0;
     while l < lanes {
         let ends = sums[bottom + l] + sums[top + l];
@@ -148,9 +145,9 @@ fn settle_lanes(
     let low = level.low;
     let high = level.high;
     let first = level.first;
-    let at = 16 * (first + (high - low - 1));
-    let row = 16 * (high - 1);
-    let mut best = [0u32; 16];
+    let at = LANES * (first + (high - low - 1));
+    let row = LANES * (high - 1);
+    let mut best = [0u32; LANES];
     copy(&mut best, side, at, lanes);
     weigh_lanes(&mut best, side, level, lanes);
     add(count, sums, row, judged);
@@ -194,6 +191,6 @@ pub fn settle_some(
     } else if n <= 12 {
         settle_lanes(side, count, flanks, sums, widths, rule, level, 12, 12);
     } else {
-        settle_lanes(side, count, flanks, sums, widths, rule, level, 16, 16);
+        settle_lanes(side, count, flanks, sums, widths, rule, level, LANES, LANES);
     }
 }

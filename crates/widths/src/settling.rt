@@ -5,6 +5,7 @@ use crate::lanes::Level;
 use outline::Line;
 use outline::place_of;
 use rule::Rule;
+use table::runs::LANES;
 ghost use mathlib.Core.Path.{_≡_};
 ghost use Prim.Native.Nat.{ℕ, _+_, _*_, _-_, _<_, _≤_};
 ghost use lib.ListN.{length, getD};
@@ -39,8 +40,8 @@ fn settle_from(
     requires { ⌜ Priceable (sheet (now sums) (now widths) (now ys) rule rows w n) (now side) low (low + 1) ⌝ }
     ensures { λ _. ⌜ ((s : ℕ → ℕ → ℕ → ℕ) → Priced s (sheet (now (sums .entry)) (now (widths .entry)) (now (ys .entry)) rule rows w n) (now (side .entry)) low (low + 1) → Priced s (sheet (now (sums .entry)) (now (widths .entry)) (now (ys .entry)) rule rows w n) (now (side .exit)) low (rows + 1)) ⌝ }
 {
-    let mut count = [0u32; 16];
-    let mut flanks = [0u32; 16];
+    let mut count = [0u32; LANES];
+    let mut flanks = [0u32; LANES];
     let mut cells: u32 = 0;
     let mut high = low + 1;
     while high <= rows {
