@@ -118,8 +118,8 @@ pub fn pack(text: &[u8], job: &mut [u8]) -> Packed
     }
 }
 
-// Whether a text is a drawing, sound or not: its first word is `rule`, after blank lines and comments. In a job these letters would be four
-// coordinates side by side, two of which are of one corner: so a job that is taken for a drawing has a slanted edge.
+// Whether bytes begin as a drawing does, sound or not: the first word is `rule`, after blank lines and comments. The coordinates of a sound
+// job may be such letters, with a slanted edge among them: whoever has bytes that may be a job asks `job::read::check` first.
 pub fn is_drawing(bytes: &[u8]) -> bool {
     let first = first_line(bytes);
     let says = first.says;

@@ -4,6 +4,7 @@ use crate::wanted::Spot;
 use crate::wanted::Wanted;
 use crate::wanted::after;
 use crate::wanted::left_of;
+use drawing::is_drawing;
 use figure::LEAST_CORNERS;
 use figure::MOST_CORNERS;
 use figure::MOST_PLACE;
@@ -190,6 +191,13 @@ fn say_reason(job: &[u8], why: Refusal, at: usize) {
     }
 }
 
+// A line for whoever hands a text drawing to a program that wants a job: the number at fault means nothing to them.
+pub fn say_if_drawing(job: &[u8]) {
+    if is_drawing(job) {
+        say(b"this is a text drawing: pinarewhemi pack makes a job of it\n");
+    }
+}
+
 // The line of a job that was refused, by this refusal at this byte.
 pub fn explain(job: &[u8], why: Refusal, at: usize) {
     say_number(b"refused ", refusal_no(why) as u64);
@@ -197,4 +205,5 @@ pub fn explain(job: &[u8], why: Refusal, at: usize) {
     say(b": ");
     say_reason(job, why, at);
     say(b"\n");
+    say_if_drawing(job);
 }

@@ -3,6 +3,7 @@
 use crate::sheet::Grid;
 use crate::sheet::Shot;
 use crate::sheet::View;
+use crate::sheet::from_one;
 use crate::sheet::gap;
 use crate::sheet::place;
 use crate::sheet::print_stroke;
@@ -476,11 +477,12 @@ pub fn print_line(out: Output, view: View, line: Shot) -> Output {
     print(to_y, b"\"")
 }
 
-// One cut.
+// One cut, with its number, told where somebody points at it: not every cut has room for one beside it.
 fn print_cut(out: Output, view: View, kept: &[u16], n: usize) -> Output {
     let line = print_line(out, view, kept_line(kept, n));
     let stroke = print_stroke(line, b" stroke-width=\"", view, stroke_of(kept, n));
-    print(stroke, b"\"/>\n")
+    let told = print_number(stroke, b"\"><title>cut ", from_one(n));
+    print(told, b"</title></line>\n")
 }
 
 // Each of so many cuts.

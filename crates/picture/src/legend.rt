@@ -341,7 +341,7 @@ fn print_cut_row(out: Output, view: View, pinwheels: bool) -> Output {
     );
     let row = print(
         drawn,
-        b"<text x=\"70\" dy=\".35em\">cuts, numbered in the order in which they are made",
+        b"<text x=\"70\" dy=\".35em\">cuts, numbered in their order where there is room",
     );
     if pinwheels {
         return print(row, b"; a pinwheel has none</text></g>\n");

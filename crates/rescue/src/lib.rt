@@ -2,6 +2,7 @@
 // report in one line to standard error, and gives the status to end with. A job that cannot be saved is refused there in one line, and
 // nothing else is written.
 use explanation::jobs::explain;
+use explanation::jobs::say_if_drawing;
 use job::MOST_BYTES;
 use refusal::Refusal;
 use saving::Saved;
@@ -24,12 +25,15 @@ ghost use mathlib.Core.Logic.{_⊎_};
 ghost use mathlib.Core.Path.{_≡_};
 ghost use Rattle.rescue.specs.Status.{status};
 
-// The line of a job that was saved.
-fn report(kept: u32, lost: u32, dropped: usize) {
+// The line of a job that was saved; of a text drawing, of which nothing is, one more.
+fn report(job: &[u8], kept: u32, lost: u32, dropped: usize) {
     say_number(b"kept ", kept as u64);
     say_number(b" lost ", lost as u64);
     say_number(b" dropped ", dropped as u64);
     say(b"\n");
+    if kept == 0 {
+        say_if_drawing(job);
+    }
 }
 
 // The line of a job that cannot be saved, in words.
@@ -77,7 +81,7 @@ pub fn run(job: &[u8], room: &mut [u8]) -> u32
             let written = print(nothing_yet(), &room[..bytes]);
             let ends = ended(written, is_whole(lost, dropped));
             if ends != FAILED {
-                report(kept, lost, dropped);
+                report(job, kept, lost, dropped);
             }
             ends
         }

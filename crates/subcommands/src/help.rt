@@ -20,17 +20,17 @@ fn help_of_all() -> u32 {
     printed(
         b"pinarewhemi: right-angled figures into rectangular shots for a mask writer\n\
 \n\
-  pinarewhemi fracture FILE [--largest M] [--pinwheels]   the shots of every figure\n\
-  pinarewhemi picture FILE K [--pinwheels] > SVG          figure K and its shots, drawn\n\
-  pinarewhemi walk [JOB K EDGE]                           one edge of figure K, and the shots that it ends up on\n\
-  pinarewhemi pack DRAWING > JOB                          a text drawing into a job\n\
-  pinarewhemi list JOB > DRAWING                          a job as a text drawing\n\
-  pinarewhemi cif FILE K > TEXT                           the shots of figure K for a viewer\n\
-  pinarewhemi gdsii ELEMENT                               the shots of one boundary element of a GDSII stream\n\
-  pinarewhemi index JOB                                   where each outline of a job starts\n\
-  pinarewhemi salvage [JOB] > SOUND                       what is left of a broken job\n\
-  pinarewhemi SUBCOMMAND --help                           more of one of them\n\
-  pinarewhemi --version\n\
+\x20\x20pinarewhemi fracture FILE [--largest M] [--pinwheels]   the shots of every figure\n\
+\x20\x20pinarewhemi picture FILE K [--pinwheels] > SVG          figure K and its shots, drawn\n\
+\x20\x20pinarewhemi walk [JOB K EDGE]                           one edge of figure K, and the shots that it ends up on\n\
+\x20\x20pinarewhemi pack DRAWING > JOB                          a text drawing into a job\n\
+\x20\x20pinarewhemi list JOB > DRAWING                          a job as a text drawing\n\
+\x20\x20pinarewhemi cif FILE K > TEXT                           the shots of figure K for a viewer\n\
+\x20\x20pinarewhemi gdsii ELEMENT                               the shots of one boundary element of a GDSII stream\n\
+\x20\x20pinarewhemi index FILE                                  where each outline of a job starts\n\
+\x20\x20pinarewhemi salvage [JOB] > SOUND                       what is left of a broken job\n\
+\x20\x20pinarewhemi SUBCOMMAND --help                           more of one of them\n\
+\x20\x20pinarewhemi --version\n\
 \n\
 FILE is a job or a text drawing, JOB a job alone; - is standard input. Figures and edges are numbered from 0.\n\
 Status: 0 done; 1 something was refused, and standard error says why; 2 reading or writing failed, or the words\n\
@@ -43,11 +43,11 @@ fn help_of_fracture() -> u32 {
         b"pinarewhemi fracture FILE [--largest M] [--pinwheels]\n\
 \n\
 Fractures every figure of a job or of a text drawing by its rule, and prints for each\n\
-  outline K shots N cost C sliver S\n\
+\x20\x20outline K shots N cost C sliver S\n\
 and N lines of four numbers in nm: x low, y low, x high, y high. A refused figure is `outline K refused N`, and\n\
 standard error says why.\n\
-  --largest M    each shot is divided so that no side is longer than M nm: 200 or twice the threshold, to 65535\n\
-  --pinwheels    a piece may also fall into four arms around an inner piece; no figure costs more so\n",
+\x20\x20--largest M    each shot is divided so that no side is longer than M nm: 200 or twice the threshold, to 65535\n\
+\x20\x20--pinwheels    a piece may also fall into four arms around an inner piece; no figure costs more so\n",
     )
 }
 
@@ -77,13 +77,13 @@ fn help_of_pack() -> u32 {
 Packs a text drawing into a job. A drawing is a line `rule THRESHOLD WEIGHT`; then for each figure a line `figure`,\n\
 for each ring of it a line `ring`, and for each corner a line `X Y` in nm. # begins a comment. A bad line is told by\n\
 its number.\n\
-  rule 25 40\n\
-  figure\n\
-  ring\n\
-  0 0\n\
-  60 0\n\
-  60 80\n\
-  0 80\n",
+\x20\x20rule 25 40\n\
+\x20\x20figure\n\
+\x20\x20ring\n\
+\x20\x200 0\n\
+\x20\x2060 0\n\
+\x20\x2060 80\n\
+\x20\x200 80\n",
     )
 }
 
@@ -108,16 +108,16 @@ fn help_of_gdsii() -> u32 {
         b"pinarewhemi gdsii ELEMENT\n\
 \n\
 Fractures one boundary element of a GDSII stream, BOUNDARY to ENDEL, by preset 0 (25 nm, 40), and prints\n\
-  element shift X Y shots N cost C sliver S\n\
+\x20\x20element shift X Y shots N cost C sliver S\n\
 and N shots; the shift plus a shot is where it lies in the stream.\n",
     )
 }
 
 fn help_of_index() -> u32 {
     printed(
-        b"pinarewhemi index JOB\n\
+        b"pinarewhemi index FILE\n\
 \n\
-Prints the byte at which each outline of a job starts.\n",
+Prints the byte at which each outline of a job starts; of a text drawing, in the job that pack makes of it.\n",
     )
 }
 

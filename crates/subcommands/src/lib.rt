@@ -62,6 +62,11 @@ fn named_of_figures() -> Subcommand {
     Subcommand::Unknown
 }
 
+// Whether word 1 asks what there is.
+fn asks_for_help() -> bool {
+    is_argument(1, b"--help") || is_argument(1, b"-h") || is_argument(1, b"help")
+}
+
 // Of those that are about job files, and the rest.
 fn named() -> Subcommand {
     if is_argument(1, b"pack") {
@@ -76,7 +81,7 @@ fn named() -> Subcommand {
     if is_argument(1, b"salvage") {
         return Subcommand::Salvage;
     }
-    if is_argument(1, b"--help") {
+    if asks_for_help() {
         return Subcommand::Help;
     }
     if is_argument(1, b"--version") {

@@ -120,9 +120,22 @@ pub fn packed(i: usize, text: &[u8], job: &mut [u8]) -> Job {
     }
 }
 
+// Whether bytes are packed: they are no sound job, and begin as a drawing does. A sound job may begin so too, by coordinates that are
+// letters.
+fn is_packed(bytes: &[u8]) -> bool {
+    match check(bytes) {
+        Checked::Refused(_, _) => is_drawing(bytes),
+        Checked::Job {
+            threshold: _,
+            weight: _,
+            outlines: _,
+        } => false,
+    }
+}
+
 // The job that the bytes of word i are, or that they are packed to where they are a drawing.
 fn job_of(i: usize, bytes: &[u8], job: &mut [u8]) -> Job {
-    if is_drawing(bytes) {
+    if is_packed(bytes) {
         return packed(i, bytes, job);
     }
     Job {
