@@ -10,6 +10,7 @@ use crate::sheet::print_stroke;
 use crate::sheet::shot_at;
 use crate::sheet::wide;
 use outline::Line;
+use outline::MOST_LINES;
 use table::numbering::entry;
 use terminal::output::Output;
 use terminal::output::print;
@@ -266,8 +267,8 @@ fn made(
     list: &[u16],
     shots: usize,
     grid: Grid,
-    xs: &[u16; 16],
-    ys: &[u16; 16],
+    xs: &[u16; MOST_LINES],
+    ys: &[u16; MOST_LINES],
     p: Piece,
 ) -> Cut {
     let none = Cut {
@@ -314,7 +315,7 @@ fn keep(kept: &mut [u16], n: usize, line: Shot, level: usize) {
 }
 
 // The line of a cut: right across its piece.
-fn line_of(xs: &[u16; 16], ys: &[u16; 16], p: Piece, cut: Cut) -> Shot {
+fn line_of(xs: &[u16; MOST_LINES], ys: &[u16; MOST_LINES], p: Piece, cut: Cut) -> Shot {
     let upright = cut.upright;
     if upright {
         let x = place(xs, cut.line);
@@ -382,8 +383,8 @@ fn next_turn(
     list: &[u16],
     shots: usize,
     grid: Grid,
-    xs: &[u16; 16],
-    ys: &[u16; 16],
+    xs: &[u16; MOST_LINES],
+    ys: &[u16; MOST_LINES],
     kept: &mut [u16],
     waiting: Waiting,
 ) -> Waiting {
@@ -416,8 +417,8 @@ pub fn keep_cuts(
     list: &[u16],
     shots: usize,
     grid: Grid,
-    xs: &[u16; 16],
-    ys: &[u16; 16],
+    xs: &[u16; MOST_LINES],
+    ys: &[u16; MOST_LINES],
     kept: &mut [u16],
 ) -> usize {
     let mut waiting = first_waiting(grid);

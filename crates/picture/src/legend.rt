@@ -15,6 +15,7 @@ use crate::sheet::y_on_sheet;
 use crate::spots::Spot;
 use crate::spots::is_free;
 use crate::spots::take_spot;
+use outline::MOST_LINES;
 use terminal::output::Output;
 use terminal::output::print;
 use terminal::output::print_number;
@@ -203,7 +204,7 @@ fn print_nth_tick(
     out: Output,
     view: View,
     upright: bool,
-    lines: &[u16; 16],
+    lines: &[u16; MOST_LINES],
     last: usize,
     spots: &mut [u64],
     n: usize,
@@ -226,7 +227,7 @@ fn print_ticks(
     out: Output,
     view: View,
     upright: bool,
-    lines: &[u16; 16],
+    lines: &[u16; MOST_LINES],
     last: usize,
     spots: &mut [u64],
 ) -> Output {
@@ -244,8 +245,8 @@ pub fn print_places(
     out: Output,
     view: View,
     grid: Grid,
-    xs: &[u16; 16],
-    ys: &[u16; 16],
+    xs: &[u16; MOST_LINES],
+    ys: &[u16; MOST_LINES],
     spots: &mut [u64],
 ) -> Output {
     let group = print(out, b"<g fill=\"#4a5a6e\" text-anchor=\"middle\">\n");

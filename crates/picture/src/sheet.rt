@@ -1,5 +1,6 @@
 // The sheet: 1,000 units wide, and every place on it in thousandths of a unit. So text and strokes have one size, whatever the figure
 // measures. What is within the figure is drawn in nm, from its left and top end, and scaled.
+use outline::MOST_LINES;
 use terminal::output::Output;
 use terminal::output::print;
 use terminal::output::print_number;
@@ -129,8 +130,8 @@ fn longer(a: u16, b: u16) -> u16 {
 }
 
 // The place of a line.
-pub fn place(lines: &[u16; 16], line: usize) -> u16 {
-    if line < 16 {
+pub fn place(lines: &[u16; MOST_LINES], line: usize) -> u16 {
+    if line < MOST_LINES {
         return lines[line];
     }
     0
@@ -196,7 +197,7 @@ fn drawn(extent: u16, side: u16) -> u64 {
 }
 
 // Where a figure between these lines lies on the sheet: in the middle of its room.
-pub fn view_of(xs: &[u16; 16], ys: &[u16; 16], grid: Grid) -> View {
+pub fn view_of(xs: &[u16; MOST_LINES], ys: &[u16; MOST_LINES], grid: Grid) -> View {
     let left = place(xs, 0);
     let top = place(ys, grid.rows);
     let width = gap(left, place(xs, grid.columns));

@@ -12,6 +12,8 @@ use crate::sheet::wide;
 use crate::shots::is_sliver;
 use edge::Walked;
 use edge::edge_shots;
+use outline::MOST_CELLS;
+use outline::MOST_LINES;
 use terminal::output::Output;
 use terminal::output::print;
 
@@ -19,7 +21,7 @@ use terminal::output::print;
 const MOST_RUNS: usize = 60;
 
 // Whether the cell (i, j) is inside; none is beyond the grid.
-fn cell(cells: &[u8; 256], i: usize, j: usize) -> bool {
+fn cell(cells: &[u8; MOST_CELLS], i: usize, j: usize) -> bool {
     if i < 16 {
         if j < 16 {
             return cells[16 * i + j] == 1;
@@ -29,7 +31,7 @@ fn cell(cells: &[u8; 256], i: usize, j: usize) -> bool {
 }
 
 // The number of the line at a place: the first that is not below it.
-fn line_at(lines: &[u16; 16], at: u16) -> usize {
+fn line_at(lines: &[u16; MOST_LINES], at: u16) -> usize {
     let mut line = 0;
     while line < 16 {
         if at <= lines[line] {
@@ -42,8 +44,8 @@ fn line_at(lines: &[u16; 16], at: u16) -> usize {
 
 // How much of a side is exposed between lines n and n + 1: all of it, or nothing where the cell beyond it is inside.
 fn exposed_part(
-    cells: &[u8; 256],
-    along: &[u16; 16],
+    cells: &[u8; MOST_CELLS],
+    along: &[u16; MOST_LINES],
     upright: bool,
     beyond: usize,
     n: usize,
@@ -63,8 +65,8 @@ fn exposed_part(
 
 // The exposed length of a side, beyond which there is this column or row.
 fn exposed(
-    cells: &[u8; 256],
-    along: &[u16; 16],
+    cells: &[u8; MOST_CELLS],
+    along: &[u16; MOST_LINES],
     upright: bool,
     beyond: usize,
     from: usize,
@@ -89,9 +91,9 @@ fn before(line: usize) -> usize {
 
 // The exposed length of both sides on two lines, between lines of the other direction.
 fn exposed_pair(
-    cells: &[u8; 256],
-    across: &[u16; 16],
-    along: &[u16; 16],
+    cells: &[u8; MOST_CELLS],
+    across: &[u16; MOST_LINES],
+    along: &[u16; MOST_LINES],
     upright: bool,
     low: u16,
     high: u16,
@@ -109,7 +111,12 @@ fn exposed_pair(
 }
 
 // Whether left and right are the sides of a shot that count: they are longer, or as long as bottom and top and exposed more.
-fn upright_counts(cells: &[u8; 256], xs: &[u16; 16], ys: &[u16; 16], shot: Shot) -> bool {
+fn upright_counts(
+    cells: &[u8; MOST_CELLS],
+    xs: &[u16; MOST_LINES],
+    ys: &[u16; MOST_LINES],
+    shot: Shot,
+) -> bool {
     let left = shot.left;
     let bottom = shot.bottom;
     let right = shot.right;
@@ -128,9 +135,9 @@ fn upright_counts(cells: &[u8; 256], xs: &[u16; 16], ys: &[u16; 16], shot: Shot)
 
 // Whether a stretch on this side of a shot is charged. Sides are 1 left, 2 right, 3 bottom, 4 top.
 fn is_charged(
-    cells: &[u8; 256],
-    xs: &[u16; 16],
-    ys: &[u16; 16],
+    cells: &[u8; MOST_CELLS],
+    xs: &[u16; MOST_LINES],
+    ys: &[u16; MOST_LINES],
     shot: Shot,
     side: usize,
     threshold: u64,
@@ -199,9 +206,9 @@ fn print_run(
     out: Output,
     view: View,
     list: &[u16],
-    cells: &[u8; 256],
-    xs: &[u16; 16],
-    ys: &[u16; 16],
+    cells: &[u8; MOST_CELLS],
+    xs: &[u16; MOST_LINES],
+    ys: &[u16; MOST_LINES],
     threshold: u64,
     runs: &[usize],
     n: usize,
@@ -228,9 +235,9 @@ fn print_runs(
     out: Output,
     view: View,
     list: &[u16],
-    cells: &[u8; 256],
-    xs: &[u16; 16],
-    ys: &[u16; 16],
+    cells: &[u8; MOST_CELLS],
+    xs: &[u16; MOST_LINES],
+    ys: &[u16; MOST_LINES],
     threshold: u64,
     runs: &[usize],
     count: usize,
@@ -252,9 +259,9 @@ fn print_edge(
     lengths: &[u16],
     number: usize,
     list: &[u16],
-    cells: &[u8; 256],
-    xs: &[u16; 16],
-    ys: &[u16; 16],
+    cells: &[u8; MOST_CELLS],
+    xs: &[u16; MOST_LINES],
+    ys: &[u16; MOST_LINES],
     threshold: u64,
 ) -> Output {
     let mut runs = [0usize; MOST_RUNS];
@@ -274,9 +281,9 @@ fn each_edge(
     lengths: &[u16],
     edges: usize,
     list: &[u16],
-    cells: &[u8; 256],
-    xs: &[u16; 16],
-    ys: &[u16; 16],
+    cells: &[u8; MOST_CELLS],
+    xs: &[u16; MOST_LINES],
+    ys: &[u16; MOST_LINES],
     threshold: u64,
 ) -> Output {
     let mut next = out;
@@ -306,9 +313,9 @@ pub fn print_slivers(
     corners: &[u16],
     lengths: &[u16],
     list: &[u16],
-    cells: &[u8; 256],
-    xs: &[u16; 16],
-    ys: &[u16; 16],
+    cells: &[u8; MOST_CELLS],
+    xs: &[u16; MOST_LINES],
+    ys: &[u16; MOST_LINES],
     threshold: u64,
 ) -> Output {
     let stroke = print_stroke(out, b"<g stroke=\"#d62718\" stroke-width=\"", view, 70);

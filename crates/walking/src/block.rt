@@ -7,6 +7,8 @@ use crate::words::spaced;
 use crate::words::text;
 use crate::words::wide;
 use fracture::Fractured;
+use outline::MOST_CELLS;
+use outline::MOST_LINES;
 
 // Drawing B of the scope: a block of 200 by 200 with a nose of 10 by 100 on its right.
 const B: [u16; 16] = [
@@ -88,9 +90,9 @@ fn row(cells: &[u8], columns: usize, j: usize) {
 }
 
 fn cell(cells: &[u8], i: usize, j: usize) {
-    if i < 16 {
-        if j < 16 {
-            let at = 16 * i + j;
+    if i < MOST_LINES {
+        if j < MOST_LINES {
+            let at = MOST_LINES * i + j;
             if at < cells.len() {
                 spaced(byte(cells[at]));
             }
@@ -113,15 +115,15 @@ fn grid(corners: &[u16], lengths: &[u16]) {
     numbers(corners, 16);
     text(b"corners of each ring");
     numbers(lengths, 2);
-    let mut xs = [0u16; 16];
-    let mut ys = [0u16; 16];
-    let mut cells = [0u8; 256];
+    let mut xs = [0u16; MOST_LINES];
+    let mut ys = [0u16; MOST_LINES];
+    let mut cells = [0u8; MOST_CELLS];
     let drawing = outline::draw(corners, lengths, &mut xs, &mut ys, &mut cells);
-    if drawing.columns < 16 {
+    if drawing.columns < MOST_LINES {
         text(b"x lines");
         numbers(&xs, drawing.columns + 1);
     }
-    if drawing.rows < 16 {
+    if drawing.rows < MOST_LINES {
         text(b"y lines");
         numbers(&ys, drawing.rows + 1);
     }

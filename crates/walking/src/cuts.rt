@@ -17,6 +17,8 @@ use crate::words::padded;
 use crate::words::spaced;
 use crate::words::text;
 use crate::words::wide;
+use outline::MOST_CELLS;
+use outline::MOST_LINES;
 ghost use Prim.Native.Nat.{_≤_};
 
 // A cut of a piece: on an x line or on a y line; there is none on line 0.
@@ -155,7 +157,7 @@ pub fn best_cut(table: &[u32], grid: Grid, p: Piece) -> usize {
 }
 
 // The name of a cut: its line and the line's place.
-fn print_cut_name(cut: Cut, xs: &[u16; 16], ys: &[u16; 16]) {
+fn print_cut_name(cut: Cut, xs: &[u16; MOST_LINES], ys: &[u16; MOST_LINES]) {
     let upright = cut.upright;
     let line = cut.line;
     if upright {
@@ -175,8 +177,8 @@ fn print_cut_name(cut: Cut, xs: &[u16; 16], ys: &[u16; 16]) {
 fn print_cut(
     table: &[u32],
     grid: Grid,
-    xs: &[u16; 16],
-    ys: &[u16; 16],
+    xs: &[u16; MOST_LINES],
+    ys: &[u16; MOST_LINES],
     p: Piece,
     n: usize,
     best: usize,
@@ -200,7 +202,14 @@ fn print_cut(
 }
 
 // Every cut of a piece, in the order in which equals are taken.
-fn each_cut(table: &[u32], grid: Grid, xs: &[u16; 16], ys: &[u16; 16], p: Piece, best: usize) {
+fn each_cut(
+    table: &[u32],
+    grid: Grid,
+    xs: &[u16; MOST_LINES],
+    ys: &[u16; MOST_LINES],
+    p: Piece,
+    best: usize,
+) {
     let mut n = 0;
     while n < MOST_CUTS {
         print_cut(table, grid, xs, ys, p, n, best);
@@ -209,7 +218,7 @@ fn each_cut(table: &[u32], grid: Grid, xs: &[u16; 16], ys: &[u16; 16], p: Piece,
 }
 
 // Whether the cells on one side of a cut change at the line n, which the cut passes: those of column or row `beside`.
-fn turns_at(cells: &[u8; 256], upright: bool, beside: usize, n: usize) -> bool {
+fn turns_at(cells: &[u8; MOST_CELLS], upright: bool, beside: usize, n: usize) -> bool {
     if n == 0 {
         return false;
     }
@@ -220,7 +229,7 @@ fn turns_at(cells: &[u8; 256], upright: bool, beside: usize, n: usize) -> bool {
 }
 
 // Whether they change there on either side: the cut runs past a wall.
-fn changes_at(cells: &[u8; 256], cut: Cut, n: usize) -> bool {
+fn changes_at(cells: &[u8; MOST_CELLS], cut: Cut, n: usize) -> bool {
     let upright = cut.upright;
     let line = cut.line;
     if line == 0 {
@@ -230,7 +239,7 @@ fn changes_at(cells: &[u8; 256], cut: Cut, n: usize) -> bool {
 }
 
 // The first line between two others at which a cut runs past a wall; the last of them where it passes none.
-fn wall_passed(cells: &[u8; 256], cut: Cut, low: usize, high: usize) -> usize {
+fn wall_passed(cells: &[u8; MOST_CELLS], cut: Cut, low: usize, high: usize) -> usize {
     let mut n = low;
     while n < high {
         if low < n {
@@ -244,7 +253,13 @@ fn wall_passed(cells: &[u8; 256], cut: Cut, low: usize, high: usize) -> usize {
 }
 
 // A cut that runs past a wall, told; whether it does.
-fn print_passed(cells: &[u8; 256], along: &[u16; 16], cut: Cut, low: usize, high: usize) -> bool {
+fn print_passed(
+    cells: &[u8; MOST_CELLS],
+    along: &[u16; MOST_LINES],
+    cut: Cut,
+    low: usize,
+    high: usize,
+) -> bool {
     let wall = wall_passed(cells, cut, low, high);
     if high <= wall {
         return false;
@@ -260,7 +275,13 @@ fn print_passed(cells: &[u8; 256], along: &[u16; 16], cut: Cut, low: usize, high
 }
 
 // The same for a cut of a piece.
-fn print_run(cells: &[u8; 256], xs: &[u16; 16], ys: &[u16; 16], p: Piece, cut: Cut) -> bool {
+fn print_run(
+    cells: &[u8; MOST_CELLS],
+    xs: &[u16; MOST_LINES],
+    ys: &[u16; MOST_LINES],
+    p: Piece,
+    cut: Cut,
+) -> bool {
     let upright = cut.upright;
     if upright {
         return print_passed(cells, ys, cut, p.b, p.d);
@@ -281,9 +302,9 @@ fn print_stops(told: bool) {
 fn print_level(
     table: &[u32],
     grid: Grid,
-    xs: &[u16; 16],
-    ys: &[u16; 16],
-    cells: &[u8; 256],
+    xs: &[u16; MOST_LINES],
+    ys: &[u16; MOST_LINES],
+    cells: &[u8; MOST_CELLS],
     p: Piece,
     rule: Charge,
     told: bool,
@@ -309,7 +330,13 @@ fn print_level(
 }
 
 // The part of a piece that goes on towards a cell; the piece itself where it is a shot.
-fn part_towards(table: &[u32], grid: Grid, cells: &[u8; 256], p: Piece, inner: Spot) -> Piece {
+fn part_towards(
+    table: &[u32],
+    grid: Grid,
+    cells: &[u8; MOST_CELLS],
+    p: Piece,
+    inner: Spot,
+) -> Piece {
     if is_shot(cells, p) {
         return p;
     }
@@ -330,9 +357,9 @@ fn is_same(p: Piece, q: Piece) -> bool {
 fn print_way(
     table: &[u32],
     grid: Grid,
-    xs: &[u16; 16],
-    ys: &[u16; 16],
-    cells: &[u8; 256],
+    xs: &[u16; MOST_LINES],
+    ys: &[u16; MOST_LINES],
+    cells: &[u8; MOST_CELLS],
     rule: Charge,
     inner: Spot,
     before: Spot,
@@ -359,9 +386,9 @@ fn print_way(
 fn each_way(
     table: &[u32],
     grid: Grid,
-    xs: &[u16; 16],
-    ys: &[u16; 16],
-    cells: &[u8; 256],
+    xs: &[u16; MOST_LINES],
+    ys: &[u16; MOST_LINES],
+    cells: &[u8; MOST_CELLS],
     lies: Lies,
     rule: Charge,
 ) -> bool {
@@ -391,8 +418,8 @@ fn print_stale(
     table: &[u32],
     found: &[u32],
     grid: Grid,
-    xs: &[u16; 16],
-    ys: &[u16; 16],
+    xs: &[u16; MOST_LINES],
+    ys: &[u16; MOST_LINES],
     earlier: bool,
 ) {
     let p = frame(grid);
@@ -425,9 +452,9 @@ pub fn print_cuts(
     table: &[u32],
     found: &[u32],
     grid: Grid,
-    xs: &[u16; 16],
-    ys: &[u16; 16],
-    cells: &[u8; 256],
+    xs: &[u16; MOST_LINES],
+    ys: &[u16; MOST_LINES],
+    cells: &[u8; MOST_CELLS],
     lies: Lies,
     rule: Charge,
     earlier: bool,

@@ -246,9 +246,9 @@ fn walk_down(
     corners: &[u16],
     lengths: &[u16],
     edge: Edge,
-    xs: &[u16; 16],
-    ys: &[u16; 16],
-    cells: &[u8; 256],
+    xs: &[u16; MOST_LINES],
+    ys: &[u16; MOST_LINES],
+    cells: &[u8; MOST_CELLS],
     grid: Grid,
 ) {
     let mut table = [0u32; 14400];
@@ -289,9 +289,9 @@ fn walk_drawn(
     corners: &[u16],
     lengths: &[u16],
     number: usize,
-    xs: &[u16; 16],
-    ys: &[u16; 16],
-    cells: &[u8; 256],
+    xs: &[u16; MOST_LINES],
+    ys: &[u16; MOST_LINES],
+    cells: &[u8; MOST_CELLS],
     grid: Grid,
 ) -> u32 {
     let count = corners.len() / 2;

@@ -5,6 +5,8 @@ use crate::words::padded;
 use crate::words::spaced;
 use crate::words::text;
 use crate::words::wide;
+use outline::MOST_CELLS;
+use outline::MOST_LINES;
 
 // How many columns and rows of cells there are.
 pub struct Grid {
@@ -21,17 +23,17 @@ pub struct Lies {
 }
 
 // The place of a line.
-pub fn place(lines: &[u16; 16], line: usize) -> u16 {
-    if line < 16 {
+pub fn place(lines: &[u16; MOST_LINES], line: usize) -> u16 {
+    if line < MOST_LINES {
         return lines[line];
     }
     0
 }
 
 // The number of the line at a place: the first that is not below it.
-fn line_at(lines: &[u16; 16], at: u16) -> usize {
+fn line_at(lines: &[u16; MOST_LINES], at: u16) -> usize {
     let mut line = 0;
-    while line < 16 {
+    while line < MOST_LINES {
         if at <= lines[line] {
             return line;
         }
@@ -41,7 +43,7 @@ fn line_at(lines: &[u16; 16], at: u16) -> usize {
 }
 
 // Where an edge lies on the grid.
-pub fn lies_of(edge: Edge, xs: &[u16; 16], ys: &[u16; 16]) -> Lies {
+pub fn lies_of(edge: Edge, xs: &[u16; MOST_LINES], ys: &[u16; MOST_LINES]) -> Lies {
     let upright = edge.upright;
     if upright {
         return Lies {
@@ -62,7 +64,7 @@ pub fn lies_of(edge: Edge, xs: &[u16; 16], ys: &[u16; 16]) -> Lies {
 // The numbers of the lines up to the last, in columns.
 fn line_numbers(last: usize) {
     let mut line: usize = 0;
-    while line < 16 {
+    while line < MOST_LINES {
         if line <= last {
             padded(line as u64, 6);
         }
@@ -72,9 +74,9 @@ fn line_numbers(last: usize) {
 }
 
 // Their places below them.
-fn line_places(lines: &[u16; 16], last: usize) {
+fn line_places(lines: &[u16; MOST_LINES], last: usize) {
     let mut line: usize = 0;
-    while line < 16 {
+    while line < MOST_LINES {
         if line <= last {
             padded(wide(place(lines, line)), 6);
         }
@@ -84,7 +86,7 @@ fn line_places(lines: &[u16; 16], last: usize) {
 }
 
 // Whether the cell (i, j) is inside.
-pub fn cell(cells: &[u8; 256], i: usize, j: usize) -> bool {
+pub fn cell(cells: &[u8; MOST_CELLS], i: usize, j: usize) -> bool {
     if i < 16 {
         if j < 16 {
             return cells[16 * i + j] == 1;
@@ -110,7 +112,7 @@ fn is_wall(lies: Lies, i: usize, j: usize) -> bool {
 }
 
 // One cell, and left of it a blank or the edge.
-fn print_cell(cells: &[u8; 256], lies: Lies, i: usize, j: usize) {
+fn print_cell(cells: &[u8; MOST_CELLS], lies: Lies, i: usize, j: usize) {
     if is_wall(lies, i, j) {
         text(b"|");
     } else {
@@ -124,7 +126,7 @@ fn print_cell(cells: &[u8; 256], lies: Lies, i: usize, j: usize) {
 }
 
 // A row of cells from left to right.
-fn print_row(cells: &[u8; 256], columns: usize, lies: Lies, j: usize) {
+fn print_row(cells: &[u8; MOST_CELLS], columns: usize, lies: Lies, j: usize) {
     text(b"   row");
     padded(j as u64, 3);
     text(b"  ");
@@ -168,7 +170,7 @@ fn print_level(columns: usize, lies: Lies, j: usize) {
 }
 
 // The rows of cells, the highest first, as one sees the drawing.
-fn print_rows(cells: &[u8; 256], grid: Grid, lies: Lies) {
+fn print_rows(cells: &[u8; MOST_CELLS], grid: Grid, lies: Lies) {
     let columns = grid.columns;
     let mut j = grid.rows;
     while 0 < j {
@@ -200,7 +202,13 @@ fn print_lies(lies: Lies) {
 }
 
 // Step 3: lines and cells.
-pub fn print_grid(xs: &[u16; 16], ys: &[u16; 16], cells: &[u8; 256], grid: Grid, lies: Lies) {
+pub fn print_grid(
+    xs: &[u16; MOST_LINES],
+    ys: &[u16; MOST_LINES],
+    cells: &[u8; MOST_CELLS],
+    grid: Grid,
+    lies: Lies,
+) {
     text(b"\n3. Lines and cells\n\n   x line");
     line_numbers(grid.columns);
     text(b"   x =   ");
@@ -215,7 +223,7 @@ pub fn print_grid(xs: &[u16; 16], ys: &[u16; 16], cells: &[u8; 256], grid: Grid,
 }
 
 // Whether the cell on the low side of the edge is inside, in its part number n along it: left of an upright one, below a level one.
-fn low_cell(cells: &[u8; 256], lies: Lies, n: usize) -> bool {
+fn low_cell(cells: &[u8; MOST_CELLS], lies: Lies, n: usize) -> bool {
     let upright = lies.upright;
     let line = lies.line;
     if line == 0 {
@@ -228,7 +236,7 @@ fn low_cell(cells: &[u8; 256], lies: Lies, n: usize) -> bool {
 }
 
 // The same of the high side.
-fn high_cell(cells: &[u8; 256], lies: Lies, n: usize) -> bool {
+fn high_cell(cells: &[u8; MOST_CELLS], lies: Lies, n: usize) -> bool {
     let upright = lies.upright;
     if upright {
         return cell(cells, lies.line, n);
@@ -237,7 +245,7 @@ fn high_cell(cells: &[u8; 256], lies: Lies, n: usize) -> bool {
 }
 
 // The side of the figure there: 1 left, 2 right, 3 bottom, 4 top, 0 none.
-pub fn side(cells: &[u8; 256], lies: Lies, n: usize) -> u8 {
+pub fn side(cells: &[u8; MOST_CELLS], lies: Lies, n: usize) -> u8 {
     let upright = lies.upright;
     let low = low_cell(cells, lies, n);
     let high = high_cell(cells, lies, n);
@@ -285,7 +293,7 @@ fn print_inside(inside: bool) {
 }
 
 // What lies on either side of a part of the edge between two lines, and so which side of the figure it is.
-fn print_part(cells: &[u8; 256], lies: Lies, along: &[u16; 16], n: usize) {
+fn print_part(cells: &[u8; MOST_CELLS], lies: Lies, along: &[u16; MOST_LINES], n: usize) {
     text(b"   from");
     padded(wide(place(along, n)), 6);
     text(b" to");
@@ -306,7 +314,7 @@ fn print_part(cells: &[u8; 256], lies: Lies, along: &[u16; 16], n: usize) {
 }
 
 // Each part of the edge from its low end to its high end.
-fn each_part(cells: &[u8; 256], lies: Lies, along: &[u16; 16]) {
+fn each_part(cells: &[u8; MOST_CELLS], lies: Lies, along: &[u16; MOST_LINES]) {
     let to = lies.to;
     let mut n = lies.from;
     while n < to {
@@ -316,7 +324,12 @@ fn each_part(cells: &[u8; 256], lies: Lies, along: &[u16; 16]) {
 }
 
 // Step 4: exposure, the side of the figure along the edge.
-pub fn print_exposure(xs: &[u16; 16], ys: &[u16; 16], cells: &[u8; 256], lies: Lies) {
+pub fn print_exposure(
+    xs: &[u16; MOST_LINES],
+    ys: &[u16; MOST_LINES],
+    cells: &[u8; MOST_CELLS],
+    lies: Lies,
+) {
     let upright = lies.upright;
     text(b"\n4. Exposure\n\n");
     if upright {

@@ -11,6 +11,8 @@ use crate::words::padded;
 use crate::words::spaced;
 use crate::words::text;
 use outline::Line;
+use outline::MOST_CELLS;
+use outline::MOST_LINES;
 use table::numbering::entry;
 ghost use Prim.Native.Nat.{_≤_};
 
@@ -87,7 +89,7 @@ pub fn takes_in(p: Piece, inner: Spot) -> bool {
 }
 
 // The cell within the figure beside part n of the edge: there is one exactly where the edge is a wall.
-pub fn inner_cell(cells: &[u8; 256], lies: Lies, n: usize) -> Spot {
+pub fn inner_cell(cells: &[u8; MOST_CELLS], lies: Lies, n: usize) -> Spot {
     let wall = side(cells, lies, n);
     let upright = lies.upright;
     let line = lies.line;
@@ -119,7 +121,7 @@ pub fn inner_cell(cells: &[u8; 256], lies: Lies, n: usize) -> Spot {
 }
 
 // Whether a piece holds something of the edge: it takes in a cell that a part of the edge bounds.
-fn holds(cells: &[u8; 256], lies: Lies, p: Piece) -> bool {
+fn holds(cells: &[u8; MOST_CELLS], lies: Lies, p: Piece) -> bool {
     let to = lies.to;
     let mut n = lies.from;
     while n < to {
@@ -142,7 +144,7 @@ fn named(n: usize) -> Piece {
 }
 
 // Whether the four lines of that number are a piece of the grid that holds something of the edge.
-fn is_held(cells: &[u8; 256], grid: Grid, lies: Lies, n: usize) -> bool {
+fn is_held(cells: &[u8; MOST_CELLS], grid: Grid, lies: Lies, n: usize) -> bool {
     let p = named(n);
     if entry_of(grid, p) == MOST_ENTRIES {
         return false;
@@ -161,7 +163,7 @@ fn counted(count: usize, hit: bool) -> usize {
 }
 
 // How many pieces hold something of the edge.
-fn count_held(cells: &[u8; 256], grid: Grid, lies: Lies) -> usize {
+fn count_held(cells: &[u8; MOST_CELLS], grid: Grid, lies: Lies) -> usize {
     let mut count = 0;
     let mut n = 0;
     while n < FOUR_LINES {
@@ -172,7 +174,7 @@ fn count_held(cells: &[u8; 256], grid: Grid, lies: Lies) -> usize {
 }
 
 // Whether cell number n, the cells being numbered by columns, is one of the piece's and is not inside.
-fn is_hole(cells: &[u8; 256], p: Piece, n: usize) -> bool {
+fn is_hole(cells: &[u8; MOST_CELLS], p: Piece, n: usize) -> bool {
     let i = n / 16;
     let j = n % 16;
     let here = Spot { i, j, known: true };
@@ -183,7 +185,7 @@ fn is_hole(cells: &[u8; 256], p: Piece, n: usize) -> bool {
 }
 
 // Whether every cell of a piece is inside, so that it is one shot.
-pub fn is_shot(cells: &[u8; 256], p: Piece) -> bool {
+pub fn is_shot(cells: &[u8; MOST_CELLS], p: Piece) -> bool {
     let mut n = 0;
     while n < 256 {
         if is_hole(cells, p, n) {
@@ -195,7 +197,7 @@ pub fn is_shot(cells: &[u8; 256], p: Piece) -> bool {
 }
 
 // How far it is from one line to another.
-fn extent(lines: &[u16; 16], low: usize, high: usize) -> u64
+fn extent(lines: &[u16; MOST_LINES], low: usize, high: usize) -> u64
     ensures { λ r. ⌜ r ≤ 65535 ⌝ }
 {
     span(place(lines, low), place(lines, high))
@@ -280,9 +282,9 @@ fn print_shot(width: u64, height: u64, charged: u64, rule: Charge) -> bool
 pub fn print_kind(
     table: &[u32],
     grid: Grid,
-    xs: &[u16; 16],
-    ys: &[u16; 16],
-    cells: &[u8; 256],
+    xs: &[u16; MOST_LINES],
+    ys: &[u16; MOST_LINES],
+    cells: &[u8; MOST_CELLS],
     p: Piece,
     rule: Charge,
 ) -> bool {
@@ -298,9 +300,9 @@ pub fn print_kind(
 fn print_held(
     table: &[u32],
     grid: Grid,
-    xs: &[u16; 16],
-    ys: &[u16; 16],
-    cells: &[u8; 256],
+    xs: &[u16; MOST_LINES],
+    ys: &[u16; MOST_LINES],
+    cells: &[u8; MOST_CELLS],
     p: Piece,
     rule: Charge,
 ) -> bool {
@@ -316,9 +318,9 @@ fn print_held(
 fn held_piece(
     table: &[u32],
     grid: Grid,
-    xs: &[u16; 16],
-    ys: &[u16; 16],
-    cells: &[u8; 256],
+    xs: &[u16; MOST_LINES],
+    ys: &[u16; MOST_LINES],
+    cells: &[u8; MOST_CELLS],
     lies: Lies,
     rule: Charge,
     n: usize,
@@ -335,9 +337,9 @@ fn held_piece(
 fn each_held(
     table: &[u32],
     grid: Grid,
-    xs: &[u16; 16],
-    ys: &[u16; 16],
-    cells: &[u8; 256],
+    xs: &[u16; MOST_LINES],
+    ys: &[u16; MOST_LINES],
+    cells: &[u8; MOST_CELLS],
     lies: Lies,
     rule: Charge,
 ) -> bool {
@@ -360,9 +362,9 @@ fn print_spared() {
 pub fn print_pieces(
     table: &[u32],
     grid: Grid,
-    xs: &[u16; 16],
-    ys: &[u16; 16],
-    cells: &[u8; 256],
+    xs: &[u16; MOST_LINES],
+    ys: &[u16; MOST_LINES],
+    cells: &[u8; MOST_CELLS],
     lies: Lies,
     rule: Charge,
 ) {
