@@ -2,6 +2,7 @@
 fractured, 1 where the rule or a figure was refused, 2 where reading or writing failed."""
 
 import argparse
+import gc
 import os
 import re
 import signal
@@ -249,6 +250,8 @@ def main(words=None):
         tell(" ".join(str(fault).split()))
         return FAILED
     signals(signal.SIG_DFL)
+    # what is gathered and answered has no cycles, and looking for some takes a tenth of the time
+    gc.disable()
     show = bar()
     try:
         try:

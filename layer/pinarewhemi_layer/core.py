@@ -295,6 +295,9 @@ class Placing:
         self.layers = [layout.layer(info) if keep else layout.insert_layer(info) for info in infos]
         self.cells = {}
         self.begun = {}
+        # one path for all sides: new ones each time take half as long again
+        self.ends = [db.Point(), db.Point()]
+        self.side = db.Path(self.ends, 0)
 
     def into(self, index):
         """The placing into one cell."""
@@ -340,16 +343,19 @@ class Placing:
 
     def draw(self, form, x, y, shots, sides, beyond):
         """The elements of a form whose frame begins at x, y."""
-        answer, units, db = self.given[form], self.units, self.db
+        answer, units = self.given[form], self.units
         if answer.refused is not None:
             beyond.insert_polygon(self.gathered.forms[form].moved(x, y))
             return
-        numbers = iter(answer.shots)
+        numbers, box, insert = iter(answer.shots), self.db.Box, shots.insert_box
         for left, bottom, right, top in zip(numbers, numbers, numbers, numbers):
-            shots.insert_box(db.Box(x + units * left, y + units * bottom, x + units * right, y + units * top))
+            insert(box(x + units * left, y + units * bottom, x + units * right, y + units * top))
+        ends, side, insert = self.ends, self.side, sides.insert_path
+        low, high = ends
         for a, b, c, d in answer.sides:
-            ends = [db.Point(x + units * a, y + units * b), db.Point(x + units * c, y + units * d)]
-            sides.insert_path(db.Path(ends, 0))
+            low.x, low.y, high.x, high.y = x + units * a, y + units * b, x + units * c, y + units * d
+            side.points = ends
+            insert(side)
 
 
 class CellPlacing:
