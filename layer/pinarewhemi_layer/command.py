@@ -2,7 +2,6 @@
 fractured, 1 where the rule or a figure was refused, 2 where reading or writing failed."""
 
 import argparse
-import gc
 import os
 import re
 import signal
@@ -146,7 +145,7 @@ def read_layer(db, given, layer):
     return Drawn(layout, top, index, units, copies, source)
 
 
-def gather_layer(db, given, drawn, runner, workers, gathered, more, show):
+def gather_layer(db, given, drawn, runner, gathered, more, show):
     """Gathers the figures of the layer, by the road that suits it or that was asked for."""
     from . import windows
     from .core import gather, merged
@@ -158,7 +157,7 @@ def gather_layer(db, given, drawn, runner, workers, gathered, more, show):
         gather(db, layout, merged(db, layout, top, index, copies), copies, gathered, show)
         return
     windows.hold(source, layout, top, index)
-    tasks = windows.tasks_of(source, windows.plan(db, layout, top, copies, index), workers)
+    tasks = windows.tasks_of(source, windows.plan(db, layout, top, copies, index))
     windows.gather_windows(db, top, runner.run(windows.take, tasks, stage(show, "windows")), gathered, more)
 
 
@@ -181,7 +180,7 @@ def gather_and_answer(db, given, drawn, runner, workers, fracturer, placing, sho
         if workers > 1 and given.jobs is None and early.answer(gathered.forms):
             placing.more()
 
-    gather_layer(db, given, drawn, runner, workers, gathered, more, show)
+    gather_layer(db, given, drawn, runner, gathered, more, show)
     forms, shown = gathered.forms[len(answers) :], stage(show, "distinct")
     rest = jobs.spread_answers(fracturer, forms, units, parted, workers, runner, given.jobs, shown)
     answers += core.answers(fracturer, forms, units, parted, show) if rest is None else rest
@@ -250,8 +249,6 @@ def main(words=None):
         tell(" ".join(str(fault).split()))
         return FAILED
     signals(signal.SIG_DFL)
-    # what is gathered and answered has no cycles, and looking for some takes a tenth of the time
-    gc.disable()
     show = bar()
     try:
         try:

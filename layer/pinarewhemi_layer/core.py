@@ -295,9 +295,6 @@ class Placing:
         self.layers = [layout.layer(info) if keep else layout.insert_layer(info) for info in infos]
         self.cells = {}
         self.begun = {}
-        # one path for all sides: new ones each time take half as long again
-        self.ends = [db.Point(), db.Point()]
-        self.side = db.Path(self.ends, 0)
 
     def into(self, index):
         """The placing into one cell."""
@@ -343,19 +340,16 @@ class Placing:
 
     def draw(self, form, x, y, shots, sides, beyond):
         """The elements of a form whose frame begins at x, y."""
-        answer, units = self.given[form], self.units
+        answer, units, db = self.given[form], self.units, self.db
         if answer.refused is not None:
             beyond.insert_polygon(self.gathered.forms[form].moved(x, y))
             return
-        numbers, box, insert = iter(answer.shots), self.db.Box, shots.insert_box
+        numbers = iter(answer.shots)
         for left, bottom, right, top in zip(numbers, numbers, numbers, numbers):
-            insert(box(x + units * left, y + units * bottom, x + units * right, y + units * top))
-        ends, side, insert = self.ends, self.side, sides.insert_path
-        low, high = ends
+            shots.insert_box(db.Box(x + units * left, y + units * bottom, x + units * right, y + units * top))
         for a, b, c, d in answer.sides:
-            low.x, low.y, high.x, high.y = x + units * a, y + units * b, x + units * c, y + units * d
-            side.points = ends
-            insert(side)
+            ends = [db.Point(x + units * a, y + units * b), db.Point(x + units * c, y + units * d)]
+            sides.insert_path(db.Path(ends, 0))
 
 
 class CellPlacing:

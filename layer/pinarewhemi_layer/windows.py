@@ -15,10 +15,9 @@ from . import files, klayout_db
 from .core import MOST, Layer, index_of, prepare, prune, rings_of, top_of
 
 # Flat shapes to a window, and below how many times the hierarchical count a layer has little hierarchy. KLayout merges many
-# small windows faster than few large ones; but each distinct form is handed over once for each task, so a task has several of
-# them, as long as there are some tasks for each worker.
+# small windows faster than few large ones; but each distinct form is handed over once for each task, so a task has several.
 SHAPES, LITTLE = 4096, 4
-WINDOWS, TASKS = 16, 8
+WINDOWS = 4
 # How many forms a process keeps the rings of.
 KEPT = 65536
 
@@ -183,10 +182,9 @@ def plan(db, layout, top, copies, index):
     ]
 
 
-def tasks_of(source, planned, workers):
-    """The windows in tasks for so many workers, in their order."""
-    several = max(1, min(WINDOWS, len(planned) // (TASKS * workers)))
-    return [(source, planned[first : first + several]) for first in range(0, len(planned), several)]
+def tasks_of(source, planned):
+    """The windows in tasks, in their order."""
+    return [(source, planned[first : first + WINDOWS]) for first in range(0, len(planned), WINDOWS)]
 
 
 def gather_windows(db, top, pieces, gathered, more):

@@ -26,7 +26,7 @@ HERE = os.path.abspath(__file__)
 COMMAND = os.path.join(os.path.dirname(os.path.dirname(HERE)), "pinarewhemi-layer")
 RULE = 25, 40
 # How often memory is looked at, in seconds.
-LOOK = 0.05
+LOOK = 0.01
 
 
 def database():

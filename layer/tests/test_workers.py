@@ -55,7 +55,7 @@ class Windows(WithFolder):
             with mock.patch.object(windows, "SHAPES", shapes):
                 planned = windows.plan(db, layout, top, survey(db, layout, top)[0], index)
             self.assertGreater(len(planned), 2)
-            tasks = windows.tasks_of(source, [window._replace(margin=margin) for window in planned], 1)
+            tasks = windows.tasks_of(source, [window._replace(margin=margin) for window in planned])
             gathered, behind = Gathered(), mock.Mock()
             windows.gather_windows(db, top, map(windows.take, tasks), gathered, behind)
             self.assertEqual(behind.call_count, len(tasks))
