@@ -104,8 +104,7 @@ def lines(low, high, largest):
 
 def weigh(fracturer, rings, shots, parts, cuts):
     """The answer of a list of shots, weighed by the rule. No shot is wider than a shot can be."""
-    sides = charged_sides(rings, shots, fracturer.threshold)
-    sliver = sum(abs(c - a) + abs(d - b) for a, b, c, d in sides)
+    sides, sliver = charged_sides(rings, shots, fracturer.threshold)
     shots = divide(shots, fracturer.largest or WIDEST)
     cost = 1000 * (len(shots) // 4) + fracturer.weight * sliver
     return Answer(None, tuple(shots), cost, sliver, cuts, sides, parts)

@@ -2,6 +2,7 @@
 fractured, 1 where the rule or a figure was refused, 2 where reading or writing failed."""
 
 import argparse
+import gc
 import os
 import re
 import signal
@@ -145,10 +146,11 @@ def read_layer(db, given, layer):
     return Drawn(layout, top, index, units, copies, source)
 
 
-def gather_layer(db, given, drawn, runner, gathered, more, show):
+def gather_layer(db, given, drawn, runner, workers, gathered, more, show):
     """Gathers the figures of the layer, by the road that suits it or that was asked for."""
     from . import windows
     from .core import gather, merged
+    from .workers import Alone
 
     layout, top, index, _, copies, source = drawn
     flat, held = windows.counts(db, layout, copies, index)
@@ -157,7 +159,11 @@ def gather_layer(db, given, drawn, runner, gathered, more, show):
         gather(db, layout, merged(db, layout, top, index, copies), copies, gathered, show)
         return
     windows.hold(source, layout, top, index)
-    tasks = windows.tasks_of(source, windows.plan(db, layout, top, copies, index))
+    planned = windows.plan(db, layout, top, copies, index)
+    tasks = windows.tasks_of(source, planned, workers)
+    if len(planned) < windows.FEW:
+        # nobody is at work meanwhile, so nothing is done early
+        runner, more = Alone(), lambda: None
     windows.gather_windows(db, top, runner.run(windows.take, tasks, stage(show, "windows")), gathered, more)
 
 
@@ -180,7 +186,7 @@ def gather_and_answer(db, given, drawn, runner, workers, fracturer, placing, sho
         if workers > 1 and given.jobs is None and early.answer(gathered.forms):
             placing.more()
 
-    gather_layer(db, given, drawn, runner, gathered, more, show)
+    gather_layer(db, given, drawn, runner, workers, gathered, more, show)
     forms, shown = gathered.forms[len(answers) :], stage(show, "distinct")
     rest = jobs.spread_answers(fracturer, forms, units, parted, workers, runner, given.jobs, shown)
     answers += core.answers(fracturer, forms, units, parted, show) if rest is None else rest
@@ -249,6 +255,8 @@ def main(words=None):
         tell(" ".join(str(fault).split()))
         return FAILED
     signals(signal.SIG_DFL)
+    # what is gathered and answered has no cycles, and looking for some takes a tenth of the time
+    gc.disable()
     show = bar()
     try:
         try:

@@ -242,8 +242,8 @@ def gather(db, layout, work, copies, gathered, show=None):
         figures = array.array("q")
         for shape in layout.cell(index).shapes(work).each():
             polygon = shape.polygon
-            corner = polygon.bbox().p1
-            x, y = corner.x, corner.y
+            frame = polygon.bbox()
+            x, y = frame.left, frame.bottom
             figures.extend((gathered.number(polygon.move(-x, -y)), x, y))
             done += 1
             if show and done % 4096 == 0:
@@ -255,10 +255,18 @@ def gather(db, layout, work, copies, gathered, show=None):
 
 def rings_of(form):
     """The rings of a polygon, hull first, as lists x, y, x, y, ..."""
-    rings = [[number for point in form.each_point_hull() for number in (point.x, point.y)]]
+    rings = [numbers_of(form.each_point_hull())]
     for hole in range(form.holes()):
-        rings.append([number for point in form.each_point_hole(hole) for number in (point.x, point.y)])
+        rings.append(numbers_of(form.each_point_hole(hole)))
     return rings
+
+
+def numbers_of(points):
+    """The numbers x, y, x, y, .. of points."""
+    numbers = []
+    for point in points:
+        numbers += point.x, point.y
+    return numbers
 
 
 def answer(fracturer, form, units, beyond=None):
@@ -295,6 +303,8 @@ class Placing:
         self.layers = [layout.layer(info) if keep else layout.insert_layer(info) for info in infos]
         self.cells = {}
         self.begun = {}
+        # the sides from 0, 0 by their extent: moving one takes half the time of a new one
+        self.sides = {}
 
     def into(self, index):
         """The placing into one cell."""
@@ -340,16 +350,24 @@ class Placing:
 
     def draw(self, form, x, y, shots, sides, beyond):
         """The elements of a form whose frame begins at x, y."""
-        answer, units, db = self.given[form], self.units, self.db
+        answer, units = self.given[form], self.units
         if answer.refused is not None:
             beyond.insert_polygon(self.gathered.forms[form].moved(x, y))
             return
-        numbers = iter(answer.shots)
+        numbers, box, insert = iter(answer.shots), self.db.Box, shots.insert_box
         for left, bottom, right, top in zip(numbers, numbers, numbers, numbers):
-            shots.insert_box(db.Box(x + units * left, y + units * bottom, x + units * right, y + units * top))
+            insert(box(x + units * left, y + units * bottom, x + units * right, y + units * top))
+        insert = sides.insert_path
         for a, b, c, d in answer.sides:
-            ends = [db.Point(x + units * a, y + units * b), db.Point(x + units * c, y + units * d)]
-            sides.insert_path(db.Path(ends, 0))
+            insert(self.side(c - a, d - b).moved(x + units * a, y + units * b))
+
+    def side(self, wide, high):
+        """The path along a side of that extent in nm, from 0, 0."""
+        found = self.sides.get((wide, high))
+        if found is None:
+            ends = [self.db.Point(), self.db.Point(self.units * wide, self.units * high)]
+            found = self.sides[wide, high] = self.db.Path(ends, 0)
+        return found
 
 
 class CellPlacing:

@@ -48,7 +48,9 @@ class Fracturer:
         self._corners = (ctypes.c_uint16 * ROOMS["PW_CORNER_NUMBERS"])()
         self._lengths = (ctypes.c_uint16 * ROOMS["PW_RING_LENGTHS"])()
         self._told = [ctypes.c_uint32() for _ in range(4)]
-        self._lent = [ctypes.byref(number) for number in self._told]
+        # behind the rule every call is lent the same
+        lent = [ctypes.byref(number) for number in self._told]
+        self._lent = (self._table, ROOMS["PW_TABLE_ENTRIES"], self._list, self._room, *lent)
         refused = self._call(self._asked, self._words, ((0, 0, 9, 0, 9, 9, 0, 9),))
         if refused:
             raise Refused(refused, name)
@@ -63,8 +65,7 @@ class Fracturer:
             beside = (ctypes.c_uint16 * len(lengths))()
         given[: len(corners)] = corners
         beside[: len(lengths)] = lengths
-        lent = self._table, ROOMS["PW_TABLE_ENTRIES"], self._list, self._room
-        return function(given, len(corners), beside, len(lengths), *words, *lent, *self._lent)
+        return function(given, len(corners), beside, len(lengths), *words, *self._lent)
 
     def whole(self, rings):
         """The shots of a figure before division, and the cuts weighed; None where it is refused."""
@@ -87,54 +88,62 @@ class Fracturer:
             if self.largest is not None:
                 # a dividing line is not exposed: what is charged are the sides before division
                 whole, _ = self.whole(rings)
-            sides = charged_sides(rings, whole, self.threshold)
-            if _length(sides) != sliver:
+            sides, length = charged_sides(rings, whole, self.threshold)
+            if length != sliver:
                 raise AssertionError("the charged sides are not as long as the sliver that the library tells")
         return Answer(None, shots, cost, sliver, cuts, sides)
 
 
 def _walls(rings):
-    """The upright edges by their x, the level ones by their y: stretches from low to high."""
-    upright, level = {}, {}
+    """The upright edges and the level ones, each its place and its stretch from low to high."""
+    upright, level = [], []
     for ring in rings:
         x, y = ring[-2], ring[-1]
         numbers = iter(ring)
         for to_x, to_y in zip(numbers, numbers):
             if x == to_x:
-                upright.setdefault(x, []).append((y, to_y) if y < to_y else (to_y, y))
+                upright.append((x, y, to_y) if y < to_y else (x, to_y, y))
             else:
-                level.setdefault(y, []).append((x, to_x) if x < to_x else (to_x, x))
+                level.append((y, x, to_x) if x < to_x else (y, to_x, x))
             x, y = to_x, to_y
     return upright, level
 
 
-def _exposed(stretches, low, high):
-    """What of the stretches lies between low and high, in rising order."""
-    found = [(max(low, start), min(high, end)) for start, end in stretches if start < high and low < end]
+def _exposed(walls, near, far, low, high):
+    """What of the walls at two places lies between low and high: (place, start, end) in rising order."""
+    found = [
+        (place, start if low < start else low, end if end < high else high)
+        for place, start, end in walls
+        if (place == near or place == far) and start < high and low < end
+    ]
     if len(found) > 1:
         found.sort()
     return found
 
 
 def _length(stretches):
-    return sum(c - a + d - b for a, b, c, d in stretches)
+    return sum(end - start for _, start, end in stretches)
 
 
 def charged_sides(rings, shots, threshold):
     """The exposed stretches of the two longer sides of each shot that is a sliver (docs/SCOPE.md, "Pieces, slivers,
-    cost"). The figure is merged, so a side of a shot is exposed exactly where an edge of the figure lies on it."""
+    cost"), and their length. The figure is merged, so a side of a shot is exposed exactly where an edge of the figure
+    lies on it."""
     upright, level = _walls(rings)
-    sides = []
+    sides, total = [], 0
     numbers = iter(shots)
     for left, bottom, right, top in zip(numbers, numbers, numbers, numbers):
         width, height = right - left, top - bottom
         if width >= threshold and height >= threshold:
             continue
-        standing = lying = ()
-        if height >= width:
-            standing = [(x, a, x, b) for x in (left, right) for a, b in _exposed(upright.get(x, ()), bottom, top)]
-        if width >= height:
-            lying = [(a, y, b, y) for y in (bottom, top) for a, b in _exposed(level.get(y, ()), left, right)]
+        standing = _exposed(upright, left, right, bottom, top) if height >= width else ()
+        lying = _exposed(level, bottom, top, left, right) if width >= height else ()
+        tall, wide = _length(standing), _length(lying)
         # of a square the pair with more wall is charged, the upright one where both have as much
-        sides += lying if width > height or (width == height and _length(lying) > _length(standing)) else standing
-    return tuple(sides)
+        if wide > tall:
+            sides += [(start, y, end, y) for y, start, end in lying]
+            total += wide
+        else:
+            sides += [(x, start, x, end) for x, start, end in standing]
+            total += tall
+    return tuple(sides), total

@@ -15,9 +15,12 @@ from . import files, klayout_db
 from .core import MOST, Layer, index_of, prepare, prune, rings_of, top_of
 
 # Flat shapes to a window, and below how many times the hierarchical count a layer has little hierarchy. KLayout merges many
-# small windows faster than few large ones; but each distinct form is handed over once for each task, so a task has several.
+# small windows faster than few large ones; but each distinct form is handed over once for each task, so a task has several of
+# them, as long as there are some tasks for each worker.
 SHAPES, LITTLE = 4096, 4
-WINDOWS = 4
+WINDOWS, TASKS = 16, 8
+# Below so many windows the command does them itself: it is done before workers have begun.
+FEW = 8
 # How many forms a process keeps the rings of.
 KEPT = 65536
 
@@ -182,9 +185,10 @@ def plan(db, layout, top, copies, index):
     ]
 
 
-def tasks_of(source, planned):
-    """The windows in tasks, in their order."""
-    return [(source, planned[first : first + WINDOWS]) for first in range(0, len(planned), WINDOWS)]
+def tasks_of(source, planned, workers):
+    """The windows in tasks for so many workers, in their order."""
+    several = max(1, min(WINDOWS, len(planned) // (TASKS * workers)))
+    return [(source, planned[first : first + several]) for first in range(0, len(planned), several)]
 
 
 def gather_windows(db, top, pieces, gathered, more):

@@ -72,10 +72,9 @@ def calls(figures):
     rings = [rings_of(figure.moved(-figure.bbox().left, -figure.bbox().bottom)) for figure in figures]
     whole = each(lambda figure: straight._call(straight._asked, straight._words, figure), rings)
     given, beside = straight._corners, straight._lengths
-    lent = straight._table, len(straight._table), straight._list, straight._room
 
     def only(figure):
-        straight._asked(given, count, beside, len(figure), *straight._words, *lent, *straight._lent)
+        straight._asked(given, count, beside, len(figure), *straight._words, *straight._lent)
 
     bare = 0
     for figure in rings:

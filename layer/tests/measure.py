@@ -26,7 +26,7 @@ HERE = os.path.abspath(__file__)
 COMMAND = os.path.join(os.path.dirname(os.path.dirname(HERE)), "pinarewhemi-layer")
 RULE = 25, 40
 # How often memory is looked at, in seconds.
-LOOK = 0.01
+LOOK = 0.05
 
 
 def database():
@@ -413,7 +413,7 @@ def weighed(drawn, rings, mode):
 
     boxes = [piece.bbox() for piece in drawn.decompose_trapezoids(mode)]
     shots = [number for box in boxes for number in (box.left, box.bottom, box.right, box.top)]
-    sliver = sum(c - a + d - b for a, b, c, d in charged_sides(rings, shots, RULE[0]))
+    _, sliver = charged_sides(rings, shots, RULE[0])
     return Weighed(1000 * len(boxes) + RULE[1] * sliver, len(boxes), sliver)
 
 

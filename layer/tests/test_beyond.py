@@ -67,7 +67,8 @@ class Beyond(WithFolder):
             self.assertEqual(taken.cost, 1000 * (len(taken.shots) // 4) + 40 * taken.sliver)
             for mode in range(3):
                 theirs = [n for piece in comb.decompose_trapezoids(mode) for n in self.sides(piece.bbox())]
-                sliver = sum(abs(c - a) + abs(d - b) for a, b, c, d in charged_sides(rings, theirs, 25))
+                sides, sliver = charged_sides(rings, theirs, 25)
+                self.assertEqual(sliver, sum(abs(c - a) + abs(d - b) for a, b, c, d in sides))
                 cost = 1000 * (len(theirs) // 4) + 40 * sliver
                 self.assertLessEqual(taken.cost, cost)
                 cheaper += taken.cost < cost

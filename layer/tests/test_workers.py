@@ -55,7 +55,7 @@ class Windows(WithFolder):
             with mock.patch.object(windows, "SHAPES", shapes):
                 planned = windows.plan(db, layout, top, survey(db, layout, top)[0], index)
             self.assertGreater(len(planned), 2)
-            tasks = windows.tasks_of(source, [window._replace(margin=margin) for window in planned])
+            tasks = windows.tasks_of(source, [window._replace(margin=margin) for window in planned], 1)
             gathered, behind = Gathered(), mock.Mock()
             windows.gather_windows(db, top, map(windows.take, tasks), gathered, behind)
             self.assertEqual(behind.call_count, len(tasks))
@@ -98,7 +98,8 @@ class SameBytes(WithFolder):
         self.flat = self.given = self.stored(flat_layer(6, 400), "in.oas")
         # with a triangle, which no job can carry
         self.chip = self.stored(layers.make(db), "chip.oas")
-        patched = mock.patch.object(windows, "SHAPES", 100)
+        # more windows than the command would do by itself
+        patched = mock.patch.object(windows, "SHAPES", 40)
         patched.start()
         self.addCleanup(patched.stop)
 
@@ -119,6 +120,18 @@ class SameBytes(WithFolder):
         for words in (("--hierarchy",), ("--windows", "--beyond")):
             one = self.bytes_of(*words)
             self.assertEqual(self.bytes_of("--workers", 2, *words), one)
+
+    def test_few_windows(self):
+        """A layer of few windows: the command does them itself, and workers have the figures alone."""
+        asked = []
+        bundles = mock.patch.object(jobs, "SECONDS", 0.001), mock.patch.object(jobs, "BUNDLE_SECONDS", 0.002)
+        with bundles[0], bundles[1], mock.patch.object(workers.Pool, "run", noted(workers.Pool.run, asked)):
+            for shapes, names in ((40, ["take", "fracture_bundle"]), (100, ["fracture_bundle"])):
+                with mock.patch.object(windows, "SHAPES", shapes):
+                    asked.clear()
+                    one = self.bytes_of()
+                    self.assertEqual(self.bytes_of("--workers", 2), one)
+                self.assertEqual([name for name, _ in asked], names)
 
     def test_jobs_are_kept(self):
         """The job files read back, and hold the distinct figures that a job can carry."""

@@ -69,9 +69,12 @@ fn read(calls: &dyn Calls, job: &[u8], list: &mut [u16], rings: &mut [u16]) -> u
 }
 
 /// Opens a job and picks each outline by the index. Gives a number that depends on all of it.
-fn pick(calls: &dyn Calls, job: &[u8], index: &mut [u16]) -> u64 {
+fn pick(calls: &dyn Calls, job: &[u8], index: &mut [u16]) -> usize {
+    if let Some(bytes) = library::opened_and_picked(job, index) {
+        return bytes;
+    }
     let count = calls.index_open(job, index).numbers[0] as usize;
-    (0..count).map(|k| calls.index_pick(job, index, count, k).numbers[1]).sum()
+    (0..count).map(|k| calls.index_pick(job, index, count, k).numbers[1] as usize).sum()
 }
 
 /// A job of 255 small outlines.

@@ -14,6 +14,27 @@ pub fn library() -> Option<&'static (dyn Calls + Sync)> {
     Some(&linked::Library)
 }
 
+/// Opens a job and picks each outline by the index, for the benchmark: as a program calls it, with no mark before a call and
+/// no answer kept after it, which take as long as a pick. Gives how many bytes the outlines have together; nothing where no
+/// library is linked.
+#[cfg(not(feature = "linked"))]
+pub fn opened_and_picked(_job: &[u8], _index: &mut [u16]) -> Option<usize> {
+    None
+}
+
+#[cfg(feature = "linked")]
+pub fn opened_and_picked(job: &[u8], index: &mut [u16]) -> Option<usize> {
+    use pinarewhemi::lent;
+    let (mut outlines, mut offset, mut bytes) = (0, 0, 0);
+    lent::index_open(job, index, &mut outlines, &mut offset);
+    for k in 0..outlines as usize {
+        let (mut start, mut length) = (0, 0);
+        lent::index_pick(job, index, outlines as usize, k, &mut start, &mut length, &mut offset);
+        bytes += length;
+    }
+    Some(bytes)
+}
+
 #[cfg(feature = "linked")]
 mod linked {
     use law::joining::Joined;
