@@ -550,7 +550,7 @@ class Faults(WithFolder):
         """Ctrl-C while two workers work: they end too, and no half file is left."""
         layout = db.Layout()
         top = layout.create_cell("TOP")
-        layers.skylines(db, top, layout.layer(4, 0), 5, 6000)
+        layers.skylines(db, top, layout.layer(4, 0), 5, 14000)
         given = self.stored(layout, "in.gds")
         words = [given, "--layer", "4", "--rule", "25", "40", "--out", self.path("out.gds"), "--windows", "--workers", "2"]
         running = started(words)

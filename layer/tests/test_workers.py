@@ -98,8 +98,8 @@ class SameBytes(WithFolder):
         self.flat = self.given = self.stored(flat_layer(6, 400), "in.oas")
         # with a triangle, which no job can carry
         self.chip = self.stored(layers.make(db), "chip.oas")
-        # more windows than the command would do by itself
-        patched = mock.patch.object(windows, "SHAPES", 40)
+        # more windows than the command does by itself
+        patched = mock.patch.object(windows, "SHAPES", 100)
         patched.start()
         self.addCleanup(patched.stop)
 
@@ -126,7 +126,7 @@ class SameBytes(WithFolder):
         asked = []
         bundles = mock.patch.object(jobs, "SECONDS", 0.001), mock.patch.object(jobs, "BUNDLE_SECONDS", 0.002)
         with bundles[0], bundles[1], mock.patch.object(workers.Pool, "run", noted(workers.Pool.run, asked)):
-            for shapes, names in ((40, ["take", "fracture_bundle"]), (100, ["fracture_bundle"])):
+            for shapes, names in ((100, ["take", "fracture_bundle"]), (400, ["fracture_bundle"])):
                 with mock.patch.object(windows, "SHAPES", shapes):
                     asked.clear()
                     one = self.bytes_of()
