@@ -161,10 +161,13 @@ def gather_layer(db, given, drawn, runner, workers, gathered, more, show):
     windows.hold(source, layout, top, index)
     planned = windows.plan(db, layout, top, copies, index)
     tasks = windows.tasks_of(source, planned, workers)
-    if len(planned) < windows.FEW:
-        # nobody is at work meanwhile, so nothing is done early
-        runner, more = Alone(), lambda: None
-    windows.gather_windows(db, top, runner.run(windows.take, tasks, stage(show, "windows")), gathered, more)
+    shown = stage(show, "windows")
+    if workers < 2 or len(planned) < windows.FEW:
+        # nobody else is at work, so nothing is done meanwhile
+        pieces, more = Alone().run(windows.found, tasks, shown), lambda: None
+    else:
+        pieces = windows.taken(db, runner.run(windows.take, tasks, shown))
+    windows.gather_windows(db, top, pieces, gathered, more)
 
 
 def stage(show, name):
@@ -183,7 +186,7 @@ def gather_and_answer(db, given, drawn, runner, workers, fracturer, placing, sho
 
     def more():
         """While workers have the next windows: answers and places what the last one gave."""
-        if workers > 1 and given.jobs is None and early.answer(gathered.forms):
+        if given.jobs is None and early.answer(gathered.forms):
             placing.more()
 
     gather_layer(db, given, drawn, runner, workers, gathered, more, show)

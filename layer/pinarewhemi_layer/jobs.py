@@ -10,7 +10,7 @@ from .core import Told, answer, rings_of
 from .figures import WIDEST, Fracturer
 
 # Only where this much work is planned are figures spread; a bundle has at least so much, a worker at least so many.
-SECONDS, BUNDLE_SECONDS, BUNDLES = 1.0, 0.1, 8
+SECONDS, BUNDLE_SECONDS, BUNDLES = 1.0, 0.1, 16
 JOB_BYTES, JOB_OUTLINES, HEADER = 4096, 255, 6
 
 

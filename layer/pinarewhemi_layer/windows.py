@@ -45,8 +45,8 @@ class Window(NamedTuple):
 
 
 class Pieces(NamedTuple):
-    """What the windows of a task give: the distinct forms as rings, (form, x, y) one after the other for each place, and
-    the pieces of long figures as rings, where they stand."""
+    """What the windows of a task give: the distinct forms, (form, x, y) one after the other for each place, and the
+    pieces of long figures, where they stand. Forms and pieces are polygons, between processes their rings."""
 
     forms: list
     places: array.array
@@ -127,6 +127,22 @@ def kept_rings(form):
 
 def take(task):
     """What some windows have: the work of a worker. `task` is a source and the windows."""
+    forms, places, long = found(task)
+    return Pieces([kept_rings(form) for form in forms], places, [rings_of(piece) for piece in long])
+
+
+def taken(db, pieces):
+    """What workers took, as polygons again: those of a form once."""
+    known = {}
+    for forms, places, long in pieces:
+        for rings in forms:
+            if rings not in known:
+                known[rings] = polygon_of(db, rings)
+        yield Pieces([known[rings] for rings in forms], places, [polygon_of(db, rings) for rings in long])
+
+
+def found(task):
+    """The same in this process."""
     source, planned = task
     db = klayout_db.find()
     held = opened(db, source)
@@ -138,7 +154,7 @@ def take(task):
             frame = polygon.bbox()
             if max(frame.width(), frame.height()) > margin:
                 if frame.touches(box):
-                    long.append(rings_of(polygon))
+                    long.append(polygon)
                 continue
             x, y = frame.left, frame.bottom
             if left <= x < right and bottom <= y < above:
@@ -146,7 +162,7 @@ def take(task):
                 number = numbers.get(form)
                 if number is None:
                     number = numbers[form] = len(forms)
-                    forms.append(kept_rings(form))
+                    forms.append(form)
                 places.extend((number, x, y))
     return Pieces(forms, places, long)
 
@@ -196,20 +212,17 @@ def gather_windows(db, top, pieces, gathered, more):
     index = top.cell_index()
     gathered.copies[index] = 1
     places = gathered.places[index] = array.array("q")
-    known, long = {}, db.Region()
-    for piece in pieces:
-        for rings in piece.forms:
-            if rings not in known:
-                known[rings] = gathered.number(polygon_of(db, rings))
-        numbers = [known[rings] for rings in piece.forms]
+    region = db.Region()
+    for forms, standing, long in pieces:
+        numbers = [gathered.number(form) for form in forms]
         first = len(places)
-        places.extend(piece.places)
-        places[first::3] = array.array("q", map(numbers.__getitem__, piece.places[0::3]))
-        for rings in piece.long:
-            long.insert(polygon_of(db, rings))
+        places.extend(standing)
+        places[first::3] = array.array("q", map(numbers.__getitem__, standing[0::3]))
+        for piece in long:
+            region.insert(piece)
         more()
-    long.min_coherence = True
-    for polygon in long.merged().each():
+    region.min_coherence = True
+    for polygon in region.merged().each():
         frame = polygon.bbox()
         x, y = frame.left, frame.bottom
         places.extend((gathered.number(polygon.move(-x, -y)), x, y))

@@ -56,15 +56,17 @@ class Windows(WithFolder):
                 planned = windows.plan(db, layout, top, survey(db, layout, top)[0], index)
             self.assertGreater(len(planned), 2)
             tasks = windows.tasks_of(source, [window._replace(margin=margin) for window in planned], 1)
-            gathered, behind = Gathered(), mock.Mock()
-            windows.gather_windows(db, top, map(windows.take, tasks), gathered, behind)
-            self.assertEqual(behind.call_count, len(tasks))
-            (places,) = gathered.places.values()
-            numbers = iter(places)
-            found = collections.Counter(
-                gathered.forms[form].moved(x, y).to_s() for form, x, y in zip(numbers, numbers, numbers)
-            )
-            self.assertEqual(found, figures_of(layout))
+            # by workers, and in this process
+            for pieces in (windows.taken(db, map(windows.take, tasks)), map(windows.found, tasks)):
+                gathered, behind = Gathered(), mock.Mock()
+                windows.gather_windows(db, top, pieces, gathered, behind)
+                self.assertEqual(behind.call_count, len(tasks))
+                (places,) = gathered.places.values()
+                numbers = iter(places)
+                standing = collections.Counter(
+                    gathered.forms[form].moved(x, y).to_s() for form, x, y in zip(numbers, numbers, numbers)
+                )
+                self.assertEqual(standing, figures_of(layout))
 
     def test_both_roads(self):
         """The chip by windows: the layer exactly, and the totals of the hierarchy's road."""
