@@ -142,7 +142,7 @@ def taken(db, pieces):
 
 
 def found(task):
-    """The same in this process."""
+    """What some windows have, as polygons: for the same process."""
     source, planned = task
     db = klayout_db.find()
     held = opened(db, source)
