@@ -13,10 +13,10 @@ use mathlib.Core.Path.{_≡_}
 use mathlib.Core.List.{List}
 use lib.ListN.{length, getD}
 use Rattle.sum.specs.Sum.{only}
+use Rattle.recurrence.specs.Scheme.{mixed}
 use Rattle.outline.specs.Grid.{Grid, Sound}
 use Rattle.rule.specs.declared.Rule.{Rule}
 use Rattle.rule.specs.Rules.{limit}
-use Rattle.recurrence.specs.Scheme.{mixed}
 use Rattle.piece.specs.declared.Mode.{Mode}
 use Rattle.piece.specs.declared.Mode.the-variants.{Straight}
 use Rattle.piece.specs.Piece.{Piece, kind}

@@ -7,10 +7,10 @@ ghost use mathlib.Core.Path.{_≡_};
 ghost use mathlib.Core.List.{List};
 ghost use Prim.Native.Nat.{ℕ, _+_, _*_, _≤_};
 ghost use lib.ListN.{length, getD};
-ghost use Rattle.outline.specs.Grid.{Grid};
-ghost use Rattle.piece.specs.declared.Mode.the-variants.{Straight};
 ghost use Rattle.recurrence.specs.Scheme.{mixed};
+ghost use Rattle.outline.specs.Grid.{Grid};
 ghost use Rattle.piece.specs.declared.Mode.{Mode};
+ghost use Rattle.piece.specs.declared.Mode.the-variants.{Straight};
 ghost use Rattle.piece.specs.Piece.{kind};
 ghost use Rattle.piece.specs.Meant.{meant};
 ghost use Rattle.piece.specs.Cuts.{choice};
@@ -131,7 +131,7 @@ fn first_line(table: &[u32], cuts: Cuts, cost: u32) -> Found
     }
 }
 
-// The sort of a piece: what costs nothing is outside.
+// The sort of a piece. What costs nothing is outside, so that only of what costs something the cells are looked at.
 pub fn sort_of(costs: &[u32], cells: &[u8], p: Numbered) -> Sort
     requires { ⌜ Sortable (now costs) (now cells) p ⌝ }
     ensures { λ s. ⌜ ((mode : Mode) (g : Grid) (r : Rule) (plan : Plan) → Costed mode g r (now (costs .entry)) (now (cells .entry)) plan → Known plan p → kindOf s ≡ kind g (meant (p .piece))) ⌝ }
