@@ -16,7 +16,7 @@
 --                                        : a piece outside; a full one, whose shot is written; a mixed one
 --   settled-behind, settled-mixed        : what is known of a piece that was settled, and of one that was not
 --   full-one                             : a full piece is one shot
---   emit-mixed                           : what the emission of a mixed piece asks
+--   ask-mixed                            : what the emission of a mixed piece asks
 --   count-cells, count-few, slivers-few  : how many shots, and how long their slivers, at most
 use Prim.Native.Nat.{ℕ, suc, _+_, _*_, _≤_, _<_}
 use mathlib.Core.Path.{_≡_, refl, ap, ap₂, sym, _∙_, subst}
@@ -53,7 +53,7 @@ use Rattle.verdict.specs.Memory.{Costed, Known}
 use Rattle.verdict.proofs.Hunting.{each-part}
 use Rattle.emission.specs.declared.Settled.{Settled}
 use Rattle.emission.specs.declared.Settled.the-variants as settled
-use Rattle.emission.specs.Emission.{InLists, Written, Walk, Emittable, Settles, Mixable}
+use Rattle.emission.specs.Emission.{InLists, Written, Walk, Emittable, Settles, EmittableMixed}
 
 -- What is written
 
@@ -410,12 +410,12 @@ pub full-one : (g : Grid) (r : Rule) (p : Piece) → kind g p ≡ full → lengt
 full-one g r p h = ap length (shots-full Straight g r p h)
 
 -- a mixed piece of the grid that there is room for is emitted
-pub emit-mixed : (t cs xs ys : List ℕ) (room : ℕ) (plan : Plan) (at : ℕ) (p : Numbered) (e : Emittable Straight t cs xs ys room plan at p)
+pub ask-mixed : (t cs xs ys : List ℕ) (room : ℕ) (plan : Plan) (at : ℕ) (p : Numbered) (e : Emittable Straight t cs xs ys room plan at p)
     → (q : Numbered) → Known plan q → {n room′ : ℕ} → room′ ≡ room
     → n + 4 * length (shots Straight (e .grid) (e .rule) (meant (q .piece))) ≤ room
     → kind (e .grid) (meant (q .piece)) ≡ mixed
-    → Mixable t cs xs ys room′ plan n q
-emit-mixed t cs xs ys room plan at p e q k d h m = record {
+    → EmittableMixed t cs xs ys room′ plan n q
+ask-mixed t cs xs ys room plan at p e q k d h m = record {
   emittable = record { grid = e .grid; rule = e .rule; walk = e .walk; known = k; fits = omega arith };
   mixed = m;
 }

@@ -8,7 +8,7 @@
 --   Settleable .. at p       == the same by straight cuts, by some plan
 --   Settles g r u v at p s   == s says what became of the piece p: by writing its shots from the index at on the list u becomes v, and s is
 --                               the index behind them; or it is mixed, and the list is as it was
---   Mixable .. at p          == as Emittable by straight cuts, and p is mixed
+--   EmittableMixed .. at p   == as Emittable by straight cuts, and p is mixed
 use Prim.Native.Nat.{ℕ, _+_, _*_, _≤_, _<_}
 use mathlib.Core.Path.{_≡_}
 use mathlib.Core.List.{List}
@@ -59,6 +59,6 @@ unfoldable pub Settles : Grid → Rule → List ℕ → List ℕ → ℕ → Pie
 Settles g r u v at p (settled.Behind n) = Written g u v at (shots Straight g r p) n
 Settles g r u v at p settled.Mixed = (kind g p ≡ mixed) × (v ≡ u)
 
-pub record Mixable (table cells xs ys : List ℕ) (room : ℕ) (plan : Plan) (at : ℕ) (p : Numbered) : Type 0 where
+pub record EmittableMixed (table cells xs ys : List ℕ) (room : ℕ) (plan : Plan) (at : ℕ) (p : Numbered) : Type 0 where
   pub emittable : Emittable Straight table cells xs ys room plan at p
   pub mixed : kind (emittable .grid) (meant (p .piece)) ≡ mixed

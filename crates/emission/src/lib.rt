@@ -20,7 +20,7 @@ ghost use Rattle.piece.specs.Piece.{kind};
 ghost use Rattle.piece.specs.Meant.{meant};
 ghost use Rattle.piece.specs.Cuts.{shots};
 ghost use Rattle.verdict.specs.Memory.{Known};
-ghost use Rattle.emission.specs.Emission.{InLists, Written, Walk, Emittable, Settleable, Settles, Mixable};
+ghost use Rattle.emission.specs.Emission.{InLists, Written, Walk, Emittable, Settleable, Settles, EmittableMixed};
 
 pub mod measuring;
 pub mod pinwheel;
@@ -80,7 +80,7 @@ fn settle(
 }
 
 // Writes the shots of a mixed piece from the index at on, those of the low part of its cut before those of the high part; hands back the
-// index behind them. A part that needs no cut is settled where it arises, so that only a mixed one is a call.
+// index behind them. A part that needs no cut is settled where it arises: only a mixed one is a call.
 fn emit_mixed(
     costs: &[u32],
     cells: &[u8],
@@ -91,7 +91,7 @@ fn emit_mixed(
     at: usize,
     p: Numbered,
 ) -> usize
-    requires { ⌜ Mixable (now costs) (now cells) (now xs) (now ys) (length (now list)) plan at p ⌝ }
+    requires { ⌜ EmittableMixed (now costs) (now cells) (now xs) (now ys) (length (now list)) plan at p ⌝ }
     ensures { λ n. ⌜ ((g : Grid) (r : Rule) → Walk Straight g r (now (costs .entry)) (now (cells .entry)) (now (xs .entry)) (now (ys .entry)) plan → kind g (meant (p .piece)) ≡ mixed → Written g (now (list .entry)) (now (list .exit)) at (shots Straight g r (meant (p .piece))) n) ⌝ }
 {
     let parts = halves(costs, plan, p);
@@ -109,8 +109,8 @@ fn emit_mixed(
     }
 }
 
-// Writes the shots of a piece from the index at on, in list order; hands back the index behind them. Their slivers are not measured here:
-// `measuring` tells their length from the cost.
+// Writes the shots of a piece from the index at on, those of the low part of a cut before those of the high part; hands back the index
+// behind them. Their slivers are not measured here: `measuring` tells their length from the cost.
 pub fn emit(
     costs: &[u32],
     cells: &[u8],

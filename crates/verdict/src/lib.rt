@@ -131,7 +131,7 @@ fn first_line(table: &[u32], cuts: Cuts, cost: u32) -> Found
     }
 }
 
-// The sort of a piece. What costs nothing is outside, so that only of what costs something the cells are looked at.
+// The sort of a piece. What costs nothing is outside; only of other pieces the cells are looked at.
 pub fn sort_of(costs: &[u32], cells: &[u8], p: Numbered) -> Sort
     requires { ⌜ Sortable (now costs) (now cells) p ⌝ }
     ensures { λ s. ⌜ ((mode : Mode) (g : Grid) (r : Rule) (plan : Plan) → Costed mode g r (now (costs .entry)) (now (cells .entry)) plan → Known plan p → kindOf s ≡ kind g (meant (p .piece))) ⌝ }

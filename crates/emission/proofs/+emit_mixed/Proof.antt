@@ -14,7 +14,7 @@ use Rattle.piece.specs.Meant.{meant}
 use Rattle.piece.specs.Cuts.{shots}
 use Rattle.verdict.specs.Memory.{Costed}
 use Rattle.emission.specs.Emission.{Written, Walk}
-use Rattle.emission.proofs.Emitted.{Halves, mixed-halves, count-halves, less-cells, emit-part, emit-mixed as ask-mixed, settled-behind, settled-mixed, written-join, written-as, written-met}
+use Rattle.emission.proofs.Emitted.{Halves, mixed-halves, count-halves, less-cells, emit-part, ask-mixed, settled-behind, settled-mixed, written-join, written-as, written-met}
 use borrow.Fn.Kinds.{In}
 use borrow.Fn.PlainCycle.{Measures, is, falls, and}
 use Rattle.emission.proofs.emit_mixed.Reads as emit-mixed

@@ -1,7 +1,7 @@
 -- `emission::emit` meets its contract: a piece is settled, or it is mixed. Assumes nothing.
 use mathlib.Core.Path.{refl}
 use borrow.Author.Needs.{needs}
-use Rattle.emission.proofs.Emitted.{emit-mixed, settled-behind, settled-mixed, written-met}
+use Rattle.emission.proofs.Emitted.{ask-mixed, settled-behind, settled-mixed, written-met}
 use Rattle.emission.proofs.emit.Statement.{statement}
 use Rattle.emission.proofs.emit.Tie as tie
 
@@ -26,7 +26,7 @@ emit-mixed-requires c κs =
     let s = start a in
     let w = s .pre in
     let k = settled-mixed _ _ _ _ _ _ _ (c .before .enum-told .given .1) (a .settle .ensures (w .grid) (w .rule) (s .args .plan) (w .walk) (w .known)) in
-    emit-mixed _ _ _ _ _ _ _ _ w _ (w .known) (a .settle .kept .1 .1 .1 .1 .0) (w .fits) (k .0)
+    ask-mixed _ _ _ _ _ _ _ _ w _ (w .known) (a .settle .kept .1 .1 .1 .1 .0) (w .fits) (k .0)
 
 same-length : tie.Need-same-length
 same-length c = search needs
