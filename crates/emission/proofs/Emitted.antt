@@ -4,14 +4,19 @@
 --   sets-four                            : a run of four stores
 --   written-none, written-one, written-join
 --                                        : no shot; one; those of one list, then those of another
---   written-as                           : the same shots by another name
+--   written-as, written-met              : the same shots by another name; the same lists
 -- What a verdict says of the shots of a piece
 --   told-outside, told-shot              : none; the piece itself
---   Halves, halves                       : the parts of a cut are smaller pieces of the grid, and their shots are the piece's
+--   Halves, mixed-halves, halves         : the parts of a cut are smaller pieces of the grid, and their shots are the piece's
 --   Fifths, fifths                       : so are those of a pinwheel
 --   count-halves, count-fifths           : the shots of all parts are as many as the piece's
 --   emit-one, emit-part                  : what a shot and the parts of an emission ask
 --   written-fifths                       : the shots of five parts, one after the other
+--   settled-outside, settled-full, not-settled
+--                                        : a piece outside; a full one, whose shot is written; a mixed one
+--   settled-behind, settled-mixed        : what is known of a piece that was settled, and of one that was not
+--   full-one                             : a full piece is one shot
+--   ask-mixed                            : what the emission of a mixed piece asks
 --   count-cells, count-few, slivers-few  : how many shots, and how long their slivers, at most
 use Prim.Native.Nat.{ℕ, suc, _+_, _*_, _≤_, _<_}
 use mathlib.Core.Path.{_≡_, refl, ap, ap₂, sym, _∙_, subst}
@@ -26,6 +31,7 @@ use Rattle.recurrence.specs.Scheme.{Kind, outside, full, mixed}
 use Rattle.outline.specs.Grid.{Grid}
 use Rattle.rule.specs.declared.Rule.{Rule}
 use Rattle.piece.specs.declared.Mode.{Mode}
+use Rattle.piece.specs.declared.Mode.the-variants.{Straight}
 use Rattle.piece.specs.declared.Turn.{Turn}
 use Rattle.piece.specs.declared.Turn.the-variants.{First, Second}
 use Rattle.piece.specs.declared.Piece as stored
@@ -45,7 +51,9 @@ use Rattle.verdict.specs.declared.pinwheel.Turned.the-variants as verdict
 use Rattle.verdict.specs.Verdict.{verdictOf, numbered, partNo, wheelIn, made}
 use Rattle.verdict.specs.Memory.{Costed, Known}
 use Rattle.verdict.proofs.Hunting.{each-part}
-use Rattle.emission.specs.Emission.{InLists, Written, Walk, Emittable}
+use Rattle.emission.specs.declared.Settled.{Settled}
+use Rattle.emission.specs.declared.Settled.the-variants as settled
+use Rattle.emission.specs.Emission.{InLists, Written, Walk, Emittable, Settles, EmittableMixed}
 
 -- What is written
 
@@ -85,6 +93,11 @@ module _ (g : Grid) where
 
   pub written-as : (u v : List ℕ) (at : ℕ) {k l : List Piece} (n : ℕ) → k ≡ l → Written g u v at l n → Written g u v at k n
   written-as u v at n e w = subst (λ (l : List Piece). Written g u v at l n) (sym e) w
+
+  -- the same lists and the same index by other names
+  pub written-met : (u : List ℕ) {u′ v v′ : List ℕ} (at : ℕ) {l : List Piece} {n n′ : ℕ} → u′ ≡ u → v′ ≡ v → n′ ≡ n → Written g u′ v at l n
+      → Written g u v′ at l n′
+  written-met u at {l} a b c w = record { behind = c ∙ w .behind; list = b ∙ w .list ∙ ap (λ (x : List ℕ). sets x at (numbersOf g l)) a }
 
   pub written-join : (u m v : List ℕ) (at : ℕ) (k l : List Piece) (i n : ℕ) → Written g u m at k i → Written g m v i l n
       → Written g u v at (k ++ l) n
@@ -243,10 +256,13 @@ module _ (mode : Mode) (g : Grid) (r : Rule) (t cs : List ℕ) (plan : Plan) (f 
       }))
   cut-halves (wheel u j l k n) c i m x y e = (let z : _≡_ {A = ℕ} 0 1 = cc in absurd (omega arith))
 
+  pub mixed-halves : kind g p ≡ mixed → (l h : Numbered) → verdict.Cut l h ≡ made g p (choice mode g r p) → Halves mode g r plan p l h
+  mixed-halves m l h e = cut-halves (choice mode g r p) refl (choice-in mode g r p m) m l h e
+
   pub halves : (l h : Numbered) → verdict.Cut l h ≡ verdictOf mode g r p → Halves mode g r plan p l h
   halves l h e =
       let t = told-cut mode g r p l h e in
-      cut-halves (choice mode g r p) refl (choice-in mode g r p (t .0)) (t .0) l h (t .1)
+      mixed-halves (t .0) l h (t .1)
 
   -- a part of a pinwheel
   part-smaller : (q : Piece) → Part q p → {n : ℕ} → cells p ≡ cells q + n → 0 < n → Smaller plan p (numbered g q)
@@ -365,3 +381,41 @@ pub written-fifths : (g : Grid) {u u1 u2 u3 u4 v : List ℕ} {at n1 n2 n3 n4 n :
     → Written g u v at (l1 ++ (l2 ++ (l3 ++ (l4 ++ l5)))) n
 written-fifths g a b c d e =
     written-join g _ _ _ _ _ _ _ _ a (written-join g _ _ _ _ _ _ _ _ b (written-join g _ _ _ _ _ _ _ _ c (written-join g _ _ _ _ _ _ _ _ d e)))
+
+-- What became of a piece that was not cut
+module _ (g : Grid) (r : Rule) (p : Piece) where
+  pub settled-outside : (u : List ℕ) (at : ℕ) → kind g p ≡ outside → Settles g r u u at p (settled.Behind at)
+  unfolding Settles
+  settled-outside u at h = written-as g u u at at (shots-outside Straight g r p h) (written-none g u at)
+
+  pub settled-full : (u v : List ℕ) (at n : ℕ) → kind g p ≡ full → Written g u v at (p ∷ []) n → Settles g r u v at p (settled.Behind n)
+  unfolding Settles
+  settled-full u v at n h w = written-as g u v at n (shots-full Straight g r p h) w
+
+  pub not-settled : (u : List ℕ) (at : ℕ) → kind g p ≡ mixed → Settles g r u u at p settled.Mixed
+  unfolding Settles
+  not-settled u at h = (h, refl)
+
+  pub settled-behind : (u v : List ℕ) (at n : ℕ) (s : Settled) → s ≡ settled.Behind n → Settles g r u v at p s
+      → Written g u v at (shots Straight g r p) n
+  unfolding Settles
+  settled-behind u v at n s e h = subst (Settles g r u v at p) e h
+
+  pub settled-mixed : (u v : List ℕ) (at : ℕ) (s : Settled) → s ≡ settled.Mixed → Settles g r u v at p s → (kind g p ≡ mixed) × (v ≡ u)
+  unfolding Settles
+  settled-mixed u v at s e h = subst (Settles g r u v at p) e h
+
+-- a full piece is one shot
+pub full-one : (g : Grid) (r : Rule) (p : Piece) → kind g p ≡ full → length (shots Straight g r p) ≡ 1
+full-one g r p h = ap length (shots-full Straight g r p h)
+
+-- a mixed piece of the grid that there is room for is emitted
+pub ask-mixed : (t cs xs ys : List ℕ) (room : ℕ) (plan : Plan) (at : ℕ) (p : Numbered) (e : Emittable Straight t cs xs ys room plan at p)
+    → (q : Numbered) → Known plan q → {n room′ : ℕ} → room′ ≡ room
+    → n + 4 * length (shots Straight (e .grid) (e .rule) (meant (q .piece))) ≤ room
+    → kind (e .grid) (meant (q .piece)) ≡ mixed
+    → EmittableMixed t cs xs ys room′ plan n q
+ask-mixed t cs xs ys room plan at p e q k d h m = record {
+  emittable = record { grid = e .grid; rule = e .rule; walk = e .walk; known = k; fits = omega arith };
+  mixed = m;
+}

@@ -4,19 +4,23 @@ use outline::place_of;
 use piece::Piece;
 use verdict::Numbered;
 use verdict::Plan;
-use verdict::Verdict;
-use verdict::judge;
+use verdict::Sort;
+use verdict::halves;
+use verdict::sort_of;
 ghost use mathlib.Core.Path.{_≡_};
 ghost use mathlib.Core.List.{_∷_, []};
 ghost use Prim.Native.Nat.{_+_, _≤_};
 ghost use lib.ListN.{length, getD};
 ghost use lib.Seq.{sets};
+ghost use Rattle.recurrence.specs.Scheme.{mixed};
 ghost use Rattle.outline.specs.Grid.{Grid};
 ghost use Rattle.rule.specs.declared.Rule.{Rule};
 ghost use Rattle.piece.specs.declared.Mode.the-variants.{Straight};
+ghost use Rattle.piece.specs.Piece.{kind};
 ghost use Rattle.piece.specs.Meant.{meant};
 ghost use Rattle.piece.specs.Cuts.{shots};
-ghost use Rattle.emission.specs.Emission.{InLists, Written, Walk, Emittable};
+ghost use Rattle.verdict.specs.Memory.{Known};
+ghost use Rattle.emission.specs.Emission.{InLists, Written, Walk, Emittable, Settleable, Settles, EmittableMixed};
 
 pub mod measuring;
 pub mod pinwheel;
@@ -44,6 +48,67 @@ fn write_shot(
     at + 4
 }
 
+// What became of a piece that was not cut: its shots are written, one or none, up to this index; or it is mixed, and nothing is written.
+enum Settled {
+    Behind(usize),
+    Mixed,
+}
+
+// Settles a piece that needs no cut: where it is full it is a shot, written from the index at on; where it is outside there is nothing to write.
+fn settle(
+    costs: &[u32],
+    cells: &[u8],
+    xs: &[u16; MOST_LINES],
+    ys: &[u16; MOST_LINES],
+    list: &mut [u16],
+    at: usize,
+    p: Numbered,
+) -> Settled
+    requires { ⌜ Settleable (now costs) (now cells) (now xs) (now ys) (length (now list)) at p ⌝ }
+    ensures { λ s. ⌜ ((g : Grid) (r : Rule) (plan : Plan) → Walk Straight g r (now (costs .entry)) (now (cells .entry)) (now (xs .entry)) (now (ys .entry)) plan → Known plan p → Settles g r (now (list .entry)) (now (list .exit)) at (meant (p .piece)) s) ⌝ }
+{
+    let sort = sort_of(costs, cells, p);
+    match sort {
+        Sort::Outside => Settled::Behind(at),
+        Sort::Full => {
+            let shot = p.piece;
+            let behind = write_shot(xs, ys, list, at, shot);
+            Settled::Behind(behind)
+        }
+        Sort::Mixed => Settled::Mixed,
+    }
+}
+
+// Writes the shots of a mixed piece from the index at on, those of the low part of its cut before those of the high part; hands back the
+// index behind them. A part that needs no cut is settled where it arises: only a mixed one is a call.
+fn emit_mixed(
+    costs: &[u32],
+    cells: &[u8],
+    xs: &[u16; MOST_LINES],
+    ys: &[u16; MOST_LINES],
+    list: &mut [u16],
+    plan: Plan,
+    at: usize,
+    p: Numbered,
+) -> usize
+    requires { ⌜ EmittableMixed (now costs) (now cells) (now xs) (now ys) (length (now list)) plan at p ⌝ }
+    ensures { λ n. ⌜ ((g : Grid) (r : Rule) → Walk Straight g r (now (costs .entry)) (now (cells .entry)) (now (xs .entry)) (now (ys .entry)) plan → kind g (meant (p .piece)) ≡ mixed → Written g (now (list .entry)) (now (list .exit)) at (shots Straight g r (meant (p .piece))) n) ⌝ }
+{
+    let parts = halves(costs, plan, p);
+    let low = parts.low;
+    let high = parts.high;
+    let first = settle(costs, cells, xs, ys, list, at, low);
+    let next = match first {
+        Settled::Behind(n) => n,
+        Settled::Mixed => emit_mixed(costs, cells, xs, ys, list, plan, at, low),
+    };
+    let second = settle(costs, cells, xs, ys, list, next, high);
+    match second {
+        Settled::Behind(m) => m,
+        Settled::Mixed => emit_mixed(costs, cells, xs, ys, list, plan, next, high),
+    }
+}
+
 // Writes the shots of a piece from the index at on, those of the low part of a cut before those of the high part; hands back the index
 // behind them. Their slivers are not measured here: `measuring` tells their length from the cost.
 pub fn emit(
@@ -59,16 +124,9 @@ pub fn emit(
     requires { ⌜ Emittable Straight (now costs) (now cells) (now xs) (now ys) (length (now list)) plan at p ⌝ }
     ensures { λ n. ⌜ ((g : Grid) (r : Rule) → Walk Straight g r (now (costs .entry)) (now (cells .entry)) (now (xs .entry)) (now (ys .entry)) plan → Written g (now (list .entry)) (now (list .exit)) at (shots Straight g r (meant (p .piece))) n) ⌝ }
 {
-    let verdict = judge(costs, cells, plan, p);
-    match verdict {
-        Verdict::Outside => at,
-        Verdict::Shot => {
-            let shot = p.piece;
-            write_shot(xs, ys, list, at, shot)
-        }
-        Verdict::Cut(low, high) => {
-            let next = emit(costs, cells, xs, ys, list, plan, at, low);
-            emit(costs, cells, xs, ys, list, plan, next, high)
-        }
+    let settled = settle(costs, cells, xs, ys, list, at, p);
+    match settled {
+        Settled::Behind(n) => n,
+        Settled::Mixed => emit_mixed(costs, cells, xs, ys, list, plan, at, p),
     }
 }

@@ -3,11 +3,12 @@
 --   cuts-x, cuts-y                      : the piece's cuts in each direction, as the code has them
 --   part-x, part-y                      : the entries of their parts
 --   entry-within, cost-here             : the piece's entry is the table's, and what it has
---   verdict-outside, verdict-shot       : a piece that costs nothing; a piece that is inside in all cells
+--   is-outside, is-full, is-mixed       : a piece that costs nothing; a piece that is inside in all cells; neither
+--   verdict-outside, verdict-shot, verdict-mixed : what becomes of such pieces
 --   weighable-x, weighable-y            : its cuts in each direction are the table's
---   verdict-vertical, verdict-horizontal : the first line whose parts cost what the piece costs
+--   made-vertical, made-horizontal      : the parts of a mixed piece, by the first line whose parts cost what the piece costs
 --   turnable                            : where there is none, a pinwheel can be sought and found
---   verdict-wheel                       : the first pinwheel whose parts do
+--   made-wheel                          : the first pinwheel whose parts do
 --   level-found                         : by straight cuts alone a line is found
 use Prim.Native.Nat.{ℕ, _+_, _*_, _-_, _≤_, _<_}
 use mathlib.Core.Path.{_≡_, refl, ap, ap₂, sym, _∙_}
@@ -28,7 +29,7 @@ use Rattle.piece.specs.declared.Turn.{Turn}
 use Rattle.piece.specs.declared.Turn.the-variants.{First, Second}
 use Rattle.piece.specs.Piece.{Piece, box, kind, mostCost, leftPart, rightPart, lowerPart, upperPart}
 use Rattle.piece.specs.Meant.{meant}
-use Rattle.piece.specs.Cuts.{wheel, parts, Inner, cost}
+use Rattle.piece.specs.Cuts.{wheel, parts, Inner, cost, choice}
 use Rattle.piece.proofs.Cells as cell
 use Rattle.piece.proofs.Kind.{kind-all, full-cell}
 use Rattle.piece.proofs.Cuts.{Part, cuts-at, straight-only, cost-zero, cost-outside}
@@ -85,9 +86,12 @@ module _ (mode : Mode) (g : Grid) (r : Rule) (t cells : List ℕ) (plan : Plan) 
   pub cost-here : getD t n 0 ≡ cost mode g r (meant p)
   cost-here = ap (λ i. getD t i 0) (z .entry) ∙ f .cost-at (meant p) w
 
+  pub is-outside : getD t n 0 ≡ 0 → kind g (meant p) ≡ outside
+  is-outside e = cost-zero mode g r (meant p) (sym cost-here ∙ e)
+
   pub verdict-outside : getD t n 0 ≡ 0 → verdict.Outside ≡ verdictOf mode g r (meant p)
   unfolding verdictOf
-  verdict-outside e = rw (cost-zero mode g r (meant p) (sym cost-here ∙ e), verdictOf)
+  verdict-outside e = rw (is-outside e, verdictOf)
 
   -- the cells, as memory has them
   seen : (i j : ℕ) → Within p i j → (getD cells (16 * i + j) 0 ≡ only (g .inside i j) 1) × cell.Within (meant p) i j
@@ -104,12 +108,15 @@ module _ (mode : Mode) (g : Grid) (r : Rule) (t cells : List ℕ) (plan : Plan) 
       go true q = refl
       go false q = absurd (omega arith)
 
+  pub is-full : AllInside cells p true → kind g (meant p) ≡ full
+  is-full h =
+      kind-all g (meant p) (w .ac) (w .bd) (λ i j q. let z : Within p i j = record { a = q .a; c = q .c; b = q .b; d = q .d } in in-cell i j z (h i j z))
+
   pub verdict-shot : AllInside cells p true → verdict.Shot ≡ verdictOf mode g r (meant p)
   unfolding verdictOf
-  verdict-shot h =
-      rw (kind-all g (meant p) (w .ac) (w .bd) (λ i j q. let z : Within p i j = record { a = q .a; c = q .c; b = q .b; d = q .d } in in-cell i j z (h i j z)), verdictOf)
+  verdict-shot h = rw (is-full h, verdictOf)
 
-  is-mixed : (getD t n 0 ≡ 0 → ⊥) → AllInside cells p false → kind g (meant p) ≡ mixed
+  pub is-mixed : (getD t n 0 ≡ 0 → ⊥) → AllInside cells p false → kind g (meant p) ≡ mixed
   is-mixed e h = go (kind g (meant p)) refl
     where
       go : (k : Kind) → kind g (meant p) ≡ k → kind g (meant p) ≡ mixed
@@ -199,23 +206,25 @@ module _ (mode : Mode) (g : Grid) (r : Rule) (t cells : List ℕ) (plan : Plan) 
   sized : (q : Piece) (i : ℕ) → i ≡ entryOf (plan .columns) (plan .rows) q → i ≡ entryOf (g .columns) (g .rows) q
   sized q i e = e ∙ ap₂ (λ x y. entryOf x y q) (f .columns) (f .rows)
 
-  module _ (e : getD t n 0 ≡ 0 → ⊥) (h : AllInside cells p false) (u : Found)
-      (o : Finds t (cuts-x plan p n) (getD t n 0) u) where
+  -- what becomes of a mixed piece is what its cut makes of it
+  pub verdict-mixed : kind g (meant p) ≡ mixed → made g (meant p) (choice mode g r (meant p)) ≡ verdictOf mode g r (meant p)
+  unfolding verdictOf
+  verdict-mixed m = rw (m, verdictOf)
+
+  module _ (u : Found) (o : Finds t (cuts-x plan p n) (getD t n 0) u) where
     met-x : (j : ℕ) → p .a .0 < j → j < p .c .0 → cost mode g r (leftPart (meant p) j) + cost mode g r (rightPart (meant p) j) ≡ cost mode g r (meant p)
         → across t (cuts-x plan p n) j ≡ getD t n 0
     met-x j a b q = across-x j a b ∙ q ∙ sym cost-here
 
-    pub verdict-vertical : u .line .0 < p .c .0
+    pub made-vertical : u .line .0 < p .c .0
         → verdict.Cut (record { piece = record { a = p .a; c = u .line; b = p .b; d = p .d }; entry = u .lower })
         (record { piece = record { a = u .line; c = p .c; b = p .b; d = p .d }; entry = u .upper })
-        ≡ verdictOf mode g r (meant p)
-    unfolding verdictOf
-    verdict-vertical l =
+        ≡ made g (meant p) (choice mode g r (meant p))
+    made-vertical l =
         let i = u .line .0 in
         let s = o .first in
         let a : p .a .0 < i = omega (arith, s .least) in
-        rw (is-mixed e h, verdictOf)
-        (ap₂ (λ x y.
+        ap₂ (λ x y.
         verdict.Cut (record { piece = record { a = p .a; c = u .line; b = p .b; d = p .d }; entry = x })
         (record { piece = record { a = u .line; c = p .c; b = p .b; d = p .d }; entry = y }))
         (sized (leftPart (meant p) i) (u .lower) (o .lower l ∙ part-x plan p n (z .entry) (f .pairs) (p .a .0) i))
@@ -223,7 +232,7 @@ module _ (mode : Mode) (g : Grid) (r : Rule) (t cells : List ℕ) (plan : Plan) 
         ∙ ap (made g (meant p))
         (sym
         (choice-vertical mode g r (meant p) i a l (λ j b c q. s .passed j (omega arith) c (met-x j b (omega arith) q))
-        (sym (across-x i a l) ∙ s .found l ∙ cost-here))))
+        (sym (across-x i a l) ∙ s .found l ∙ cost-here)))
 
     module _ (v : Found) (y : Finds t (cuts-y plan p n) (getD t n 0) v) where
       met-y : (k : ℕ) → p .b .0 < k → k < p .d .0 → cost mode g r (lowerPart (meant p) k) + cost mode g r (upperPart (meant p) k) ≡ cost mode g r (meant p)
@@ -240,17 +249,15 @@ module _ (mode : Mode) (g : Grid) (r : Rule) (t cells : List ℕ) (plan : Plan) 
           → ⊥
       none-y l k a b q = y .first .passed k (omega arith) (omega arith) (met-y k a b q)
 
-      pub verdict-horizontal : p .c .0 ≤ u .line .0 → v .line .0 < p .d .0
+      pub made-horizontal : p .c .0 ≤ u .line .0 → v .line .0 < p .d .0
           → verdict.Cut (record { piece = record { a = p .a; c = p .c; b = p .b; d = v .line }; entry = v .lower })
           (record { piece = record { a = p .a; c = p .c; b = v .line; d = p .d }; entry = v .upper })
-          ≡ verdictOf mode g r (meant p)
-      unfolding verdictOf
-      verdict-horizontal l b =
+          ≡ made g (meant p) (choice mode g r (meant p))
+      made-horizontal l b =
           let j = v .line .0 in
           let s = y .first in
           let a : p .b .0 < j = omega (arith, s .least) in
-          rw (is-mixed e h, verdictOf)
-          (ap₂ (λ i k.
+          ap₂ (λ i k.
           verdict.Cut (record { piece = record { a = p .a; c = p .c; b = p .b; d = v .line }; entry = i })
           (record { piece = record { a = p .a; c = p .c; b = v .line; d = p .d }; entry = k }))
           (sized (lowerPart (meant p) j) (v .lower) (y .lower b ∙ part-y plan p n (z .entry) (f .pairs) (p .b .0) j))
@@ -258,17 +265,17 @@ module _ (mode : Mode) (g : Grid) (r : Rule) (t cells : List ℕ) (plan : Plan) 
           ∙ ap (made g (meant p))
           (sym
           (choice-horizontal mode g r (meant p) (none l) j a b (λ k c d q. s .passed k (omega arith) d (met-y k c (omega (arith, s .most)) q))
-          (sym (across-y j a b) ∙ s .found b ∙ cost-here))))
+          (sym (across-y j a b) ∙ s .found b ∙ cost-here)))
 
       -- no straight cut does, so the table is that of the pinwheel mode, and a pinwheel does
-      module _ (l : p .c .0 ≤ u .line .0) (k : p .d .0 ≤ v .line .0) where
+      module _ (sort : kind g (meant p) ≡ mixed) (l : p .c .0 ≤ u .line .0) (k : p .d .0 ≤ v .line .0) where
         pinwheel : mode ≡ Pinwheel
         pinwheel = go mode refl
           where
             go : (x : Mode) → mode ≡ x → mode ≡ Pinwheel
             go Straight q =
                 absurd
-                (choice-some mode g r (meant p) (is-mixed e h) (none l) (none-y k) (λ t j l k m z. absurd (straight-only (sym q ∙ z))))
+                (choice-some mode g r (meant p) sort (none l) (none-y k) (λ t j l k m z. absurd (straight-only (sym q ∙ z))))
             go Pinwheel q = q
 
         cost-part : {q : Piece} → Part q (meant p) → getD t (entryOf (plan .columns) (plan .rows) q) 0 ≡ cost mode g r q
@@ -317,7 +324,7 @@ module _ (mode : Mode) (g : Grid) (r : Rule) (t cells : List ℕ) (plan : Plan) 
         turnable = record { first = huntable First; second = huntable Second; some = some }
           where
             some : None t (sought plan p First (getD t n 0)) → None t (sought plan p Second (getD t n 0)) → ⊥
-            some a b = choice-some mode g r (meant p) (is-mixed e h) (none l) (none-y k) go
+            some a b = choice-some mode g r (meant p) sort (none l) (none-y k) go
               where
                 go : (x : Turn) (i j m o : ℕ) → mode ≡ Pinwheel → Inner (meant p) i j m o
                     → sumOf (cost mode g r) (parts (meant p) (wheel x i j m o)) ≡ cost mode g r (meant p)
@@ -331,26 +338,23 @@ module _ (mode : Mode) (g : Grid) (r : Rule) (t cells : List ℕ) (plan : Plan) 
         sized-wheel x i j m o q =
             ap verdict.Wheel (q ∙ ap₂ (λ a b. wheelIn a b (meant p) (wheel x i j m o)) (f .columns) (f .rows))
 
-        pub verdict-wheel : (c : Wheel) → FirstWheel t plan p (getD t n 0) c → verdict.Wheel c ≡ verdictOf mode g r (meant p)
-        unfolding verdictOf
-        verdict-wheel c (inl a) =
-            rw (is-mixed e h, verdictOf)
-            (sized-wheel First (a .j) (a .l) (a .k) (a .m) (a .is)
+        pub made-wheel : (c : Wheel) → FirstWheel t plan p (getD t n 0) c → verdict.Wheel c ≡ made g (meant p) (choice mode g r (meant p))
+        made-wheel c (inl a) =
+            sized-wheel First (a .j) (a .l) (a .k) (a .m) (a .is)
             ∙ ap (made g (meant p))
             (sym
             (choice-first mode g r (meant p) pinwheel (none l) (none-y k) (a .j) (a .l) (a .k) (a .m) (a .inner)
             (λ i j m o q b z. a .passed i j m o q b (wheel-met First i j m o q z))
-            (met-wheel First (a .j) (a .l) (a .k) (a .m) (a .inner) (a .meets)))))
-        verdict-wheel c (inr (b, a)) =
-            rw (is-mixed e h, verdictOf)
-            (sized-wheel Second (a .j) (a .l) (a .k) (a .m) (a .is)
+            (met-wheel First (a .j) (a .l) (a .k) (a .m) (a .inner) (a .meets))))
+        made-wheel c (inr (b, a)) =
+            sized-wheel Second (a .j) (a .l) (a .k) (a .m) (a .is)
             ∙ ap (made g (meant p))
             (sym
             (choice-second mode g r (meant p) pinwheel (none l) (none-y k) (λ i j m o q z. b i j m o q (wheel-met First i j m o q z))
             (a .j) (a .l) (a .k) (a .m) (a .inner)
             (λ i j m o q d z. a .passed i j m o q d (wheel-met Second i j m o q z))
-            (met-wheel Second (a .j) (a .l) (a .k) (a .m) (a .inner) (a .meets)))))
+            (met-wheel Second (a .j) (a .l) (a .k) (a .m) (a .inner) (a .meets))))
 
       -- by straight cuts alone there always is a line
-      pub level-found : mode ≡ Straight → p .c .0 ≤ u .line .0 → v .line .0 < p .d .0
-      level-found s l = elim (le-or (p .d .0) (v .line .0)) [ inl k ↦ absurd (straight-only (sym s ∙ pinwheel l k)) | inr k ↦ k ]
+      pub level-found : mode ≡ Straight → kind g (meant p) ≡ mixed → p .c .0 ≤ u .line .0 → v .line .0 < p .d .0
+      level-found s h l = elim (le-or (p .d .0) (v .line .0)) [ inl k ↦ absurd (straight-only (sym s ∙ pinwheel h l k)) | inr k ↦ k ]

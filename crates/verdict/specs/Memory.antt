@@ -6,16 +6,20 @@
 --   Known plan p                  == p is one of the pieces of a grid of that size, and has its own entry
 --   Judgeable mode table cells plan p
 --                                 == there are such a grid and such a rule, and p is one of the grid's pieces with its entry
+--   Sortable table cells p        == the same, by some plan and in some mode
+--   Cuttable table plan p         == the same by straight cuts, for some cells, and p is mixed
 use Prim.Native.Nat.{ℕ, _+_, _*_, _≤_, _<_}
 use mathlib.Core.Path.{_≡_}
 use mathlib.Core.List.{List}
 use lib.ListN.{length, getD}
 use Rattle.sum.specs.Sum.{only}
+use Rattle.recurrence.specs.Scheme.{mixed}
 use Rattle.outline.specs.Grid.{Grid, Sound}
 use Rattle.rule.specs.declared.Rule.{Rule}
 use Rattle.rule.specs.Rules.{limit}
 use Rattle.piece.specs.declared.Mode.{Mode}
-use Rattle.piece.specs.Piece.{Piece}
+use Rattle.piece.specs.declared.Mode.the-variants.{Straight}
+use Rattle.piece.specs.Piece.{Piece, kind}
 use Rattle.piece.specs.Meant.{meant}
 use Rattle.piece.specs.Cuts.{cost}
 use Rattle.table.specs.Entry.{Valid, pairCount, entryOf, entryCount}
@@ -42,3 +46,13 @@ pub record Judgeable (mode : Mode) (table cells : List ℕ) (plan : Plan) (p : N
   pub rule : Rule
   pub costed : Costed mode grid rule table cells plan
   pub known : Known plan p
+
+pub record Sortable (table cells : List ℕ) (p : Numbered) : Type 0 where
+  pub mode : Mode
+  pub plan : Plan
+  pub judgeable : Judgeable mode table cells plan p
+
+pub record Cuttable (table : List ℕ) (plan : Plan) (p : Numbered) : Type 0 where
+  pub cells : List ℕ
+  pub judgeable : Judgeable Straight table cells plan p
+  pub mixed : kind (judgeable .grid) (meant (p .piece)) ≡ mixed

@@ -7,10 +7,11 @@
 --   made g p k            == what becomes of p by the cut k: its low and its high part, left or bottom being low; or the parts of a pinwheel
 --   verdictOf mode g r p  == outside where no cell of p is inside; a shot where all of them are; else what becomes of it by the first cut in the
 --                            tie order whose parts cost what p costs, which is the least
---   plain v               == a verdict by straight cuts, as one of either mode
+--   kindOf s              == the sort s of a piece, as the definitions have it
+--   cutInto h             == the cut into the parts h, as a verdict
 use Prim.Native.Nat.{ℕ}
 use lib.ListN.{getD}
-use Rattle.recurrence.specs.Scheme.{outside, full, mixed}
+use Rattle.recurrence.specs.Scheme.{Kind, outside, full, mixed}
 use Rattle.outline.specs.Grid.{Grid}
 use Rattle.rule.specs.declared.Rule.{Rule}
 use Rattle.piece.specs.declared.Mode.{Mode}
@@ -18,8 +19,9 @@ use Rattle.piece.specs.Piece.{Piece, kind, leftPart, rightPart, lowerPart, uppe
 use Rattle.piece.specs.Cuts.{Cut, vertical, horizontal, wheel, parts, choice}
 use Rattle.table.specs.Entry.{entryOf}
 use Rattle.verdict.specs.declared.Numbered.{Numbered}
-use Rattle.verdict.specs.declared.Verdict.{Verdict}
-use Rattle.verdict.specs.declared.Verdict.the-variants as straight
+use Rattle.verdict.specs.declared.Sort.{Sort}
+use Rattle.verdict.specs.declared.Sort.the-variants as sort
+use Rattle.verdict.specs.declared.Parts.{Parts}
 use Rattle.verdict.specs.declared.pinwheel.Wheel.{Wheel}
 use Rattle.verdict.specs.declared.pinwheel.Turned.{Turned}
 use Rattle.verdict.specs.declared.pinwheel.Turned.the-variants as verdict
@@ -53,7 +55,10 @@ made g p (wheel t j l k m) = verdict.Wheel (wheelIn (g .columns) (g .rows) p (wh
 unfoldable pub verdictOf : Mode → Grid → Rule → Piece → Turned
 verdictOf mode g r p = elim (kind g p) [ outside ↦ verdict.Outside | full ↦ verdict.Shot | mixed ↦ made g p (choice mode g r p) ]
 
-abbrev pub plain : Verdict → Turned
-plain straight.Outside = verdict.Outside
-plain straight.Shot = verdict.Shot
-plain (straight.Cut l h) = verdict.Cut l h
+abbrev pub kindOf : Sort → Kind
+kindOf sort.Outside = outside
+kindOf sort.Full = full
+kindOf sort.Mixed = mixed
+
+abbrev pub cutInto : Parts → Turned
+cutInto h = verdict.Cut (h .low) (h .high)

@@ -1,17 +1,22 @@
-// The verdict of a piece, from the table of costs and the cells.
+// What becomes of a piece, from the table of costs and the cells: its sort, and where it is mixed the parts of its cut.
 use outline::Line;
 use outline::MOST_LINES;
 use piece::Piece;
 use rule::Rule;
 ghost use mathlib.Core.Path.{_≡_};
-ghost use Prim.Native.Nat.{_+_, _*_, _≤_};
+ghost use mathlib.Core.List.{List};
+ghost use Prim.Native.Nat.{ℕ, _+_, _*_, _≤_};
 ghost use lib.ListN.{length, getD};
+ghost use Rattle.recurrence.specs.Scheme.{mixed};
 ghost use Rattle.outline.specs.Grid.{Grid};
+ghost use Rattle.piece.specs.declared.Mode.{Mode};
 ghost use Rattle.piece.specs.declared.Mode.the-variants.{Straight};
+ghost use Rattle.piece.specs.Piece.{kind};
 ghost use Rattle.piece.specs.Meant.{meant};
-ghost use Rattle.verdict.specs.Memory.{Costed, Judgeable};
+ghost use Rattle.piece.specs.Cuts.{choice};
+ghost use Rattle.verdict.specs.Memory.{Costed, Known, Sortable, Cuttable};
 ghost use Rattle.verdict.specs.Search.{FirstWith, AllInside, Weighable, Finds};
-ghost use Rattle.verdict.specs.Verdict.{plain, verdictOf};
+ghost use Rattle.verdict.specs.Verdict.{kindOf, cutInto, made};
 
 pub mod pinwheel;
 
@@ -21,11 +26,17 @@ pub struct Numbered {
     pub entry: usize,
 }
 
-// What becomes of a piece by straight cuts: nothing of it is inside, or all of it is one shot, or it is cut, into its low and its high part.
-pub enum Verdict {
+// The sort of a piece: none of its cells is inside, or all of them are, or some are and some are not.
+pub enum Sort {
     Outside,
-    Shot,
-    Cut(Numbered, Numbered),
+    Full,
+    Mixed,
+}
+
+// The parts of a straight cut: the left or the lower one, and the right or the upper one.
+pub struct Parts {
+    pub low: Numbered,
+    pub high: Numbered,
 }
 
 // What a walk over the pieces goes by besides the lent slices: the size of the grid, the count of its pairs of y lines, and the rule.
@@ -120,21 +131,31 @@ fn first_line(table: &[u32], cuts: Cuts, cost: u32) -> Found
     }
 }
 
-// The verdict of a piece. What costs nothing is outside; what is inside in all cells is a shot; else the cut is the first, vertical ones first and
-// the lower line first, whose parts cost together what the piece costs. There always is one.
-pub fn judge(costs: &[u32], cells: &[u8], plan: Plan, p: Numbered) -> Verdict
-    requires { ⌜ Judgeable Straight (now costs) (now cells) plan p ⌝ }
-    ensures { λ v. ⌜ ((g : Grid) (r : Rule) → Costed Straight g r (now (costs .entry)) (now (cells .entry)) plan → plain v ≡ verdictOf Straight g r (meant (p .piece))) ⌝ }
+// The sort of a piece. What costs nothing is outside; only of other pieces the cells are looked at.
+pub fn sort_of(costs: &[u32], cells: &[u8], p: Numbered) -> Sort
+    requires { ⌜ Sortable (now costs) (now cells) p ⌝ }
+    ensures { λ s. ⌜ ((mode : Mode) (g : Grid) (r : Rule) (plan : Plan) → Costed mode g r (now (costs .entry)) (now (cells .entry)) plan → Known plan p → kindOf s ≡ kind g (meant (p .piece))) ⌝ }
+{
+    let entry = p.entry;
+    let cost = costs[entry];
+    if cost == 0 {
+        return Sort::Outside;
+    }
+    if all_inside(cells, p.piece) {
+        return Sort::Full;
+    }
+    Sort::Mixed
+}
+
+// The parts of a mixed piece: its cut is the first, vertical ones first and the lower line first, whose parts cost together what the
+// piece costs. There always is one.
+pub fn halves(costs: &[u32], plan: Plan, p: Numbered) -> Parts
+    requires { ⌜ Cuttable (now costs) plan p ⌝ }
+    ensures { λ h. ⌜ ((g : Grid) (r : Rule) (cells : List ℕ) → Costed Straight g r (now (costs .entry)) cells plan → kind g (meant (p .piece)) ≡ mixed → cutInto h ≡ made g (meant (p .piece)) (choice Straight g r (meant (p .piece)))) ⌝ }
 {
     let piece = p.piece;
     let entry = p.entry;
     let cost = costs[entry];
-    if cost == 0 {
-        return Verdict::Outside;
-    }
-    if all_inside(cells, piece) {
-        return Verdict::Shot;
-    }
     let a = piece.a;
     let c = piece.c;
     let upright = first_line(
@@ -150,16 +171,16 @@ pub fn judge(costs: &[u32], cells: &[u8], plan: Plan, p: Numbered) -> Verdict
     );
     let i = upright.line;
     if i.0 < c.0 {
-        return Verdict::Cut(
-            Numbered {
+        return Parts {
+            low: Numbered {
                 piece: Piece { c: i, ..piece },
                 entry: upright.lower,
             },
-            Numbered {
+            high: Numbered {
                 piece: Piece { a: i, ..piece },
                 entry: upright.upper,
             },
-        );
+        };
     }
     let b = piece.b;
     let d = piece.d;
@@ -175,14 +196,14 @@ pub fn judge(costs: &[u32], cells: &[u8], plan: Plan, p: Numbered) -> Verdict
         cost,
     );
     let j = level.line;
-    Verdict::Cut(
-        Numbered {
+    Parts {
+        low: Numbered {
             piece: Piece { d: j, ..piece },
             entry: level.lower,
         },
-        Numbered {
+        high: Numbered {
             piece: Piece { b: j, ..piece },
             entry: level.upper,
         },
-    )
+    }
 }

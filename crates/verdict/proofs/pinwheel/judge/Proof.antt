@@ -1,15 +1,31 @@
 -- `verdict::pinwheel::judge` meets its contract: each exit by one law of Judged. Assumes nothing.
+use mathlib.Core.Path.{_≡_, _∙_}
 use native.Mathlib.Omega.{arith}
 use borrow.Author.Needs.{needs}
+use Rattle.recurrence.specs.Scheme.{mixed}
+use Rattle.outline.specs.Grid.{Grid}
+use Rattle.rule.specs.declared.Rule.{Rule}
 use Rattle.piece.specs.declared.Mode.the-variants.{Pinwheel}
+use Rattle.piece.specs.Piece.{kind}
+use Rattle.piece.specs.Meant.{meant}
+use Rattle.verdict.specs.Memory.{Costed}
 use Rattle.verdict.proofs.Search.{inside-said}
-use Rattle.verdict.proofs.Judged.{entry-within, verdict-outside, verdict-shot, weighable-x, weighable-y, verdict-vertical, verdict-horizontal, turnable, verdict-wheel}
+use Rattle.verdict.proofs.Judged.{entry-within, is-mixed, verdict-outside, verdict-shot, verdict-mixed, weighable-x, weighable-y, made-vertical, made-horizontal, turnable, made-wheel}
 use Rattle.verdict.proofs.pinwheel.judge.Statement.{statement}
 use Rattle.verdict.proofs.pinwheel.judge.Tie as tie
 
 -- the function's entry, from where the piece is known to be cut
 abbrev start : tie.Else2 → tie.Start
 start k = k .before .before .before .before .before .before .before
+
+-- the piece is mixed there
+sort : (k : tie.Else2) (g : Grid) (r : Rule)
+    → Costed Pinwheel g r (start k .args .costs .now) (start k .args .cells .now) (start k .args .plan)
+    → kind g (meant (start k .args .p .piece)) ≡ mixed
+sort k g r f =
+    let s = start k in
+    is-mixed Pinwheel g r _ _ _ f (s .args .p .piece) (s .args .p .entry) (s .pre .known) (k .before .before .if1 .left)
+    (inside-said _ (s .args .p .piece) (k .if2 .left) (k .before .all-inside .ensures))
 
 mul-cost : tie.Need-mul-cost
 mul-cost c =
@@ -46,11 +62,8 @@ returns-3 c g r f =
     let u = t .before .before .before .before in
     let k = u .before .before .before in
     let s = start k in
-    verdict-vertical Pinwheel g r _ _ _ f (s .args .p .piece) (s .args .p .entry) (s .pre .known) (k .before .before .if1 .left)
-    (inside-said _ (s .args .p .piece) (k .if2 .left) (k .before .all-inside .ensures))
-    _
-    (u .first-line .ensures)
-    (t .if3 .taken)
+    made-vertical Pinwheel g r _ _ _ f (s .args .p .piece) (s .args .p .entry) (s .pre .known) _ (u .first-line .ensures) (t .if3 .taken)
+    ∙ verdict-mixed Pinwheel g r _ _ _ f (s .args .p .piece) (s .args .p .entry) (s .pre .known) (sort k g r f)
 
 first-line-requires-2 : tie.Need-first-line-requires-2
 first-line-requires-2 c κs =
@@ -65,14 +78,14 @@ returns-4 c g r f =
     let u = t .before .before .before .before in
     let k = u .before .before .before in
     let s = start k in
-    verdict-horizontal Pinwheel g r _ _ _ f (s .args .p .piece) (s .args .p .entry) (s .pre .known) (k .before .before .if1 .left)
-    (inside-said _ (s .args .p .piece) (k .if2 .left) (k .before .all-inside .ensures))
+    made-horizontal Pinwheel g r _ _ _ f (s .args .p .piece) (s .args .p .entry) (s .pre .known)
     _
     (u .first-line .ensures)
     _
     (v .first-line2 .ensures)
     (t .if3 .left)
     (y .if4 .taken)
+    ∙ verdict-mixed Pinwheel g r _ _ _ f (s .args .p .piece) (s .args .p .entry) (s .pre .known) (sort k g r f)
 
 first-wheel-requires : tie.Need-first-wheel-requires
 first-wheel-requires c κs =
@@ -81,12 +94,12 @@ first-wheel-requires c κs =
     let u = t .before .before .before .before in
     let k = u .before .before .before in
     let s = start k in
-    turnable _ _ _ _ _ _ (s .pre .costed) (s .args .p .piece) (s .args .p .entry) (s .pre .known) (k .before .before .if1 .left)
-    (inside-said _ (s .args .p .piece) (k .if2 .left) (k .before .all-inside .ensures))
+    turnable _ _ _ _ _ _ (s .pre .costed) (s .args .p .piece) (s .args .p .entry) (s .pre .known)
     _
     (u .first-line .ensures)
     _
     (v .first-line2 .ensures)
+    (sort k (s .pre .grid) (s .pre .rule) (s .pre .costed))
     (t .if3 .left)
     (c .if4 .left)
 
@@ -98,16 +111,17 @@ returns-5 c g r f =
     let u = t .before .before .before .before in
     let k = u .before .before .before in
     let s = start k in
-    verdict-wheel Pinwheel g r _ _ _ f (s .args .p .piece) (s .args .p .entry) (s .pre .known) (k .before .before .if1 .left)
-    (inside-said _ (s .args .p .piece) (k .if2 .left) (k .before .all-inside .ensures))
+    made-wheel Pinwheel g r _ _ _ f (s .args .p .piece) (s .args .p .entry) (s .pre .known)
     _
     (u .first-line .ensures)
     _
     (v .first-line2 .ensures)
+    (sort k g r f)
     (t .if3 .left)
     (y .if4 .left)
     _
     (c .first-wheel .ensures)
+    ∙ verdict-mixed Pinwheel g r _ _ _ f (s .args .p .piece) (s .args .p .entry) (s .pre .known) (sort k g r f)
 
 pub judge-spec : {M : Type 1} → statement M
 judge-spec =
