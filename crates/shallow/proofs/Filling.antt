@@ -7,12 +7,12 @@
 --   asks-*                 == what the steps of a turn ask
 --   row-empty, row-next    == a row of cells before the first column, and before the next turn
 --   Turn                   == a strip in its turn
---   turn-one, turn-two, turn-three, turn-four
+--   turn-one, turn-two, turn-three, turn-four, turn-five
 --                          == what is known of its rows once they have grown by its last column
---   one-right, two-right, three-right, four-right
+--   one-right, two-right, three-right, four-right, five-right
 --                          == the costs of a strip by the numbers of its y pairs
---   to-ready, to-reached, back-filled, four-left
---                          == one to four rows, as the choice among them finds their count
+--   to-ready, to-reached, back-filled, five-left
+--                          == one to five rows, as the choice among them finds their count
 use Prim.Native.Nat.{ℕ, zero, suc, _+_, _*_, _-_, _≤_, _<_}
 use mathlib.Core.Path.{_≡_, refl, sym, _∙_, ap, ap₂, subst}
 use mathlib.Core.Logic.{_⊎_, inl, inr}
@@ -34,12 +34,13 @@ use Rattle.table.proofs.Pairs.{row-before, row-most}
 use Rattle.table.proofs.Fill.{beyond-none, beyond-trans, reached-at}
 use Rattle.shallow.specs.declared.cuts.Strip.{Strip}
 use Rattle.shallow.specs.declared.cuts.Three.{Three}
+use Rattle.shallow.specs.declared.rows.Five.{Five}
 use Rattle.shallow.specs.declared.rows.Ten.{Ten}
 use Rattle.shallow.specs.declared.sums.Sums.{Sums}
 use Rattle.shallow.specs.Sums.{Summed, Whole, Small, emptyOf, grownRow}
-use Rattle.shallow.specs.Rows.{Placed, OneRow, TwoRows, TopTwo, ThreeRows, LowThree, FourRows, TopFour, up2, up3, up4, threeAt, tenAt}
+use Rattle.shallow.specs.Rows.{Placed, OneRow, TwoRows, TopTwo, ThreeRows, LowThree, FourRows, FiveRows, TopFour, LowFive, up2, up3, up4, threeAt, tenAt}
 use Rattle.shallow.proofs.Parting.{low-entry, low-first}
-use Rattle.shallow.proofs.Settling.{sixAt, low-pair}
+use Rattle.shallow.proofs.Settling.{sixAt, fifteenAt, low-pair}
 use Rattle.shallow.proofs.Summing.{summed-small, summed-none, whole-grown}
 
 -- a strip stored
@@ -327,6 +328,45 @@ module _ (g : Grid) (r : Rule) (a c : ℕ) where
   four-right x w (suc (suc (suc zero))) (suc (suc (suc (suc (suc d))))) h k = absurd (omega arith)
   four-right x w (suc (suc (suc (suc b)))) d h k = absurd (omega arith)
 
+  pub five-right : (x : Five) (y : Ten) → LowFive g r a c x → TopFour g r a c 1 y → (b d : ℕ) → b < d → d ≤ 5 → fifteenAt x y (pairNo 5 b d) ≡ cost Straight g r (box a c b d)
+  unfolding fifteenAt pairNo pairsBelow
+  five-right x y w v zero zero h k = absurd (omega arith)
+  five-right x y w v zero (suc zero) h k = w .three-are .first-is
+  five-right x y w v zero (suc (suc zero)) h k = w .three-are .second-is
+  five-right x y w v zero (suc (suc (suc zero))) h k = w .three-are .third-is
+  five-right x y w v zero (suc (suc (suc (suc zero)))) h k = w .fourth-is
+  five-right x y w v zero (suc (suc (suc (suc (suc zero))))) h k = w .whole-is
+  five-right x y w v zero (suc (suc (suc (suc (suc (suc d)))))) h k = absurd (omega arith)
+  five-right x y w v (suc zero) zero h k = absurd (omega arith)
+  five-right x y w v (suc zero) (suc zero) h k = absurd (omega arith)
+  five-right x y w v (suc zero) (suc (suc zero)) h k = v .lowest-are .first-is
+  five-right x y w v (suc zero) (suc (suc (suc zero))) h k = v .lowest-are .second-is
+  five-right x y w v (suc zero) (suc (suc (suc (suc zero)))) h k = v .lowest-are .third-is
+  five-right x y w v (suc zero) (suc (suc (suc (suc (suc zero))))) h k = v .whole-is
+  five-right x y w v (suc zero) (suc (suc (suc (suc (suc (suc d)))))) h k = absurd (omega arith)
+  five-right x y w v (suc (suc zero)) zero h k = absurd (omega arith)
+  five-right x y w v (suc (suc zero)) (suc zero) h k = absurd (omega arith)
+  five-right x y w v (suc (suc zero)) (suc (suc zero)) h k = absurd (omega arith)
+  five-right x y w v (suc (suc zero)) (suc (suc (suc zero))) h k = v .second-are .first-is
+  five-right x y w v (suc (suc zero)) (suc (suc (suc (suc zero)))) h k = v .second-are .second-is
+  five-right x y w v (suc (suc zero)) (suc (suc (suc (suc (suc zero))))) h k = v .second-are .third-is
+  five-right x y w v (suc (suc zero)) (suc (suc (suc (suc (suc (suc d)))))) h k = absurd (omega arith)
+  five-right x y w v (suc (suc (suc zero))) zero h k = absurd (omega arith)
+  five-right x y w v (suc (suc (suc zero))) (suc zero) h k = absurd (omega arith)
+  five-right x y w v (suc (suc (suc zero))) (suc (suc zero)) h k = absurd (omega arith)
+  five-right x y w v (suc (suc (suc zero))) (suc (suc (suc zero))) h k = absurd (omega arith)
+  five-right x y w v (suc (suc (suc zero))) (suc (suc (suc (suc zero)))) h k = v .top-are .first-is
+  five-right x y w v (suc (suc (suc zero))) (suc (suc (suc (suc (suc zero))))) h k = v .top-are .second-is
+  five-right x y w v (suc (suc (suc zero))) (suc (suc (suc (suc (suc (suc d)))))) h k = absurd (omega arith)
+  five-right x y w v (suc (suc (suc (suc zero)))) zero h k = absurd (omega arith)
+  five-right x y w v (suc (suc (suc (suc zero)))) (suc zero) h k = absurd (omega arith)
+  five-right x y w v (suc (suc (suc (suc zero)))) (suc (suc zero)) h k = absurd (omega arith)
+  five-right x y w v (suc (suc (suc (suc zero)))) (suc (suc (suc zero))) h k = absurd (omega arith)
+  five-right x y w v (suc (suc (suc (suc zero)))) (suc (suc (suc (suc zero)))) h k = absurd (omega arith)
+  five-right x y w v (suc (suc (suc (suc zero)))) (suc (suc (suc (suc (suc zero))))) h k = v .top-are .third-is
+  five-right x y w v (suc (suc (suc (suc zero)))) (suc (suc (suc (suc (suc (suc d)))))) h k = absurd (omega arith)
+  five-right x y w v (suc (suc (suc (suc (suc b))))) d h k = absurd (omega arith)
+
 -- a strip in its turn, and the rows of which have grown by its last column
 pub record Turn (columns rows : ℕ) (xs ys cs : List ℕ) (r : Rule) (t u : List ℕ) (strip : Strip) (at step : ℕ) : Type 0 where
   pub ready : Ready (stored columns rows xs ys cs) r xs ys cs t
@@ -401,10 +441,32 @@ module _ (columns : ℕ) (xs ys cs : List ℕ) (r : Rule) (t u : List ℕ) (stri
       record {
         placed = placed columns (up4 b) xs ys cs r t u strip at step k;
         rows-are = refl;
-        lowest-sums = grown columns (up4 b) xs ys cs r t u strip at step k b lowest new₀ (omega arith) w₀ e₀;
-        second-sums = grown columns (up4 b) xs ys cs r t u strip at step k (suc b) second new₁ (omega arith) w₁ e₁;
-        third-sums = grown columns (up4 b) xs ys cs r t u strip at step k (up2 b) third new₂ (omega arith) w₂ e₂;
-        highest-sums = grown columns (up4 b) xs ys cs r t u strip at step k (up3 b) highest new₃ (omega arith) w₃ e₃;
+        sums =
+            record {
+              sound = placed columns (up4 b) xs ys cs r t u strip at step k .sound;
+              ac = omega (arith, k .strips .above);
+              cx = k .cx;
+              within = omega arith;
+              lowest-sums = grown columns (up4 b) xs ys cs r t u strip at step k b lowest new₀ (omega arith) w₀ e₀;
+              second-sums = grown columns (up4 b) xs ys cs r t u strip at step k (suc b) second new₁ (omega arith) w₁ e₁;
+              third-sums = grown columns (up4 b) xs ys cs r t u strip at step k (up2 b) third new₂ (omega arith) w₂ e₂;
+              highest-sums = grown columns (up4 b) xs ys cs r t u strip at step k (up3 b) highest new₃ (omega arith) w₃ e₃;
+            };
+      }
+
+  pub turn-five : Turn columns 5 xs ys cs r t u strip at step → (lowest new second third fourth highest : Sums) (above : Ten)
+      → Summed (stored columns 5 xs ys cs) (strip .a .0) (strip .c .0 - 1) 0 1 lowest → new ≡ grownRow cs r strip step 0 lowest
+      → FourRows (stored columns 5 xs ys cs) r strip 1 second third fourth highest u
+      → TopFour (stored columns 5 xs ys cs) r (strip .a .0) (strip .c .0) 1 above
+      → FiveRows (stored columns 5 xs ys cs) r strip new second third fourth highest above u
+  unfolding stored
+  turn-five k lowest new second third fourth highest above w e four costs =
+      record {
+        placed = four .placed;
+        rows-are = refl;
+        lowest-sums = grown columns 5 xs ys cs r t u strip at step k 0 lowest new (omega arith) w e;
+        upper-sums = four .sums;
+        above-costs = costs;
       }
 
 -- the count of rows, as it was found
@@ -419,10 +481,11 @@ module _ (columns count n : ℕ) (e : count ≡ n) (xs ys cs : List ℕ) (r : Ru
       → Reached Straight (stored columns count xs ys cs) r u a c × Beyond (entryCount columns count) t u
   back-filled t u a c w = subst (λ m. Reached Straight (stored columns m xs ys cs) r u a c × Beyond (entryCount columns m) t u) (sym e) w
 
-pub four-left : (n : ℕ) → 1 ≤ n → n ≤ 4 → (n ≡ 1 → ⊥) → (n ≡ 2 → ⊥) → (n ≡ 3 → ⊥) → n ≡ 4
-four-left zero h k p q r = absurd (omega arith)
-four-left (suc zero) h k p q r = absurd (p refl)
-four-left (suc (suc zero)) h k p q r = absurd (q refl)
-four-left (suc (suc (suc zero))) h k p q r = absurd (r refl)
-four-left (suc (suc (suc (suc zero)))) h k p q r = refl
-four-left (suc (suc (suc (suc (suc n))))) h k p q r = absurd (omega arith)
+pub five-left : (n : ℕ) → 1 ≤ n → n ≤ 5 → (n ≡ 1 → ⊥) → (n ≡ 2 → ⊥) → (n ≡ 3 → ⊥) → (n ≡ 4 → ⊥) → n ≡ 5
+five-left zero h k p q r s = absurd (omega arith)
+five-left (suc zero) h k p q r s = absurd (p refl)
+five-left (suc (suc zero)) h k p q r s = absurd (q refl)
+five-left (suc (suc (suc zero))) h k p q r s = absurd (r refl)
+five-left (suc (suc (suc (suc zero)))) h k p q r s = absurd (s refl)
+five-left (suc (suc (suc (suc (suc zero))))) h k p q r s = refl
+five-left (suc (suc (suc (suc (suc (suc n)))))) h k p q r s = absurd (omega arith)

@@ -3,14 +3,15 @@
 --   placed-cuttable        == the vertical cuts of a strip of the grid can be weighed
 --   whole-ready            == the sums of its pieces are small
 --   cost-fits              == two costs together fit
---   across, across-none, across-more
+--   threes-fit             == and so do three and three
+--   across, across-none, across-more, across-three, least-made
 --                          == the horizontal cuts of a piece, and the least of them so far
 --   piece-cost, row-cost   == the cost of a piece, and of one of one row
 --   pairs-*                == how many pieces a strip has
---   low-pair, next-pairs, next-room
+--   low-pair, next-pairs, next-room, high-pairs
 --                          == where the pieces that begin at one line stand
 --   top-pairs, four-pairs  == where the pieces of the two and of the four highest rows stand
---   sixAt, one-wrote, three-wrote, threes-*, six-wrote, ten-wrote
+--   sixAt, fifteenAt, one-wrote, three-wrote, threes-*, six-wrote, five-wrote, ten-wrote, fifteen-wrote
 --                          == what the stores of a strip write
 use Prim.Native.Nat.{ℕ, zero, suc, _+_, _*_, _-_, _≤_, _<_, _^_, min}
 use mathlib.Core.Path.{_≡_, refl, sym, _∙_, ap, ap₂, subst}
@@ -35,12 +36,13 @@ use Rattle.table.proofs.Run.{wrote-none, wrote-more, lowest-none, lowest-more, 
 use Rattle.table.proofs.Judging.{judged-piece}
 use Rattle.shallow.specs.declared.cuts.Strip.{Strip}
 use Rattle.shallow.specs.declared.cuts.Three.{Three}
+use Rattle.shallow.specs.declared.rows.Five.{Five}
 use Rattle.shallow.specs.declared.rows.Ten.{Ten}
 use Rattle.shallow.specs.declared.sums.Sums.{Sums}
 use Rattle.shallow.specs.Sums.{Whole, Small, shotOf}
 use Rattle.shallow.specs.Cuts.{Cuttable}
-use Rattle.shallow.specs.Rows.{Placed, up2, up3, up4, threeAt, tenAt}
-use Rattle.shallow.proofs.Summing.{summed-small, flanks-most, whole-shot}
+use Rattle.shallow.specs.Rows.{Placed, LowThree, HighThree, Addable, leastOf, up2, up3, up4, threeAt, fiveAt, tenAt}
+use Rattle.shallow.proofs.Summing.{whole-small, whole-shot}
 
 -- what the two parts of the piece between the y lines b and d cost together, cut at the line j
 unfoldable pub across : Grid → Rule → ℕ → ℕ → ℕ → ℕ → ℕ → ℕ
@@ -58,6 +60,21 @@ across-more g r a c b d j v m y z x h ey ez e w =
     let n : j + 1 ≡ suc j = omega arith in
     rw e (subst (λ l. Lowest (across g r a c b d) b l v (min m (y + z))) n
     (lowest-more (across g r a c b d) b j v m (y + z) h (ap₂ _+_ ey ez) w))
+
+-- with the three lowest lines, and as the code weighs them
+pub least-made : (v p q n : ℕ) (x y : Three) → p ≡ min v (x .first + y .first) → q ≡ min p (x .second + y .second) → n ≡ min q (x .third + y .third)
+    → n ≡ leastOf v x y
+unfolding leastOf
+least-made v p q n x y e f h = h ∙ ap (λ m. min m (x .third + y .third)) (f ∙ ap (λ m. min m (x .second + y .second)) e)
+
+pub across-three : (g : Grid) (r : Rule) (a c b d v : ℕ) (x y : Three) → LowThree g r a c b x → HighThree g r a c (suc b) d y
+    → Lowest (across g r a c b d) b (up4 b) v (leastOf v x y)
+unfolding leastOf
+across-three g r a c b d v x y low high =
+    across-more g r a c b d (up3 b) v _ (x .third) (y .third) _ (omega arith) (low .third-is) (high .third-is) refl
+    (across-more g r a c b d (up2 b) v _ (x .second) (y .second) _ (omega arith) (low .second-is) (high .second-is) refl
+    (across-more g r a c b d (suc b) v v (x .first) (y .first) _ (omega arith) (low .first-is) (high .first-is) refl
+    (across-none g r a c b d v)))
 
 module _ (g : Grid) (r : Rule) (s : Strip) (t : List ℕ) (k : Placed g r s t) where
   abbrev a : ℕ
@@ -116,15 +133,20 @@ module _ (g : Grid) (r : Rule) (s : Strip) (t : List ℕ) (k : Placed g r s t) w
       }
 
   pub whole-ready : (b d : ℕ) (sums : Sums) → b ≤ d → d ≤ g .rows → Whole g r a c b d sums → Small sums × (sums .flanks ≤ 131070)
-  whole-ready b d sums q l w = (
-    summed-small g (k .sound) a c b d sums (omega (arith, k .ac)) (k .cx) q l (w .summed),
-    flanks-most g (k .sound) r a c b d sums q w,
-  )
+  whole-ready b d sums q l w = whole-small g (k .sound) r a c b d sums (omega (arith, k .ac)) (k .cx) q l w
 
   -- two costs together fit
   pub cost-fits : (b d x y : ℕ) (e f : ℕ) → b < d → d ≤ g .rows → x < y → y ≤ g .rows → e ≡ cost Straight g r (box a c b d) → f ≡ cost Straight g r (box a c x y)
       → e + f < 2 ^ 32
   cost-fits b d x y e f h l p q m n = omega (arith, price-most a c b d (k .ac) (k .cx) h l, price-most a c x y (k .ac) (k .cx) p q)
+
+  pub threes-fit : (b d : ℕ) (x y : Three) → up4 b ≤ d → d ≤ g .rows → LowThree g r a c b x → HighThree g r a c (suc b) d y → Addable x y
+  threes-fit b d x y h l low high =
+      record {
+        first = cost-fits b (suc b) (suc b) d (x .first) (y .first) (omega arith) (omega arith) (omega arith) l (low .first-is) (high .first-is);
+        second = cost-fits b (up2 b) (up2 b) d (x .second) (y .second) (omega arith) (omega arith) (omega arith) l (low .second-is) (high .second-is);
+        third = cost-fits b (up3 b) (up3 b) d (x .third) (y .third) (omega arith) (omega arith) (omega arith) l (low .third-is) (high .third-is);
+      }
 
   -- the cost of a piece, from its sums, its vertical cuts and its horizontal ones
   pub piece-cost : (b d i v best x : ℕ) (sums : Sums) → b < d → d ≤ g .rows → Whole g r a c b d sums → i ≡ pairNo (g .rows) b d
@@ -166,6 +188,10 @@ pub pairs-three : (rows : ℕ) → rows ≡ 3 → pairCount rows ≡ 6
 unfolding pairCount pairsBelow
 pairs-three rows e = ap pairCount e
 
+pub pairs-five : (rows : ℕ) → rows ≡ 5 → pairCount rows ≡ 15
+unfolding pairCount pairsBelow
+pairs-five rows e = ap pairCount e
+
 pub pairs-four : (rows : ℕ) → rows ≡ 4 → pairCount rows ≡ 10
 unfolding pairCount pairsBelow
 pairs-four rows e = ap pairCount e
@@ -181,6 +207,11 @@ next-pairs rows b i e = omega arith
 
 pub next-room : (rows b i : ℕ) → up3 b ≤ rows → i ≡ pairNo rows b (suc b) → i + 3 ≤ pairCount rows
 next-room rows b i h e = omega (arith, next-pairs rows b i e .1, pair-below rows b (up3 b) (omega arith) h)
+
+-- where those of four and of five rows that begin at the lowest line stand
+pub high-pairs : (rows : ℕ) → (3 ≡ pairNo rows 0 4) × (4 ≡ pairNo rows 0 5)
+unfolding pairNo
+high-pairs rows = omega (arith, below-zero rows)
 
 -- where the pieces of the two highest rows stand
 pub top-pairs : (rows b : ℕ) → rows ≡ up2 b
@@ -210,6 +241,33 @@ three-wrote t at x h =
     let w₂ = wrote-more (threeAt x) at 1 t (set t at (x .first)) (x .second) (omega (arith, w₁ .long)) refl w₁ in
     wrote-more (threeAt x) at 2 t (set (set t at (x .first)) (at + 1) (x .second)) (x .third) (omega (arith, w₂ .long)) refl w₂
 
+-- in two goes
+wrote-both : (f g h : ℕ → ℕ) (at m n : ℕ) (t v u : List ℕ) → Wrote f at m t v → Wrote g (at + m) n v u
+    → ((i : ℕ) → i < m → f i ≡ h i) → ((i : ℕ) → i < n → g i ≡ h (m + i))
+    → Wrote h at (m + n) t u
+wrote-both f g h at m n t v u w o low high =
+    record {
+      long = o .long ∙ w .long;
+      made =
+          λ i q. elim (le-or m i) [
+            | inr p ↦ o .kept (at + i) (inl (omega arith)) ∙ w .made i p ∙ low i p
+            | inl p ↦
+                (let e : at + i ≡ at + m + (i - m) = omega arith in
+                let z : m + (i - m) ≡ i = omega arith in
+                let j : i - m < n = omega arith in
+                ap (λ l. getD u l 0) e ∙ o .made (i - m) j ∙ high (i - m) j ∙ ap h z)
+          ];
+      kept = λ l q. o .kept l (over l q) ∙ w .kept l (under l q);
+    }
+  where
+    over : (l : ℕ) → (l < at) ⊎ (at + (m + n) ≤ l) → (l < at + m) ⊎ (at + m + n ≤ l)
+    over l (inl q) = inl (omega arith)
+    over l (inr q) = inr (omega arith)
+
+    under : (l : ℕ) → (l < at) ⊎ (at + (m + n) ≤ l) → (l < at) ⊎ (at + m ≤ l)
+    under l (inl q) = inl q
+    under l (inr q) = inr (omega arith)
+
 -- three numbers among others
 three-same : (x : Three) (h : ℕ → ℕ) (m : ℕ) → x .first ≡ h m → x .second ≡ h (m + 1) → x .third ≡ h (m + 2) → (i : ℕ) → i < 3 → threeAt x i ≡ h (m + i)
 unfolding threeAt
@@ -221,28 +279,7 @@ three-same x h m p q r (suc (suc (suc i))) l = absurd (omega arith)
 pub threes-more : (h : ℕ → ℕ) (at m : ℕ) (t v u : List ℕ) (x : Three) → Wrote h at m t v → Wrote (threeAt x) (at + m) 3 v u
     → x .first ≡ h m → x .second ≡ h (m + 1) → x .third ≡ h (m + 2)
     → Wrote h at (m + 3) t u
-threes-more h at m t v u x w o p q r =
-    record {
-      long = o .long ∙ w .long;
-      made =
-          λ i l. elim (le-or m i) [
-            | inr k ↦ o .kept (at + i) (inl (omega arith)) ∙ w .made i k
-            | inl k ↦
-                (let e : at + i ≡ at + m + (i - m) = omega arith in
-                let z : m + (i - m) ≡ i = omega arith in
-                let j : i - m < 3 = omega arith in
-                ap (λ n. getD u n 0) e ∙ o .made (i - m) j ∙ three-same x h m p q r (i - m) j ∙ ap h z)
-          ];
-      kept = λ l k. o .kept l (over l k) ∙ w .kept l (under l k);
-    }
-  where
-    over : (l : ℕ) → (l < at) ⊎ (at + (m + 3) ≤ l) → (l < at + m) ⊎ (at + m + 3 ≤ l)
-    over l (inl k) = inl (omega arith)
-    over l (inr k) = inr (omega arith)
-
-    under : (l : ℕ) → (l < at) ⊎ (at + (m + 3) ≤ l) → (l < at) ⊎ (at + m ≤ l)
-    under l (inl k) = inl k
-    under l (inr k) = inr (omega arith)
+threes-more h at m t v u x w o p q r = wrote-both h (threeAt x) h at m 3 t v u w o (λ i l. refl) (three-same x h m p q r)
 
 pub threes-first : (h : ℕ → ℕ) (at : ℕ) (t u : List ℕ) (x : Three) → Wrote (threeAt x) at 3 t u → x .first ≡ h 0 → x .second ≡ h 1 → x .third ≡ h 2
     → Wrote h at 3 t u
@@ -258,6 +295,15 @@ unfolding sixAt
 six-wrote t v u at x y w o =
     threes-more (sixAt x y) at 3 t v u y (threes-first (sixAt x y) at t v x w refl refl refl) o refl refl refl
 
+-- the five of the lowest row of five
+pub five-wrote : (t v : List ℕ) (at : ℕ) (x : Five) → at + 5 ≤ length t → Wrote (threeAt (x .three)) at 3 t v
+    → Wrote (fiveAt x) at 5 t (set (set v (at + 3) (x .fourth)) (at + 4) (x .whole))
+unfolding fiveAt
+five-wrote t v at x h l =
+    let three = threes-first (fiveAt x) at t v (x .three) l refl refl refl in
+    let four = wrote-more (fiveAt x) at 3 t v (x .fourth) (omega (arith, l .long)) refl three in
+    wrote-more (fiveAt x) at 4 t (set v (at + 3) (x .fourth)) (x .whole) (omega (arith, four .long)) refl four
+
 -- the ten of four rows
 pub ten-wrote : (t v w u : List ℕ) (at : ℕ) (x : Ten) → at + 10 ≤ length t → Wrote (threeAt (x .lowest)) at 3 t v
     → Wrote (threeAt (x .second)) (at + 4) 3 (set v (at + 3) (x .whole)) w → Wrote (threeAt (x .top)) (at + 7) 3 w u
@@ -268,3 +314,42 @@ ten-wrote t v w u at x h l m n =
     let four = wrote-more (tenAt x) at 3 t v (x .whole) (omega (arith, l .long)) refl three in
     let seven = threes-more (tenAt x) at 4 t (set v (at + 3) (x .whole)) w (x .second) four m refl refl refl in
     threes-more (tenAt x) at 7 t w u (x .top) seven n refl refl refl
+
+-- the i-th of five and ten numbers
+unfoldable pub fifteenAt : Five → Ten → ℕ → ℕ
+fifteenAt x y i =
+    getD
+    (x .three .first
+    ∷ x .three .second
+    ∷ x .three .third
+    ∷ x .fourth
+    ∷ x .whole
+    ∷ y .lowest .first
+    ∷ y .lowest .second
+    ∷ y .lowest .third
+    ∷ y .whole
+    ∷ y .second .first
+    ∷ y .second .second
+    ∷ y .second .third
+    ∷ y .top .first
+    ∷ y .top .second
+    ∷ y .top .third
+    ∷ [])
+    i
+    0
+
+fifteen-low : (x : Five) (y : Ten) (i : ℕ) → i < 5 → fiveAt x i ≡ fifteenAt x y i
+unfolding fiveAt fifteenAt
+fifteen-low x y zero h = refl
+fifteen-low x y (suc zero) h = refl
+fifteen-low x y (suc (suc zero)) h = refl
+fifteen-low x y (suc (suc (suc zero))) h = refl
+fifteen-low x y (suc (suc (suc (suc zero)))) h = refl
+fifteen-low x y (suc (suc (suc (suc (suc i))))) h = absurd (omega arith)
+
+fifteen-high : (x : Five) (y : Ten) (i : ℕ) → i < 10 → tenAt y i ≡ fifteenAt x y (5 + i)
+unfolding tenAt fifteenAt
+fifteen-high x y i h = (let z : suc (up4 i) ≡ 5 + i = omega arith in ap (fifteenAt x y) z)
+
+pub fifteen-wrote : (t v u : List ℕ) (at : ℕ) (x : Five) (y : Ten) → Wrote (fiveAt x) at 5 t v → Wrote (tenAt y) (at + 5) 10 v u → Wrote (fifteenAt x y) at 15 t u
+fifteen-wrote t v u at x y w o = wrote-both (fiveAt x) (tenAt y) (fifteenAt x y) at 5 10 t v u w o (fifteen-low x y) (fifteen-high x y)

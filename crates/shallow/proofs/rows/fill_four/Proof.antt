@@ -202,10 +202,10 @@ loop-again c =
     let w = rows-given n in (
       turn-more _ _ _ _ _ _ _ (s .pre .0) _ _ _ _ (m .before .loop .inv .0) _ _ 10 (m .loop-test .taken) (sym (pairs-four 4 refl)) (e .store-ten .ensures)
           (four-right (grid s) _ _ _ (x .highest-four .result) (x .highest-four .ensures (grid s) 0 w)),
-      row-next _ _ _ _ _ _ _ (w .lowest-sums),
-      row-next _ _ _ _ _ _ _ (w .second-sums),
-      row-next _ _ _ _ _ _ _ (w .third-sums),
-      row-next _ _ _ _ _ _ _ (w .highest-sums),
+      row-next _ _ _ _ _ _ _ (w .sums .lowest-sums),
+      row-next _ _ _ _ _ _ _ (w .sums .second-sums),
+      row-next _ _ _ _ _ _ _ (w .sums .third-sums),
+      row-next _ _ _ _ _ _ _ (w .sums .highest-sums),
     )
 
 same-length : tie.Need-same-length Inv-loop μ-loop

@@ -1,14 +1,13 @@
 -- `shallow::rows::highest_four` meets its contract: the two highest rows first, then with each row below them, then all four. Assumes nothing.
 use Prim.Native.Nat.{ℕ, suc, _+_, _-_}
-use mathlib.Core.Path.{_≡_, sym, subst}
+use mathlib.Core.Path.{_≡_}
 use native.Mathlib.Omega.{arith}
 use Rattle.outline.specs.Grid.{Grid}
-use Rattle.shallow.specs.declared.sums.Sums.{Sums}
+use Rattle.table.specs.Entry.{pairNo}
 use Rattle.shallow.specs.declared.cuts.Three.{Three}
 use Rattle.shallow.specs.Sums.{Whole}
-use Rattle.shallow.specs.Rows.{FourRows, TwoRows, ThreeRows, TopTwo, LowThree, WholeFour, up2, up3, up4}
-use Rattle.shallow.proofs.Summing.{whole-stacked}
-use Rattle.shallow.proofs.Settling.{whole-ready, four-pairs}
+use Rattle.shallow.specs.Rows.{FourRows, TwoRows, ThreeRows, TopTwo, LowThree, WholeFour, up2, up4}
+use Rattle.shallow.proofs.Settling.{four-pairs}
 use Rattle.shallow.proofs.rows.highest_four.Statement.{statement}
 use Rattle.shallow.proofs.rows.highest_four.Tie as tie
 
@@ -20,14 +19,10 @@ entry c = c .before .before
 abbrev Of : Grid → ℕ → tie.Start → Type 0
 Of g b s = (let a = s .args in FourRows g (a .rule) (a .strip) b (a .lowest) (a .second) (a .third) (a .highest) (a .table .now))
 
--- the rows from the line b to the line d add up to this
-abbrev Adds : Grid → tie.Start → ℕ → ℕ → Sums → Type 0
-Adds g s b d x = (let a = s .args in Whole g (a .rule) (a .strip .a .0) (a .strip .c .0) b d x)
-
 -- the two highest rows
 top-given : (s : tie.Start) (g : Grid) (b : ℕ) → Of g b s
     → TwoRows g (s .args .rule) (s .args .strip) (up2 b) (s .args .third) (s .args .highest) (s .args .table .now)
-top-given s g b w = record { placed = w .placed; rows-are = w .rows-are; low-sums = w .third-sums; high-sums = w .highest-sums }
+top-given s g b w = record { placed = w .placed; rows-are = w .rows-are; low-sums = w .sums .third-sums; high-sums = w .sums .highest-sums }
 
 top-costs : (c : tie.After-two-rows) (g : Grid) (b : ℕ) → Of g b (entry c)
     → TopTwo g (entry c .args .rule) (entry c .args .strip .a .0) (entry c .args .strip .c .0) (up2 b) (c .two-rows .result)
@@ -44,9 +39,9 @@ upper-given c g b w =
       placed = w .placed;
       within = omega (arith, w .rows-are);
       entry-is = omega (arith, w .placed .pairs-are, four-pairs (g .rows) b (w .rows-are));
-      low-sums = w .second-sums;
-      middle-sums = w .third-sums;
-      high-sums = w .highest-sums;
+      low-sums = w .sums .second-sums;
+      middle-sums = w .sums .third-sums;
+      high-sums = w .sums .highest-sums;
       above-costs = top-costs c g b w;
     }
 
@@ -71,9 +66,9 @@ lower-given c g b w =
       placed = w .placed;
       within = omega (arith, w .rows-are);
       entry-is = omega (arith, w .placed .pairs-are, four-pairs (g .rows) b (w .rows-are));
-      low-sums = w .lowest-sums;
-      middle-sums = w .second-sums;
-      high-sums = w .third-sums;
+      low-sums = w .sums .lowest-sums;
+      middle-sums = w .sums .second-sums;
+      high-sums = w .sums .third-sums;
       above-costs = record { first-is = x .first-is; second-is = x .second-is; third-is = y .first-is };
     }
 
@@ -82,23 +77,9 @@ lower-costs : (c : tie.After-third-row2) (g : Grid) (b : ℕ) → Of g b (entry 
 lower-costs c g b w = c .third-row2 .ensures g b (lower-given (c .before) g b w)
 
 -- the rows one above the other
-two-are : (c : tie.After-stacked) (g : Grid) (b : ℕ) → Of g b (entry (c .before .before .before))
-    → Adds g (entry (c .before .before .before)) b (up2 b) (c .stacked .result)
-two-are c g b w =
-    subst (Whole g _ _ _ b (up2 b)) (sym (c .stacked .ensures))
-    (whole-stacked g (w .placed .sound) _ _ _ b (suc b) (up2 b) _ _ (omega arith) (omega arith) (w .lowest-sums) (w .second-sums))
-
-three-are : (c : tie.After-stacked2) (g : Grid) (b : ℕ) → Of g b (entry (c .before .before .before .before))
-    → Adds g (entry (c .before .before .before .before)) b (up3 b) (c .stacked2 .result)
-three-are c g b w =
-    subst (Whole g _ _ _ b (up3 b)) (sym (c .stacked2 .ensures))
-    (whole-stacked g (w .placed .sound) _ _ _ b (up2 b) (up3 b) _ _ (omega arith) (omega arith) (two-are (c .before) g b w) (w .third-sums))
-
-all-are : (c : tie.After-stacked3) (g : Grid) (b : ℕ) → Of g b (entry (c .before .before .before .before .before))
-    → Adds g (entry (c .before .before .before .before .before)) b (up4 b) (c .stacked3 .result)
-all-are c g b w =
-    subst (Whole g _ _ _ b (up4 b)) (sym (c .stacked3 .ensures))
-    (whole-stacked g (w .placed .sound) _ _ _ b (up3 b) (up4 b) _ _ (omega arith) (omega arith) (three-are (c .before) g b w) (w .highest-sums))
+all-are : (c : tie.After-four-sums) (g : Grid) (b : ℕ) → Of g b (entry (c .before .before .before))
+    → (let a = entry (c .before .before .before) .args in Whole g (a .rule) (a .strip .a .0) (a .strip .c .0) b (up4 b) (c .four-sums .result))
+all-are c g b w = c .four-sums .ensures g _ _ _ b (w .sums)
 
 two-rows-requires : tie.Need-two-rows-requires
 two-rows-requires c κs =
@@ -126,49 +107,32 @@ third-row-requires-2 c κs =
     let p = entry (c .before) .pre in
     (p .0, p .1, lower-given c (p .0) (p .1) (p .2))
 
-stacked-requires : tie.Need-stacked-requires
-stacked-requires c κs =
-    let w = entry (c .before .before) .pre .2 in (
-      whole-ready _ _ _ _ (w .placed) _ _ _ (omega arith) (omega (arith, w .rows-are)) (w .lowest-sums),
-      whole-ready _ _ _ _ (w .placed) _ _ _ (omega arith) (omega (arith, w .rows-are)) (w .second-sums),
-    )
-
-stacked-requires-2 : tie.Need-stacked-requires-2
-stacked-requires-2 c κs =
-    let p = entry (c .before .before .before) .pre in
-    let w = p .2 in (
-      whole-ready _ _ _ _ (w .placed) _ _ _ (omega arith) (omega (arith, w .rows-are)) (two-are c (p .0) (p .1) w),
-      whole-ready _ _ _ _ (w .placed) _ _ _ (omega arith) (omega (arith, w .rows-are)) (w .third-sums),
-    )
-
-stacked-requires-3 : tie.Need-stacked-requires-3
-stacked-requires-3 c κs =
-    let p = entry (c .before .before .before .before) .pre in
-    let w = p .2 in (
-      whole-ready _ _ _ _ (w .placed) _ _ _ (omega arith) (omega (arith, w .rows-are)) (three-are c (p .0) (p .1) w),
-      whole-ready _ _ _ _ (w .placed) _ _ _ (omega arith) (omega (arith, w .rows-are)) (w .highest-sums),
-    )
+four-sums-requires : tie.Need-four-sums-requires
+four-sums-requires c κs =
+    let s = entry (c .before .before) in
+    let p = s .pre in
+    (p .0, s .args .rule, s .args .strip .a .0, s .args .strip .c .0, p .1, p .2 .sums)
 
 sub-four-rows : tie.Need-sub-four-rows
 sub-four-rows c =
-    let w = entry (c .before .before .before .before .before) .pre .2 in
+    let w = entry (c .before .before .before) .pre .2 in
     omega (arith, w .placed .pairs-are, four-pairs _ _ (w .rows-are))
 
 -- the whole
 abbrev left : tie.After-third-row → Three
 left c = record { first = c .third-row .result .third; second = c .before .two-rows .result .second; third = c .before .two-rows .result .third }
 
-whole-given : (c : tie.After-stacked3) (g : Grid) (b : ℕ) → Of g b (entry (c .before .before .before .before .before))
-    → (let a = entry (c .before .before .before .before .before) .args in
-    WholeFour g (a .rule) (a .strip) b (a .strip .pairs - 7) (c .stacked3 .result) (c .before .before .before .third-row2 .result) (left (c .before .before .before .before)) (a .table .now))
-whole-given c g b w =
-    let l = c .before .before .before in
+whole-given : (c : tie.After-four-sums) (g : Grid) (b i : ℕ) → Of g b (entry (c .before .before .before)) → i ≡ pairNo (g .rows) b (up4 b)
+    → (let a = entry (c .before .before .before) .args in
+    WholeFour g (a .rule) (a .strip) b i (c .four-sums .result) (c .before .third-row2 .result) (left (c .before .before)) (a .table .now))
+whole-given c g b i w e =
+    let l = c .before in
     let x = upper-costs (l .before) g b w in
     let y = top-costs (l .before .before) g b w in
     record {
       placed = w .placed;
       within = omega (arith, w .rows-are);
-      entry-is = omega (arith, w .placed .pairs-are, four-pairs (g .rows) b (w .rows-are));
+      entry-is = e;
       sums = all-are c g b w;
       below-costs = lower-costs l g b w;
       above-costs = record { first-is = x .third-is; second-is = y .second-is; third-is = y .third-is };
@@ -176,15 +140,17 @@ whole-given c g b w =
 
 four-rows-requires : tie.Need-four-rows-requires
 four-rows-requires c κs =
-    let p = entry (c .before .before .before .before .before) .pre in
-    (p .0, p .1, whole-given c (p .0) (p .1) (p .2))
+    let p = entry (c .before .before .before) .pre in
+    let w = p .2 in
+    (p .0, p .1, whole-given c (p .0) (p .1) _ w (omega (arith, w .placed .pairs-are, four-pairs (p .0 .rows) (p .1) (w .rows-are))))
 
 returns : tie.Need-returns
 returns c g b w =
-    let l = c .before .before .before .before in
+    let l = c .before .before in
     record {
       lowest-are = lower-costs l g b w;
-      whole-is = c .four-rows .ensures g b (whole-given (c .before) g b w);
+      whole-is =
+          c .four-rows .ensures g b (whole-given (c .before) g b _ w (omega (arith, w .placed .pairs-are, four-pairs (g .rows) b (w .rows-are))));
       second-are = upper-costs (l .before) g b w;
       top-are = top-costs (l .before .before) g b w;
     }
@@ -198,9 +164,7 @@ highest-four-spec =
     third-row-requires
     sub-third-row-2
     third-row-requires-2
-    stacked-requires
-    stacked-requires-2
-    stacked-requires-3
+    four-sums-requires
     sub-four-rows
     four-rows-requires
     returns)
