@@ -1,4 +1,4 @@
-// The fill: the cost of every piece of a grid, into a table that the caller lends. A grid of one to three rows of cells is filled straight
+// The fill: the cost of every piece of a grid, into a table that the caller lends. A grid of one to five rows of cells is filled straight
 // through, a higher one by widths: both promise the same.
 use rule::Rule;
 ghost use mathlib.Core.Path.{_≡_};
@@ -10,7 +10,7 @@ ghost use Rattle.table.specs.Entry.{costs};
 ghost use Rattle.table.specs.Fill.{Ready};
 
 // So many rows of cells are filled straight through.
-const FEW_ROWS: usize = 3;
+const FEW_ROWS: usize = 5;
 
 // Fills the table with the cost of every piece of the grid, in the order of entries. What it held there has no influence, and what lies
 // beyond the entries stays as it was.

@@ -7,12 +7,12 @@
 --   asks-*                 == what the steps of a turn ask
 --   row-empty, row-next    == a row of cells before the first column, and before the next turn
 --   Turn                   == a strip in its turn
---   turn-one, turn-two, turn-top, turn-three
+--   turn-one, turn-two, turn-three, turn-four, turn-five
 --                          == what is known of its rows once they have grown by its last column
---   one-right, two-right, three-right
+--   one-right, two-right, three-right, four-right, five-right
 --                          == the costs of a strip by the numbers of its y pairs
---   to-ready, to-reached, back-filled, three-left
---                          == one, two or three rows, as the choice among them finds their count
+--   to-ready, to-reached, back-filled, five-left
+--                          == one to five rows, as the choice among them finds their count
 use Prim.Native.Nat.{ℕ, zero, suc, _+_, _*_, _-_, _≤_, _<_}
 use mathlib.Core.Path.{_≡_, refl, sym, _∙_, ap, ap₂, subst}
 use mathlib.Core.Logic.{_⊎_, inl, inr}
@@ -34,11 +34,13 @@ use Rattle.table.proofs.Pairs.{row-before, row-most}
 use Rattle.table.proofs.Fill.{beyond-none, beyond-trans, reached-at}
 use Rattle.shallow.specs.declared.cuts.Strip.{Strip}
 use Rattle.shallow.specs.declared.cuts.Three.{Three}
+use Rattle.shallow.specs.declared.rows.Five.{Five}
+use Rattle.shallow.specs.declared.rows.Ten.{Ten}
 use Rattle.shallow.specs.declared.sums.Sums.{Sums}
 use Rattle.shallow.specs.Sums.{Summed, Whole, Small, emptyOf, grownRow}
-use Rattle.shallow.specs.Rows.{Placed, OneRow, TwoRows, TopTwo, ThreeRows, LowThree, threeAt}
+use Rattle.shallow.specs.Rows.{Placed, OneRow, TwoRows, TopTwo, ThreeRows, LowThree, FourRows, FiveRows, TopFour, LowFive, up2, up3, up4, threeAt, tenAt}
 use Rattle.shallow.proofs.Parting.{low-entry, low-first}
-use Rattle.shallow.proofs.Settling.{sixAt}
+use Rattle.shallow.proofs.Settling.{sixAt, fifteenAt, low-pair}
 use Rattle.shallow.proofs.Summing.{summed-small, summed-none, whole-grown}
 
 -- a strip stored
@@ -279,7 +281,7 @@ module _ (g : Grid) (r : Rule) (a c : ℕ) where
   two-right x w (suc zero) (suc (suc (suc d))) h k = absurd (omega arith)
   two-right x w (suc (suc b)) d h k = absurd (omega arith)
 
-  pub three-right : (x y : Three) → LowThree g r a c x → TopTwo g r a c 1 y → (b d : ℕ) → b < d → d ≤ 3 → sixAt x y (pairNo 3 b d) ≡ cost Straight g r (box a c b d)
+  pub three-right : (x y : Three) → LowThree g r a c 0 x → TopTwo g r a c 1 y → (b d : ℕ) → b < d → d ≤ 3 → sixAt x y (pairNo 3 b d) ≡ cost Straight g r (box a c b d)
   unfolding sixAt pairNo pairsBelow
   three-right x y w v zero zero h k = absurd (omega arith)
   three-right x y w v zero (suc zero) h k = w .first-is
@@ -297,6 +299,73 @@ module _ (g : Grid) (r : Rule) (a c : ℕ) where
   three-right x y w v (suc (suc zero)) (suc (suc (suc zero))) h k = v .third-is
   three-right x y w v (suc (suc zero)) (suc (suc (suc (suc d)))) h k = absurd (omega arith)
   three-right x y w v (suc (suc (suc b))) d h k = absurd (omega arith)
+
+  pub four-right : (x : Ten) → TopFour g r a c 0 x → (b d : ℕ) → b < d → d ≤ 4 → tenAt x (pairNo 4 b d) ≡ cost Straight g r (box a c b d)
+  unfolding tenAt pairNo pairsBelow
+  four-right x w zero zero h k = absurd (omega arith)
+  four-right x w zero (suc zero) h k = w .lowest-are .first-is
+  four-right x w zero (suc (suc zero)) h k = w .lowest-are .second-is
+  four-right x w zero (suc (suc (suc zero))) h k = w .lowest-are .third-is
+  four-right x w zero (suc (suc (suc (suc zero)))) h k = w .whole-is
+  four-right x w zero (suc (suc (suc (suc (suc d))))) h k = absurd (omega arith)
+  four-right x w (suc zero) zero h k = absurd (omega arith)
+  four-right x w (suc zero) (suc zero) h k = absurd (omega arith)
+  four-right x w (suc zero) (suc (suc zero)) h k = w .second-are .first-is
+  four-right x w (suc zero) (suc (suc (suc zero))) h k = w .second-are .second-is
+  four-right x w (suc zero) (suc (suc (suc (suc zero)))) h k = w .second-are .third-is
+  four-right x w (suc zero) (suc (suc (suc (suc (suc d))))) h k = absurd (omega arith)
+  four-right x w (suc (suc zero)) zero h k = absurd (omega arith)
+  four-right x w (suc (suc zero)) (suc zero) h k = absurd (omega arith)
+  four-right x w (suc (suc zero)) (suc (suc zero)) h k = absurd (omega arith)
+  four-right x w (suc (suc zero)) (suc (suc (suc zero))) h k = w .top-are .first-is
+  four-right x w (suc (suc zero)) (suc (suc (suc (suc zero)))) h k = w .top-are .second-is
+  four-right x w (suc (suc zero)) (suc (suc (suc (suc (suc d))))) h k = absurd (omega arith)
+  four-right x w (suc (suc (suc zero))) zero h k = absurd (omega arith)
+  four-right x w (suc (suc (suc zero))) (suc zero) h k = absurd (omega arith)
+  four-right x w (suc (suc (suc zero))) (suc (suc zero)) h k = absurd (omega arith)
+  four-right x w (suc (suc (suc zero))) (suc (suc (suc zero))) h k = absurd (omega arith)
+  four-right x w (suc (suc (suc zero))) (suc (suc (suc (suc zero)))) h k = w .top-are .third-is
+  four-right x w (suc (suc (suc zero))) (suc (suc (suc (suc (suc d))))) h k = absurd (omega arith)
+  four-right x w (suc (suc (suc (suc b)))) d h k = absurd (omega arith)
+
+  pub five-right : (x : Five) (y : Ten) → LowFive g r a c x → TopFour g r a c 1 y → (b d : ℕ) → b < d → d ≤ 5 → fifteenAt x y (pairNo 5 b d) ≡ cost Straight g r (box a c b d)
+  unfolding fifteenAt pairNo pairsBelow
+  five-right x y w v zero zero h k = absurd (omega arith)
+  five-right x y w v zero (suc zero) h k = w .three-are .first-is
+  five-right x y w v zero (suc (suc zero)) h k = w .three-are .second-is
+  five-right x y w v zero (suc (suc (suc zero))) h k = w .three-are .third-is
+  five-right x y w v zero (suc (suc (suc (suc zero)))) h k = w .fourth-is
+  five-right x y w v zero (suc (suc (suc (suc (suc zero))))) h k = w .whole-is
+  five-right x y w v zero (suc (suc (suc (suc (suc (suc d)))))) h k = absurd (omega arith)
+  five-right x y w v (suc zero) zero h k = absurd (omega arith)
+  five-right x y w v (suc zero) (suc zero) h k = absurd (omega arith)
+  five-right x y w v (suc zero) (suc (suc zero)) h k = v .lowest-are .first-is
+  five-right x y w v (suc zero) (suc (suc (suc zero))) h k = v .lowest-are .second-is
+  five-right x y w v (suc zero) (suc (suc (suc (suc zero)))) h k = v .lowest-are .third-is
+  five-right x y w v (suc zero) (suc (suc (suc (suc (suc zero))))) h k = v .whole-is
+  five-right x y w v (suc zero) (suc (suc (suc (suc (suc (suc d)))))) h k = absurd (omega arith)
+  five-right x y w v (suc (suc zero)) zero h k = absurd (omega arith)
+  five-right x y w v (suc (suc zero)) (suc zero) h k = absurd (omega arith)
+  five-right x y w v (suc (suc zero)) (suc (suc zero)) h k = absurd (omega arith)
+  five-right x y w v (suc (suc zero)) (suc (suc (suc zero))) h k = v .second-are .first-is
+  five-right x y w v (suc (suc zero)) (suc (suc (suc (suc zero)))) h k = v .second-are .second-is
+  five-right x y w v (suc (suc zero)) (suc (suc (suc (suc (suc zero))))) h k = v .second-are .third-is
+  five-right x y w v (suc (suc zero)) (suc (suc (suc (suc (suc (suc d)))))) h k = absurd (omega arith)
+  five-right x y w v (suc (suc (suc zero))) zero h k = absurd (omega arith)
+  five-right x y w v (suc (suc (suc zero))) (suc zero) h k = absurd (omega arith)
+  five-right x y w v (suc (suc (suc zero))) (suc (suc zero)) h k = absurd (omega arith)
+  five-right x y w v (suc (suc (suc zero))) (suc (suc (suc zero))) h k = absurd (omega arith)
+  five-right x y w v (suc (suc (suc zero))) (suc (suc (suc (suc zero)))) h k = v .top-are .first-is
+  five-right x y w v (suc (suc (suc zero))) (suc (suc (suc (suc (suc zero))))) h k = v .top-are .second-is
+  five-right x y w v (suc (suc (suc zero))) (suc (suc (suc (suc (suc (suc d)))))) h k = absurd (omega arith)
+  five-right x y w v (suc (suc (suc (suc zero)))) zero h k = absurd (omega arith)
+  five-right x y w v (suc (suc (suc (suc zero)))) (suc zero) h k = absurd (omega arith)
+  five-right x y w v (suc (suc (suc (suc zero)))) (suc (suc zero)) h k = absurd (omega arith)
+  five-right x y w v (suc (suc (suc (suc zero)))) (suc (suc (suc zero))) h k = absurd (omega arith)
+  five-right x y w v (suc (suc (suc (suc zero)))) (suc (suc (suc (suc zero)))) h k = absurd (omega arith)
+  five-right x y w v (suc (suc (suc (suc zero)))) (suc (suc (suc (suc (suc zero))))) h k = v .top-are .third-is
+  five-right x y w v (suc (suc (suc (suc zero)))) (suc (suc (suc (suc (suc (suc d)))))) h k = absurd (omega arith)
+  five-right x y w v (suc (suc (suc (suc (suc b))))) d h k = absurd (omega arith)
 
 -- a strip in its turn, and the rows of which have grown by its last column
 pub record Turn (columns rows : ℕ) (xs ys cs : List ℕ) (r : Rule) (t u : List ℕ) (strip : Strip) (at step : ℕ) : Type 0 where
@@ -332,44 +401,71 @@ module _ (columns : ℕ) (xs ys cs : List ℕ) (r : Rule) (t u : List ℕ) (stri
         row-sums = grown columns 1 xs ys cs r t u strip at step k 0 row new (omega arith) w e;
       }
 
-  pub turn-two : Turn columns 2 xs ys cs r t u strip at step → (low high new₀ new₁ : Sums)
-      → Summed (stored columns 2 xs ys cs) (strip .a .0) (strip .c .0 - 1) 0 1 low → new₀ ≡ grownRow cs r strip step 0 low
-      → Summed (stored columns 2 xs ys cs) (strip .a .0) (strip .c .0 - 1) 1 2 high → new₁ ≡ grownRow cs r strip step 1 high
-      → TwoRows (stored columns 2 xs ys cs) r strip 0 new₀ new₁ u
+  pub turn-two : (b : ℕ) → Turn columns (up2 b) xs ys cs r t u strip at step → (low high new₀ new₁ : Sums)
+      → Summed (stored columns (up2 b) xs ys cs) (strip .a .0) (strip .c .0 - 1) b (suc b) low → new₀ ≡ grownRow cs r strip step b low
+      → Summed (stored columns (up2 b) xs ys cs) (strip .a .0) (strip .c .0 - 1) (suc b) (up2 b) high → new₁ ≡ grownRow cs r strip step (suc b) high
+      → TwoRows (stored columns (up2 b) xs ys cs) r strip b new₀ new₁ u
   unfolding stored
-  turn-two k low high new₀ new₁ w₀ e₀ w₁ e₁ =
+  turn-two b k low high new₀ new₁ w₀ e₀ w₁ e₁ =
       record {
-        placed = placed columns 2 xs ys cs r t u strip at step k;
+        placed = placed columns (up2 b) xs ys cs r t u strip at step k;
         rows-are = refl;
-        low-sums = grown columns 2 xs ys cs r t u strip at step k 0 low new₀ (omega arith) w₀ e₀;
-        high-sums = grown columns 2 xs ys cs r t u strip at step k 1 high new₁ (omega arith) w₁ e₁;
-      }
-
-  pub turn-top : Turn columns 3 xs ys cs r t u strip at step → (middle high new₁ new₂ : Sums)
-      → Summed (stored columns 3 xs ys cs) (strip .a .0) (strip .c .0 - 1) 1 2 middle → new₁ ≡ grownRow cs r strip step 1 middle
-      → Summed (stored columns 3 xs ys cs) (strip .a .0) (strip .c .0 - 1) 2 3 high → new₂ ≡ grownRow cs r strip step 2 high
-      → TwoRows (stored columns 3 xs ys cs) r strip 1 new₁ new₂ u
-  unfolding stored
-  turn-top k middle high new₁ new₂ w₁ e₁ w₂ e₂ =
-      record {
-        placed = placed columns 3 xs ys cs r t u strip at step k;
-        rows-are = refl;
-        low-sums = grown columns 3 xs ys cs r t u strip at step k 1 middle new₁ (omega arith) w₁ e₁;
-        high-sums = grown columns 3 xs ys cs r t u strip at step k 2 high new₂ (omega arith) w₂ e₂;
+        low-sums = grown columns (up2 b) xs ys cs r t u strip at step k b low new₀ (omega arith) w₀ e₀;
+        high-sums = grown columns (up2 b) xs ys cs r t u strip at step k (suc b) high new₁ (omega arith) w₁ e₁;
       }
 
   pub turn-three : Turn columns 3 xs ys cs r t u strip at step → (low new middle high : Sums) (above : Three)
       → Summed (stored columns 3 xs ys cs) (strip .a .0) (strip .c .0 - 1) 0 1 low → new ≡ grownRow cs r strip step 0 low
       → TwoRows (stored columns 3 xs ys cs) r strip 1 middle high u → TopTwo (stored columns 3 xs ys cs) r (strip .a .0) (strip .c .0) 1 above
-      → ThreeRows (stored columns 3 xs ys cs) r strip new middle high above u
+      → ThreeRows (stored columns 3 xs ys cs) r strip 0 0 new middle high above u
   unfolding stored
   turn-three k low new middle high above w e two costs =
       record {
         placed = two .placed;
-        rows-are = refl;
+        within = omega arith;
+        entry-is = low-pair 3;
         low-sums = grown columns 3 xs ys cs r t u strip at step k 0 low new (omega arith) w e;
         middle-sums = two .low-sums;
         high-sums = two .high-sums;
+        above-costs = costs;
+      }
+
+  pub turn-four : (b : ℕ) → Turn columns (up4 b) xs ys cs r t u strip at step → (lowest second third highest new₀ new₁ new₂ new₃ : Sums)
+      → Summed (stored columns (up4 b) xs ys cs) (strip .a .0) (strip .c .0 - 1) b (suc b) lowest → new₀ ≡ grownRow cs r strip step b lowest
+      → Summed (stored columns (up4 b) xs ys cs) (strip .a .0) (strip .c .0 - 1) (suc b) (up2 b) second → new₁ ≡ grownRow cs r strip step (suc b) second
+      → Summed (stored columns (up4 b) xs ys cs) (strip .a .0) (strip .c .0 - 1) (up2 b) (up3 b) third → new₂ ≡ grownRow cs r strip step (up2 b) third
+      → Summed (stored columns (up4 b) xs ys cs) (strip .a .0) (strip .c .0 - 1) (up3 b) (up4 b) highest → new₃ ≡ grownRow cs r strip step (up3 b) highest
+      → FourRows (stored columns (up4 b) xs ys cs) r strip b new₀ new₁ new₂ new₃ u
+  unfolding stored
+  turn-four b k lowest second third highest new₀ new₁ new₂ new₃ w₀ e₀ w₁ e₁ w₂ e₂ w₃ e₃ =
+      record {
+        placed = placed columns (up4 b) xs ys cs r t u strip at step k;
+        rows-are = refl;
+        sums =
+            record {
+              sound = placed columns (up4 b) xs ys cs r t u strip at step k .sound;
+              ac = omega (arith, k .strips .above);
+              cx = k .cx;
+              within = omega arith;
+              lowest-sums = grown columns (up4 b) xs ys cs r t u strip at step k b lowest new₀ (omega arith) w₀ e₀;
+              second-sums = grown columns (up4 b) xs ys cs r t u strip at step k (suc b) second new₁ (omega arith) w₁ e₁;
+              third-sums = grown columns (up4 b) xs ys cs r t u strip at step k (up2 b) third new₂ (omega arith) w₂ e₂;
+              highest-sums = grown columns (up4 b) xs ys cs r t u strip at step k (up3 b) highest new₃ (omega arith) w₃ e₃;
+            };
+      }
+
+  pub turn-five : Turn columns 5 xs ys cs r t u strip at step → (lowest new second third fourth highest : Sums) (above : Ten)
+      → Summed (stored columns 5 xs ys cs) (strip .a .0) (strip .c .0 - 1) 0 1 lowest → new ≡ grownRow cs r strip step 0 lowest
+      → FourRows (stored columns 5 xs ys cs) r strip 1 second third fourth highest u
+      → TopFour (stored columns 5 xs ys cs) r (strip .a .0) (strip .c .0) 1 above
+      → FiveRows (stored columns 5 xs ys cs) r strip new second third fourth highest above u
+  unfolding stored
+  turn-five k lowest new second third fourth highest above w e four costs =
+      record {
+        placed = four .placed;
+        rows-are = refl;
+        lowest-sums = grown columns 5 xs ys cs r t u strip at step k 0 lowest new (omega arith) w e;
+        upper-sums = four .sums;
         above-costs = costs;
       }
 
@@ -385,9 +481,11 @@ module _ (columns count n : ℕ) (e : count ≡ n) (xs ys cs : List ℕ) (r : Ru
       → Reached Straight (stored columns count xs ys cs) r u a c × Beyond (entryCount columns count) t u
   back-filled t u a c w = subst (λ m. Reached Straight (stored columns m xs ys cs) r u a c × Beyond (entryCount columns m) t u) (sym e) w
 
-pub three-left : (n : ℕ) → 1 ≤ n → n ≤ 3 → (n ≡ 1 → ⊥) → (n ≡ 2 → ⊥) → n ≡ 3
-three-left zero h k p q = absurd (omega arith)
-three-left (suc zero) h k p q = absurd (p refl)
-three-left (suc (suc zero)) h k p q = absurd (q refl)
-three-left (suc (suc (suc zero))) h k p q = refl
-three-left (suc (suc (suc (suc n)))) h k p q = absurd (omega arith)
+pub five-left : (n : ℕ) → 1 ≤ n → n ≤ 5 → (n ≡ 1 → ⊥) → (n ≡ 2 → ⊥) → (n ≡ 3 → ⊥) → (n ≡ 4 → ⊥) → n ≡ 5
+five-left zero h k p q r s = absurd (omega arith)
+five-left (suc zero) h k p q r s = absurd (p refl)
+five-left (suc (suc zero)) h k p q r s = absurd (q refl)
+five-left (suc (suc (suc zero))) h k p q r s = absurd (r refl)
+five-left (suc (suc (suc (suc zero)))) h k p q r s = absurd (s refl)
+five-left (suc (suc (suc (suc (suc zero))))) h k p q r s = refl
+five-left (suc (suc (suc (suc (suc (suc n)))))) h k p q r s = absurd (omega arith)

@@ -1,13 +1,17 @@
--- Laws of the pieces of a strip of one, two or three rows of cells. Assumes nothing.
+-- Laws of the pieces of a strip of few rows of cells. Assumes nothing.
 --
 --   placed-cuttable        == the vertical cuts of a strip of the grid can be weighed
 --   whole-ready            == the sums of its pieces are small
 --   cost-fits              == two costs together fit
---   row-cost, pair-cost, triple-cost
---                          == the cost of a piece of one, two and three rows
---   top-pairs              == where the pieces of the two highest rows stand
---   pairs-*, low-pairs     == how many pieces a strip has, and where those that begin at its lowest line stand
---   sixAt, one-wrote, three-wrote, six-wrote
+--   threes-fit             == and so do three and three
+--   across, across-none, across-more, across-three, least-made
+--                          == the horizontal cuts of a piece, and the least of them so far
+--   piece-cost, row-cost   == the cost of a piece, and of one of one row
+--   pairs-*                == how many pieces a strip has
+--   low-pair, next-pairs, next-room, high-pairs
+--                          == where the pieces that begin at one line stand
+--   top-pairs, four-pairs  == where the pieces of the two and of the four highest rows stand
+--   sixAt, fifteenAt, one-wrote, three-wrote, threes-*, six-wrote, five-wrote, ten-wrote, fifteen-wrote
 --                          == what the stores of a strip write
 use Prim.Native.Nat.{ℕ, zero, suc, _+_, _*_, _-_, _≤_, _<_, _^_, min}
 use mathlib.Core.Path.{_≡_, refl, sym, _∙_, ap, ap₂, subst}
@@ -27,25 +31,50 @@ use Rattle.table.specs.Entry.{pairsBelow, pairCount, pairNo, entryCount}
 use Rattle.table.specs.Run.{Wrote, Lowest}
 use Rattle.table.specs.Cuts.{uncut, Judged}
 use Rattle.table.specs.Cuts.{parted}
-use Rattle.table.proofs.Entry.{below-zero, below-next, pair-of, counted, entry-made, count-most}
+use Rattle.table.proofs.Entry.{below-zero, below-suc, pair-below, pair-of, counted, entry-made, count-most}
 use Rattle.table.proofs.Run.{wrote-none, wrote-more, lowest-none, lowest-more, lowest-same, lowest-between}
 use Rattle.table.proofs.Judging.{judged-piece}
 use Rattle.shallow.specs.declared.cuts.Strip.{Strip}
 use Rattle.shallow.specs.declared.cuts.Three.{Three}
+use Rattle.shallow.specs.declared.rows.Five.{Five}
+use Rattle.shallow.specs.declared.rows.Ten.{Ten}
 use Rattle.shallow.specs.declared.sums.Sums.{Sums}
 use Rattle.shallow.specs.Sums.{Whole, Small, shotOf}
 use Rattle.shallow.specs.Cuts.{Cuttable}
-use Rattle.shallow.specs.Rows.{Placed, threeAt}
-use Rattle.shallow.proofs.Summing.{summed-small, flanks-most, whole-shot}
+use Rattle.shallow.specs.Rows.{Placed, LowThree, HighThree, Addable, leastOf, up2, up3, up4, threeAt, fiveAt, tenAt}
+use Rattle.shallow.proofs.Summing.{whole-small, whole-shot}
 
--- the horizontal cuts of a piece of two and of three rows
-across-two : (f : ℕ → ℕ) (b v x : ℕ) → x ≡ f (b + 1) → Lowest f b (b + 2) v (min v x)
-across-two f b v x e =
-    let z : b + 1 + 1 ≡ b + 2 = omega arith in
-    subst (λ n. Lowest f b n v (min v x)) z (lowest-more f b (b + 1) v v x (omega arith) e (lowest-none f b v))
+-- what the two parts of the piece between the y lines b and d cost together, cut at the line j
+unfoldable pub across : Grid → Rule → ℕ → ℕ → ℕ → ℕ → ℕ → ℕ
+across g r a c b d j = cost Straight g r (box a c b j) + cost Straight g r (box a c j d)
 
-across-three : (f : ℕ → ℕ) (v x y : ℕ) → x ≡ f 1 → y ≡ f 2 → Lowest f 0 3 v (min (min v x) y)
-across-three f v x y e z = lowest-more f 0 2 v (min v x) y (omega arith) z (across-two f 0 v x e)
+-- the least of its horizontal cuts, with no line weighed yet, and with one more
+pub across-none : (g : Grid) (r : Rule) (a c b d v : ℕ) → Lowest (across g r a c b d) b (suc b) v v
+across-none g r a c b d v = lowest-between (across g r a c b d) b (suc b) v (omega arith)
+
+pub across-more : (g : Grid) (r : Rule) (a c b d j v m y z x : ℕ) → b < j → y ≡ cost Straight g r (box a c b j) → z ≡ cost Straight g r (box a c j d)
+    → x ≡ min m (y + z) → Lowest (across g r a c b d) b j v m
+    → Lowest (across g r a c b d) b (suc j) v x
+unfolding across
+across-more g r a c b d j v m y z x h ey ez e w =
+    let n : j + 1 ≡ suc j = omega arith in
+    rw e (subst (λ l. Lowest (across g r a c b d) b l v (min m (y + z))) n
+    (lowest-more (across g r a c b d) b j v m (y + z) h (ap₂ _+_ ey ez) w))
+
+-- with the three lowest lines, and as the code weighs them
+pub least-made : (v p q n : ℕ) (x y : Three) → p ≡ min v (x .first + y .first) → q ≡ min p (x .second + y .second) → n ≡ min q (x .third + y .third)
+    → n ≡ leastOf v x y
+unfolding leastOf
+least-made v p q n x y e f h = h ∙ ap (λ m. min m (x .third + y .third)) (f ∙ ap (λ m. min m (x .second + y .second)) e)
+
+pub across-three : (g : Grid) (r : Rule) (a c b d v : ℕ) (x y : Three) → LowThree g r a c b x → HighThree g r a c (suc b) d y
+    → Lowest (across g r a c b d) b (up4 b) v (leastOf v x y)
+unfolding leastOf
+across-three g r a c b d v x y low high =
+    across-more g r a c b d (up3 b) v _ (x .third) (y .third) _ (omega arith) (low .third-is) (high .third-is) refl
+    (across-more g r a c b d (up2 b) v _ (x .second) (y .second) _ (omega arith) (low .second-is) (high .second-is) refl
+    (across-more g r a c b d (suc b) v v (x .first) (y .first) _ (omega arith) (low .first-is) (high .first-is) refl
+    (across-none g r a c b d v)))
 
 module _ (g : Grid) (r : Rule) (s : Strip) (t : List ℕ) (k : Placed g r s t) where
   abbrev a : ℕ
@@ -104,22 +133,28 @@ module _ (g : Grid) (r : Rule) (s : Strip) (t : List ℕ) (k : Placed g r s t) w
       }
 
   pub whole-ready : (b d : ℕ) (sums : Sums) → b ≤ d → d ≤ g .rows → Whole g r a c b d sums → Small sums × (sums .flanks ≤ 131070)
-  whole-ready b d sums q l w = (
-    summed-small g (k .sound) a c b d sums (omega (arith, k .ac)) (k .cx) q l (w .summed),
-    flanks-most g (k .sound) r a c b d sums q w,
-  )
+  whole-ready b d sums q l w = whole-small g (k .sound) r a c b d sums (omega (arith, k .ac)) (k .cx) q l w
 
   -- two costs together fit
   pub cost-fits : (b d x y : ℕ) (e f : ℕ) → b < d → d ≤ g .rows → x < y → y ≤ g .rows → e ≡ cost Straight g r (box a c b d) → f ≡ cost Straight g r (box a c x y)
       → e + f < 2 ^ 32
   cost-fits b d x y e f h l p q m n = omega (arith, price-most a c b d (k .ac) (k .cx) h l, price-most a c x y (k .ac) (k .cx) p q)
 
+  pub threes-fit : (b d : ℕ) (x y : Three) → up4 b ≤ d → d ≤ g .rows → LowThree g r a c b x → HighThree g r a c (suc b) d y → Addable x y
+  threes-fit b d x y h l low high =
+      record {
+        first = cost-fits b (suc b) (suc b) d (x .first) (y .first) (omega arith) (omega arith) (omega arith) l (low .first-is) (high .first-is);
+        second = cost-fits b (up2 b) (up2 b) d (x .second) (y .second) (omega arith) (omega arith) (omega arith) l (low .second-is) (high .second-is);
+        third = cost-fits b (up3 b) (up3 b) d (x .third) (y .third) (omega arith) (omega arith) (omega arith) l (low .third-is) (high .third-is);
+      }
+
   -- the cost of a piece, from its sums, its vertical cuts and its horizontal ones
-  piece-cost : (b d i v best x : ℕ) (sums : Sums) → b < d → d ≤ g .rows → Whole g r a c b d sums → i ≡ pairNo (g .rows) b d
+  pub piece-cost : (b d i v best x : ℕ) (sums : Sums) → b < d → d ≤ g .rows → Whole g r a c b d sums → i ≡ pairNo (g .rows) b d
       → Lowest (parted t (s .columns) (s .pairs) a c i) a c uncut v
-      → Lowest (λ j. cost Straight g r (box a c b j) + cost Straight g r (box a c j d)) b d v best
+      → Lowest (across g r a c b d) b d v best
       → Judged (sums .inside) (sums .cells) (shotOf r (s .width) sums) best x
       → x ≡ cost Straight g r (box a c b d)
+  unfolding across
   piece-cost b d i v best x sums h l w e low across j =
       judged-piece g r (k .sound) (k .weight-most) a c b d (k .ac) (k .cx) h l (sums .inside) (sums .cells) (shotOf r (s .width) sums) v best x
       (w .summed .inside-are)
@@ -133,34 +168,12 @@ module _ (g : Grid) (r : Rule) (s : Strip) (t : List ℕ) (k : Placed g r s t) w
       across
       j
 
-  pub row-cost : (b d i v x : ℕ) (sums : Sums) → d ≡ b + 1 → d ≤ g .rows → Whole g r a c b d sums → i ≡ pairNo (g .rows) b d
+  -- a row has no horizontal cut
+  pub row-cost : (b i v x : ℕ) (sums : Sums) → suc b ≤ g .rows → Whole g r a c b (suc b) sums → i ≡ pairNo (g .rows) b (suc b)
       → Lowest (parted t (s .columns) (s .pairs) a c i) a c uncut v
       → Judged (sums .inside) (sums .cells) (shotOf r (s .width) sums) v x
-      → x ≡ cost Straight g r (box a c b d)
-  row-cost b d i v x sums z l w e low j =
-      piece-cost b d i v v x sums (omega arith) l w e low (lowest-between _ b d v (omega arith)) j
-
-  pub pair-cost : (b i v y z best x : ℕ) (sums : Sums) → b + 2 ≤ g .rows → Whole g r a c b (b + 2) sums → i ≡ pairNo (g .rows) b (b + 2)
-      → Lowest (parted t (s .columns) (s .pairs) a c i) a c uncut v
-      → y ≡ cost Straight g r (box a c b (b + 1)) → z ≡ cost Straight g r (box a c (b + 1) (b + 2)) → best ≡ min v (y + z)
-      → Judged (sums .inside) (sums .cells) (shotOf r (s .width) sums) best x
-      → x ≡ cost Straight g r (box a c b (b + 2))
-  pair-cost b i v y z best x sums l w e low ey ez eb j =
-      piece-cost b (b + 2) i v best x sums (omega arith) l w e low
-      (rw eb (across-two (λ j. cost Straight g r (box a c b j) + cost Straight g r (box a c j (b + 2))) b v (y + z) (ap₂ _+_ ey ez)))
-      j
-
-  pub triple-cost : (i v y₁ z₁ y₂ z₂ lower best x : ℕ) (sums : Sums) → 3 ≤ g .rows → Whole g r a c 0 3 sums → i ≡ pairNo (g .rows) 0 3
-      → Lowest (parted t (s .columns) (s .pairs) a c i) a c uncut v
-      → y₁ ≡ cost Straight g r (box a c 0 1) → z₁ ≡ cost Straight g r (box a c 1 3) → y₂ ≡ cost Straight g r (box a c 0 2) → z₂ ≡ cost Straight g r (box a c 2 3)
-      → lower ≡ min v (y₁ + z₁) → best ≡ min lower (y₂ + z₂)
-      → Judged (sums .inside) (sums .cells) (shotOf r (s .width) sums) best x
-      → x ≡ cost Straight g r (box a c 0 3)
-  triple-cost i v y₁ z₁ y₂ z₂ lower best x sums l w e low e₁ f₁ e₂ f₂ el eb j =
-      piece-cost 0 3 i v best x sums (omega arith) l w e low
-      (rw eb (rw el
-      (across-three (λ j. cost Straight g r (box a c 0 j) + cost Straight g r (box a c j 3)) v (y₁ + z₁) (y₂ + z₂) (ap₂ _+_ e₁ f₁) (ap₂ _+_ e₂ f₂))))
-      j
+      → x ≡ cost Straight g r (box a c b (suc b))
+  row-cost b i v x sums l w e low j = piece-cost b (suc b) i v v x sums (omega arith) l w e low (across-none g r a c b (suc b) v) j
 
 -- how many pieces a strip has
 pub pairs-one : (rows : ℕ) → rows ≡ 1 → pairCount rows ≡ 1
@@ -175,25 +188,43 @@ pub pairs-three : (rows : ℕ) → rows ≡ 3 → pairCount rows ≡ 6
 unfolding pairCount pairsBelow
 pairs-three rows e = ap pairCount e
 
-pub low-pairs : (rows : ℕ) → (0 ≡ pairNo rows 0 1) × ((1 ≡ pairNo rows 0 2) × (2 ≡ pairNo rows 0 3))
-unfolding pairNo
-low-pairs rows = omega (arith, below-zero rows)
+pub pairs-five : (rows : ℕ) → rows ≡ 5 → pairCount rows ≡ 15
+unfolding pairCount pairsBelow
+pairs-five rows e = ap pairCount e
 
-pub top-enough : (rows b : ℕ) → rows ≡ b + 2 → 3 ≤ pairCount rows
-unfolding pairCount
-top-enough rows b e =
-    let z : b + 1 + 1 ≡ rows = omega arith in
-    let next : pairsBelow rows rows ≡ pairsBelow rows (b + 1) + (rows - (b + 1)) = sym (ap (pairsBelow rows) z) ∙ below-next rows (b + 1) in
-    omega (arith, next, below-next rows b)
+pub pairs-four : (rows : ℕ) → rows ≡ 4 → pairCount rows ≡ 10
+unfolding pairCount pairsBelow
+pairs-four rows e = ap pairCount e
+
+-- where the pieces that begin at one line stand
+pub low-pair : (rows : ℕ) → 0 ≡ pairNo rows 0 1
+unfolding pairNo
+low-pair rows = omega (arith, below-zero rows)
+
+pub next-pairs : (rows b i : ℕ) → i ≡ pairNo rows b (suc b) → (i + 1 ≡ pairNo rows b (up2 b)) × (i + 2 ≡ pairNo rows b (up3 b))
+unfolding pairNo
+next-pairs rows b i e = omega arith
+
+pub next-room : (rows b i : ℕ) → up3 b ≤ rows → i ≡ pairNo rows b (suc b) → i + 3 ≤ pairCount rows
+next-room rows b i h e = omega (arith, next-pairs rows b i e .1, pair-below rows b (up3 b) (omega arith) h)
+
+-- where those of four and of five rows that begin at the lowest line stand
+pub high-pairs : (rows : ℕ) → (3 ≡ pairNo rows 0 4) × (4 ≡ pairNo rows 0 5)
+unfolding pairNo
+high-pairs rows = omega (arith, below-zero rows)
 
 -- where the pieces of the two highest rows stand
-pub top-pairs : (rows b : ℕ) → rows ≡ b + 2
-    → (pairCount rows - 3 ≡ pairNo rows b (b + 1)) × ((pairCount rows - 3 + 1 ≡ pairNo rows b (b + 2)) × (pairCount rows - 3 + 2 ≡ pairNo rows (b + 1) (b + 2)))
+pub top-pairs : (rows b : ℕ) → rows ≡ up2 b
+    → (pairCount rows ≡ 3 + pairNo rows b (suc b)) × ((pairCount rows ≡ 2 + pairNo rows b (up2 b)) × (pairCount rows ≡ 1 + pairNo rows (suc b) (up2 b)))
 unfolding pairCount pairNo
-top-pairs rows b e =
-    let z : b + 1 + 1 ≡ rows = omega arith in
-    let next : pairsBelow rows rows ≡ pairsBelow rows (b + 1) + (rows - (b + 1)) = sym (ap (pairsBelow rows) z) ∙ below-next rows (b + 1) in
-    omega (arith, next, below-next rows b)
+top-pairs rows b e = omega (arith, ap (pairsBelow rows) e, below-suc rows b, below-suc rows (suc b))
+
+-- and of the four highest
+pub four-pairs : (rows b : ℕ) → rows ≡ up4 b
+    → (pairCount rows ≡ 10 + pairNo rows b (suc b)) × ((pairCount rows ≡ 7 + pairNo rows b (up4 b)) × (pairCount rows ≡ 6 + pairNo rows (suc b) (up2 b)))
+unfolding pairCount pairNo
+four-pairs rows b e =
+    omega (arith, ap (pairsBelow rows) e, below-suc rows b, below-suc rows (suc b), below-suc rows (up2 b), below-suc rows (up3 b))
 
 -- what the stores of a strip write
 pub one-wrote : (t : List ℕ) (at x : ℕ) → at < length t → Wrote (λ i. x) at 1 t (set t at x)
@@ -210,40 +241,115 @@ three-wrote t at x h =
     let w₂ = wrote-more (threeAt x) at 1 t (set t at (x .first)) (x .second) (omega (arith, w₁ .long)) refl w₁ in
     wrote-more (threeAt x) at 2 t (set (set t at (x .first)) (at + 1) (x .second)) (x .third) (omega (arith, w₂ .long)) refl w₂
 
+-- in two goes
+wrote-both : (f g h : ℕ → ℕ) (at m n : ℕ) (t v u : List ℕ) → Wrote f at m t v → Wrote g (at + m) n v u
+    → ((i : ℕ) → i < m → f i ≡ h i) → ((i : ℕ) → i < n → g i ≡ h (m + i))
+    → Wrote h at (m + n) t u
+wrote-both f g h at m n t v u w o low high =
+    record {
+      long = o .long ∙ w .long;
+      made =
+          λ i q. elim (le-or m i) [
+            | inr p ↦ o .kept (at + i) (inl (omega arith)) ∙ w .made i p ∙ low i p
+            | inl p ↦
+                (let e : at + i ≡ at + m + (i - m) = omega arith in
+                let z : m + (i - m) ≡ i = omega arith in
+                let j : i - m < n = omega arith in
+                ap (λ l. getD u l 0) e ∙ o .made (i - m) j ∙ high (i - m) j ∙ ap h z)
+          ];
+      kept = λ l q. o .kept l (over l q) ∙ w .kept l (under l q);
+    }
+  where
+    over : (l : ℕ) → (l < at) ⊎ (at + (m + n) ≤ l) → (l < at + m) ⊎ (at + m + n ≤ l)
+    over l (inl q) = inl (omega arith)
+    over l (inr q) = inr (omega arith)
+
+    under : (l : ℕ) → (l < at) ⊎ (at + (m + n) ≤ l) → (l < at) ⊎ (at + m ≤ l)
+    under l (inl q) = inl q
+    under l (inr q) = inr (omega arith)
+
+-- three numbers among others
+three-same : (x : Three) (h : ℕ → ℕ) (m : ℕ) → x .first ≡ h m → x .second ≡ h (m + 1) → x .third ≡ h (m + 2) → (i : ℕ) → i < 3 → threeAt x i ≡ h (m + i)
+unfolding threeAt
+three-same x h m p q r zero l = p ∙ ap h (sym (add-zero m))
+three-same x h m p q r (suc zero) l = q
+three-same x h m p q r (suc (suc zero)) l = r
+three-same x h m p q r (suc (suc (suc i))) l = absurd (omega arith)
+
+pub threes-more : (h : ℕ → ℕ) (at m : ℕ) (t v u : List ℕ) (x : Three) → Wrote h at m t v → Wrote (threeAt x) (at + m) 3 v u
+    → x .first ≡ h m → x .second ≡ h (m + 1) → x .third ≡ h (m + 2)
+    → Wrote h at (m + 3) t u
+threes-more h at m t v u x w o p q r = wrote-both h (threeAt x) h at m 3 t v u w o (λ i l. refl) (three-same x h m p q r)
+
+pub threes-first : (h : ℕ → ℕ) (at : ℕ) (t u : List ℕ) (x : Three) → Wrote (threeAt x) at 3 t u → x .first ≡ h 0 → x .second ≡ h 1 → x .third ≡ h 2
+    → Wrote h at 3 t u
+threes-first h at t u x w p q r =
+    threes-more h at 0 t t u x (wrote-none h at t) (subst (λ n. Wrote (threeAt x) n 3 t u) (sym (add-zero at)) w) p q r
+
 -- the i-th of twice three numbers
 unfoldable pub sixAt : Three → Three → ℕ → ℕ
 sixAt x y i = getD (x .first ∷ x .second ∷ x .third ∷ y .first ∷ y .second ∷ y .third ∷ []) i 0
 
-six-low : (x y : Three) (i : ℕ) → i < 3 → threeAt x i ≡ sixAt x y i
-unfolding threeAt sixAt
-six-low x y zero h = refl
-six-low x y (suc zero) h = refl
-six-low x y (suc (suc zero)) h = refl
-six-low x y (suc (suc (suc i))) h = absurd (omega arith)
-
-six-high : (x y : Three) (i : ℕ) → threeAt y i ≡ sixAt x y (suc (suc (suc i)))
-unfolding threeAt sixAt
-six-high x y i = refl
-
 pub six-wrote : (t v u : List ℕ) (at : ℕ) (x y : Three) → Wrote (threeAt x) at 3 t v → Wrote (threeAt y) (at + 3) 3 v u → Wrote (sixAt x y) at 6 t u
+unfolding sixAt
 six-wrote t v u at x y w o =
-    record {
-      long = o .long ∙ w .long;
-      made =
-          λ i h. elim (le-or 3 i) [
-            | inr q ↦ o .kept (at + i) (inl (omega arith)) ∙ w .made i q ∙ six-low x y i q
-            | inl q ↦
-                (let e : at + i ≡ at + 3 + (i - 3) = omega arith in
-                let z : suc (suc (suc (i - 3))) ≡ i = omega arith in
-                ap (λ n. getD u n 0) e ∙ o .made (i - 3) (omega arith) ∙ six-high x y (i - 3) ∙ ap (sixAt x y) z)
-          ];
-      kept = λ m h. o .kept m (over m h) ∙ w .kept m (under m h);
-    }
-  where
-    over : (m : ℕ) → (m < at) ⊎ (at + 6 ≤ m) → (m < at + 3) ⊎ (at + 3 + 3 ≤ m)
-    over m (inl h) = inl (omega arith)
-    over m (inr h) = inr (omega arith)
+    threes-more (sixAt x y) at 3 t v u y (threes-first (sixAt x y) at t v x w refl refl refl) o refl refl refl
 
-    under : (m : ℕ) → (m < at) ⊎ (at + 6 ≤ m) → (m < at) ⊎ (at + 3 ≤ m)
-    under m (inl h) = inl h
-    under m (inr h) = inr (omega arith)
+-- the five of the lowest row of five
+pub five-wrote : (t v : List ℕ) (at : ℕ) (x : Five) → at + 5 ≤ length t → Wrote (threeAt (x .three)) at 3 t v
+    → Wrote (fiveAt x) at 5 t (set (set v (at + 3) (x .fourth)) (at + 4) (x .whole))
+unfolding fiveAt
+five-wrote t v at x h l =
+    let three = threes-first (fiveAt x) at t v (x .three) l refl refl refl in
+    let four = wrote-more (fiveAt x) at 3 t v (x .fourth) (omega (arith, l .long)) refl three in
+    wrote-more (fiveAt x) at 4 t (set v (at + 3) (x .fourth)) (x .whole) (omega (arith, four .long)) refl four
+
+-- the ten of four rows
+pub ten-wrote : (t v w u : List ℕ) (at : ℕ) (x : Ten) → at + 10 ≤ length t → Wrote (threeAt (x .lowest)) at 3 t v
+    → Wrote (threeAt (x .second)) (at + 4) 3 (set v (at + 3) (x .whole)) w → Wrote (threeAt (x .top)) (at + 7) 3 w u
+    → Wrote (tenAt x) at 10 t u
+unfolding tenAt
+ten-wrote t v w u at x h l m n =
+    let three = threes-first (tenAt x) at t v (x .lowest) l refl refl refl in
+    let four = wrote-more (tenAt x) at 3 t v (x .whole) (omega (arith, l .long)) refl three in
+    let seven = threes-more (tenAt x) at 4 t (set v (at + 3) (x .whole)) w (x .second) four m refl refl refl in
+    threes-more (tenAt x) at 7 t w u (x .top) seven n refl refl refl
+
+-- the i-th of five and ten numbers
+unfoldable pub fifteenAt : Five → Ten → ℕ → ℕ
+fifteenAt x y i =
+    getD
+    (x .three .first
+    ∷ x .three .second
+    ∷ x .three .third
+    ∷ x .fourth
+    ∷ x .whole
+    ∷ y .lowest .first
+    ∷ y .lowest .second
+    ∷ y .lowest .third
+    ∷ y .whole
+    ∷ y .second .first
+    ∷ y .second .second
+    ∷ y .second .third
+    ∷ y .top .first
+    ∷ y .top .second
+    ∷ y .top .third
+    ∷ [])
+    i
+    0
+
+fifteen-low : (x : Five) (y : Ten) (i : ℕ) → i < 5 → fiveAt x i ≡ fifteenAt x y i
+unfolding fiveAt fifteenAt
+fifteen-low x y zero h = refl
+fifteen-low x y (suc zero) h = refl
+fifteen-low x y (suc (suc zero)) h = refl
+fifteen-low x y (suc (suc (suc zero))) h = refl
+fifteen-low x y (suc (suc (suc (suc zero)))) h = refl
+fifteen-low x y (suc (suc (suc (suc (suc i))))) h = absurd (omega arith)
+
+fifteen-high : (x : Five) (y : Ten) (i : ℕ) → i < 10 → tenAt y i ≡ fifteenAt x y (5 + i)
+unfolding tenAt fifteenAt
+fifteen-high x y i h = (let z : suc (up4 i) ≡ 5 + i = omega arith in ap (fifteenAt x y) z)
+
+pub fifteen-wrote : (t v u : List ℕ) (at : ℕ) (x : Five) (y : Ten) → Wrote (fiveAt x) at 5 t v → Wrote (tenAt y) (at + 5) 10 v u → Wrote (fifteenAt x y) at 15 t u
+fifteen-wrote t v u at x y w o = wrote-both (fiveAt x) (tenAt y) (fifteenAt x y) at 5 10 t v u w o (fifteen-low x y) (fifteen-high x y)

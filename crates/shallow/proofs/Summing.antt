@@ -1,7 +1,7 @@
 -- Laws of the sums of the pieces of a strip. Assumes nothing.
 --
 --   empty-made, grown-made  == the sums that the code makes
---   summed-small, flanks-most
+--   summed-small, whole-small
 --                           == the sums of a piece of a grid are small
 --   summed-none, whole-grown
 --                           == a row of cells with no column yet, and with one more
@@ -82,7 +82,7 @@ module _ (g : Grid) (sound : Sound g) where
             mul-le-mul {n₁ = c - a} {m₁ = d - b} {n₂ = 15} {m₂ = 15} (omega (arith, sound .columns-most)) (omega (arith, sound .rows-most)),
           )
 
-  pub flanks-most : (r : Rule) (a c b d : ℕ) (s : Sums) → b ≤ d → Whole g r a c b d s → s .flanks ≤ 131070
+  flanks-most : (r : Rule) (a c b d : ℕ) (s : Sums) → b ≤ d → Whole g r a c b d s → s .flanks ≤ 131070
   unfolding left right height
   flanks-most r a c b d s q w =
       omega (
@@ -92,6 +92,9 @@ module _ (g : Grid) (sound : Sound g) where
         measure.span-most (g .y) (sound .y-up) (sound .y-most) (λ j. lowSide (λ i. g .inside i j) a) b d q,
         measure.span-most (g .y) (sound .y-up) (sound .y-most) (λ j. highSide (λ i. g .inside i j) c) b d q,
       )
+
+  pub whole-small : (r : Rule) (a c b d : ℕ) (s : Sums) → a ≤ c → c ≤ g .columns → b ≤ d → d ≤ g .rows → Whole g r a c b d s → Small s × (s .flanks ≤ 131070)
+  whole-small r a c b d s h k q l w = (summed-small a c b d s h k q l (w .summed), flanks-most r a c b d s q w)
 
   -- one above the other
   pub whole-stacked : (r : Rule) (a c b m d : ℕ) (low high : Sums) → b ≤ m → m ≤ d → Whole g r a c b m low → Whole g r a c m d high

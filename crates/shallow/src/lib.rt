@@ -1,4 +1,4 @@
-// The fill of the cost table for a grid of one, two or three rows of cells: straight through, with the sums of a strip and the costs
+// The fill of the cost table for a grid of one to five rows of cells: straight through, with the sums of a strip and the costs
 // of its pieces in single numbers.
 mod cuts;
 mod rows;
@@ -30,7 +30,7 @@ fn fill_from(
     table: &mut [u32],
 )
     requires { ⌜ Ready (stored columns rows (now xs) (now ys) (now cells)) rule (now xs) (now ys) (now cells) (now table) ⌝ }
-    requires { ⌜ (rows ≤ 3) × ((a .0 < columns) × (first ≡ pairsBelow columns (a .0))) ⌝ }
+    requires { ⌜ (rows ≤ 5) × ((a .0 < columns) × (first ≡ pairsBelow columns (a .0))) ⌝ }
     requires { ⌜ Reached Straight (stored columns rows (now xs) (now ys) (now cells)) rule (now table) (a .0) (a .0 + 1) ⌝ }
     ensures { λ _. ⌜ Reached Straight (stored columns rows (now (xs .entry)) (now (ys .entry)) (now (cells .entry))) rule (now (table .exit)) (a .0) (columns + 1) ⌝ }
     ensures { λ _. ⌜ Beyond (entryCount columns rows) (now (table .entry)) (now (table .exit)) ⌝ }
@@ -39,12 +39,16 @@ fn fill_from(
         rows::fill_one(xs, ys, cells, columns, rule, a, first, table);
     } else if rows == 2 {
         rows::fill_two(xs, ys, cells, columns, rule, a, first, table);
-    } else {
+    } else if rows == 3 {
         rows::fill_three(xs, ys, cells, columns, rule, a, first, table);
+    } else if rows == 4 {
+        rows::fill_four(xs, ys, cells, columns, rule, a, first, table);
+    } else {
+        rows::fill_five(xs, ys, cells, columns, rule, a, first, table);
     }
 }
 
-// Fills the table with the cost of every piece of a grid of at most three rows of cells, in the order of entries. What it held there has
+// Fills the table with the cost of every piece of a grid of at most five rows of cells, in the order of entries. What it held there has
 // no influence, and what lies beyond the entries stays as it was.
 pub fn fill(
     xs: &[u16],
@@ -56,7 +60,7 @@ pub fn fill(
     table: &mut [u32],
 )
     requires { ⌜ Ready (stored columns rows (now xs) (now ys) (now cells)) rule (now xs) (now ys) (now cells) (now table) ⌝ }
-    requires { ⌜ rows ≤ 3 ⌝ }
+    requires { ⌜ rows ≤ 5 ⌝ }
     ensures { λ _. ⌜ now (table .exit) ≡ costs Straight (stored columns rows (now (xs .entry)) (now (ys .entry)) (now (cells .entry))) rule ++ drop (length (costs Straight (stored columns rows (now (xs .entry)) (now (ys .entry)) (now (cells .entry))) rule)) (now (table .entry)) ⌝ }
 {
     let mut first = numbering::pair_count(columns);

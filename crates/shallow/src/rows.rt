@@ -1,4 +1,4 @@
-// The pieces of a strip of one, two or three rows of cells, and the strips that begin at one x line. Every piece is settled when all of
+// The pieces of a strip of one to five rows of cells, and the strips that begin at one x line. Every piece is settled when all of
 // its parts are: in the table stand those of its vertical cuts, in single numbers those of its horizontal ones.
 use crate::cuts;
 use crate::cuts::Strip;
@@ -19,7 +19,25 @@ ghost use Rattle.piece.specs.Cuts.{cost};
 ghost use Rattle.table.specs.Entry.{pairsBelow, entryCount};
 ghost use Rattle.table.specs.Run.{Wrote};
 ghost use Rattle.table.specs.Fill.{Ready, Reached, Beyond};
-ghost use Rattle.shallow.specs.Rows.{OneRow, TwoRows, ThreeRows, TopTwo, LowThree, threeAt};
+ghost use Rattle.rule.specs.declared.Rule.{Rule};
+ghost use Rattle.shallow.specs.Sums.{Whole};
+ghost use Rattle.shallow.specs.Rows.{OneRow, TwoRows, ThreeRows, FourSums, FourRows, FiveRows, TopTwo, LowThree, LowFive, WholeFour, WholeFive, TopFour, Addable, leastOf, up4, up5, threeAt, fiveAt, tenAt};
+
+// The costs of the ten pieces of four rows, in the order of entries: of those that begin at the lowest line the three lower ones and the
+// whole, then those that begin at the line above, then those of the two highest rows.
+pub struct Ten {
+    pub lowest: Three,
+    pub whole: u32,
+    pub second: Three,
+    pub top: Three,
+}
+
+// The costs of the five pieces that begin at the lowest line of five rows, in the order of entries.
+pub struct Five {
+    pub three: Three,
+    pub fourth: u32,
+    pub whole: u32,
+}
 
 // The cost of a strip of one row of cells.
 fn one_row(table: &[u32], strip: Strip, rule: Rule, row: Sums) -> u32
@@ -49,22 +67,23 @@ fn two_rows(table: &[u32], strip: Strip, rule: Rule, low: Sums, high: Sums) -> T
     }
 }
 
-// What a third row below the two highest adds, whose costs are known: the costs of the three pieces that begin at the lowest line. They
-// stand first in the strip.
+// What a row below two rows adds, whose costs are known: the costs of the three pieces that begin at its low line. They stand from the
+// i-th of the strip on.
 fn third_row(
     table: &[u32],
     strip: Strip,
+    i: usize,
     rule: Rule,
     low: Sums,
     middle: Sums,
     high: Sums,
     above: Three,
 ) -> Three
-    requires { ⌜ ((g : Grid) × ThreeRows g rule strip low middle high above (now table)) ⌝ }
-    ensures { λ x. ⌜ ((g : Grid) → ThreeRows g rule strip low middle high above (now (table .entry)) → LowThree g rule (strip .a .0) (strip .c .0) x) ⌝ }
+    requires { ⌜ ((g : Grid) × (b : ℕ) × ThreeRows g rule strip b i low middle high above (now table)) ⌝ }
+    ensures { λ x. ⌜ ((g : Grid) (b : ℕ) → ThreeRows g rule strip b i low middle high above (now (table .entry)) → LowThree g rule (strip .a .0) (strip .c .0) b x) ⌝ }
 {
     let width = strip.width;
-    let least = cuts::least_cuts(table, strip, 0);
+    let least = cuts::least_cuts(table, strip, i);
     let first = sums::settled(low, rule, width, least.first);
     let two = sums::stacked(low, middle);
     let cut = runs::lesser(least.second, first + above.first);
@@ -80,6 +99,156 @@ fn third_row(
     }
 }
 
+// The least of `best` and of three horizontal cuts, of which `below` has the costs of the lower parts and `above` those of the upper ones.
+fn three_cuts(best: u32, below: Three, above: Three) -> u32
+    requires { ⌜ Addable below above ⌝ }
+    ensures { λ r. ⌜ r ≡ leastOf best below above ⌝ }
+{
+    let first = runs::lesser(best, below.first + above.first);
+    let second = runs::lesser(first, below.second + above.second);
+    runs::lesser(second, below.third + above.third)
+}
+
+// The cost of the i-th piece of a strip, which has four rows, with these sums. `below` are the costs of the pieces of one, two and three
+// rows that begin at its low line, `above` those of the three that are left over them, up to its high line.
+fn four_rows(
+    table: &[u32],
+    strip: Strip,
+    i: usize,
+    rule: Rule,
+    all: Sums,
+    below: Three,
+    above: Three,
+) -> u32
+    requires { ⌜ ((g : Grid) × (b : ℕ) × WholeFour g rule strip b i all below above (now table)) ⌝ }
+    ensures { λ x. ⌜ ((g : Grid) (b : ℕ) → WholeFour g rule strip b i all below above (now (table .entry)) → x ≡ cost Straight g rule (box (strip .a .0) (strip .c .0) b (up4 b))) ⌝ }
+{
+    let best = cuts::least_cut(table, strip, i);
+    let cut = three_cuts(best, below, above);
+    sums::settled(all, rule, strip.width, cut)
+}
+
+// The same of one that has five rows: `low` is the cost of the piece of four rows that begins at its low line, `high` that of its highest row.
+fn five_rows(
+    table: &[u32],
+    strip: Strip,
+    i: usize,
+    rule: Rule,
+    all: Sums,
+    below: Three,
+    low: u32,
+    above: Three,
+    high: u32,
+) -> u32
+    requires { ⌜ ((g : Grid) × (b : ℕ) × WholeFive g rule strip b i all below low above high (now table)) ⌝ }
+    ensures { λ x. ⌜ ((g : Grid) (b : ℕ) → WholeFive g rule strip b i all below low above high (now (table .entry)) → x ≡ cost Straight g rule (box (strip .a .0) (strip .c .0) b (up5 b))) ⌝ }
+{
+    let best = cuts::least_cut(table, strip, i);
+    let lower = three_cuts(best, below, above);
+    let cut = runs::lesser(lower, low + high);
+    sums::settled(all, rule, strip.width, cut)
+}
+
+// The sums of four rows, one above the other.
+fn four_sums(lowest: Sums, second: Sums, third: Sums, highest: Sums) -> Sums
+    requires { ⌜ ((g : Grid) × (r : Rule) × (a : ℕ) × (c : ℕ) × (b : ℕ) × FourSums g r a c b lowest second third highest) ⌝ }
+    ensures { λ x. ⌜ ((g : Grid) (r : Rule) (a c b : ℕ) → FourSums g r a c b lowest second third highest → Whole g r a c b (up4 b) x) ⌝ }
+{
+    let two = sums::stacked(lowest, second);
+    let three = sums::stacked(two, third);
+    sums::stacked(three, highest)
+}
+
+// The costs of the ten pieces of the four highest rows of a strip: they stand last in it.
+fn highest_four(
+    table: &[u32],
+    strip: Strip,
+    rule: Rule,
+    lowest: Sums,
+    second: Sums,
+    third: Sums,
+    highest: Sums,
+) -> Ten
+    requires { ⌜ ((g : Grid) × (b : ℕ) × FourRows g rule strip b lowest second third highest (now table)) ⌝ }
+    ensures { λ x. ⌜ ((g : Grid) (b : ℕ) → FourRows g rule strip b lowest second third highest (now (table .entry)) → TopFour g rule (strip .a .0) (strip .c .0) b x) ⌝ }
+{
+    let pairs = strip.pairs;
+    let top = two_rows(table, strip, rule, third, highest);
+    let upper = third_row(table, strip, pairs - 6, rule, second, third, highest, top);
+    let over = Three {
+        first: upper.first,
+        second: upper.second,
+        third: top.first,
+    };
+    let lower = third_row(table, strip, pairs - 10, rule, lowest, second, third, over);
+    let left = Three {
+        first: upper.third,
+        second: top.second,
+        third: top.third,
+    };
+    let all = four_sums(lowest, second, third, highest);
+    let whole = four_rows(table, strip, pairs - 7, rule, all, lower, left);
+    Ten {
+        lowest: lower,
+        whole,
+        second: upper,
+        top,
+    }
+}
+
+// What a fifth row below the four highest adds, whose costs are known: the costs of the five pieces that begin at the lowest line. They
+// stand first in the strip.
+fn fifth_row(
+    table: &[u32],
+    strip: Strip,
+    rule: Rule,
+    lowest: Sums,
+    second: Sums,
+    third: Sums,
+    fourth: Sums,
+    highest: Sums,
+    above: Ten,
+) -> Five
+    requires { ⌜ ((g : Grid) × FiveRows g rule strip lowest second third fourth highest above (now table)) ⌝ }
+    ensures { λ x. ⌜ ((g : Grid) → FiveRows g rule strip lowest second third fourth highest above (now (table .entry)) → LowFive g rule (strip .a .0) (strip .c .0) x) ⌝ }
+{
+    let over = Three {
+        first: above.lowest.first,
+        second: above.lowest.second,
+        third: above.second.first,
+    };
+    let three = third_row(table, strip, 0, rule, lowest, second, third, over);
+    let left = Three {
+        first: above.lowest.third,
+        second: above.second.second,
+        third: above.top.first,
+    };
+    let four = four_sums(lowest, second, third, fourth);
+    let low = four_rows(table, strip, 3, rule, four, three, left);
+    let rest = Three {
+        first: above.whole,
+        second: above.second.third,
+        third: above.top.second,
+    };
+    let all = sums::stacked(four, highest);
+    let whole = five_rows(
+        table,
+        strip,
+        4,
+        rule,
+        all,
+        three,
+        low,
+        rest,
+        above.top.third,
+    );
+    Five {
+        three,
+        fourth: low,
+        whole,
+    }
+}
+
 // Puts three numbers side by side.
 fn store(table: &mut [u32], at: usize, three: Three)
     requires { ⌜ at + 3 ≤ length (now table) ⌝ }
@@ -88,6 +257,27 @@ fn store(table: &mut [u32], at: usize, three: Three)
     table[at] = three.first;
     table[at + 1] = three.second;
     table[at + 2] = three.third;
+}
+
+// Puts five numbers side by side.
+fn store_five(table: &mut [u32], at: usize, five: Five)
+    requires { ⌜ at + 5 ≤ length (now table) ⌝ }
+    ensures { λ _. ⌜ Wrote (fiveAt five) at 5 (now (table .entry)) (now (table .exit)) ⌝ }
+{
+    store(table, at, five.three);
+    table[at + 3] = five.fourth;
+    table[at + 4] = five.whole;
+}
+
+// Puts ten numbers side by side.
+fn store_ten(table: &mut [u32], at: usize, ten: Ten)
+    requires { ⌜ at + 10 ≤ length (now table) ⌝ }
+    ensures { λ _. ⌜ Wrote (tenAt ten) at 10 (now (table .entry)) (now (table .exit)) ⌝ }
+{
+    store(table, at, ten.lowest);
+    table[at + 3] = ten.whole;
+    store(table, at + 4, ten.second);
+    store(table, at + 7, ten.top);
 }
 
 // Fills the strips that begin at the x line a, the narrowest first, where all that begin above it are filled, in a grid of one row of
@@ -215,10 +405,120 @@ pub fn fill_three(
         middle = sums::grown(cells, rule, strip, step, 1, middle);
         high = sums::grown(cells, rule, strip, step, 2, high);
         let above = two_rows(table, strip, rule, middle, high);
-        let costs = third_row(table, strip, rule, low, middle, high, above);
+        let costs = third_row(table, strip, 0, rule, low, middle, high, above);
         store(table, at, costs);
         store(table, at + 3, above);
         at += 6;
+        c += 1;
+    }
+}
+
+// The same in a grid of four rows of cells.
+pub fn fill_four(
+    xs: &[u16],
+    ys: &[u16],
+    cells: &[u8],
+    columns: usize,
+    rule: Rule,
+    a: Line,
+    first: usize,
+    table: &mut [u32],
+)
+    requires { ⌜ Ready (stored columns 4 (now xs) (now ys) (now cells)) rule (now xs) (now ys) (now cells) (now table) ⌝ }
+    requires { ⌜ (a .0 < columns) × (first ≡ pairsBelow columns (a .0)) ⌝ }
+    requires { ⌜ Reached Straight (stored columns 4 (now xs) (now ys) (now cells)) rule (now table) (a .0) (a .0 + 1) ⌝ }
+    ensures { λ _. ⌜ Reached Straight (stored columns 4 (now (xs .entry)) (now (ys .entry)) (now (cells .entry))) rule (now (table .exit)) (a .0) (columns + 1) ⌝ }
+    ensures { λ _. ⌜ Beyond (entryCount columns 4) (now (table .entry)) (now (table .exit)) ⌝ }
+{
+    let start = 10 * first;
+    let mut lowest = sums::empty(ys, 0);
+    let mut second = sums::empty(ys, 1);
+    let mut third = sums::empty(ys, 2);
+    let mut highest = sums::empty(ys, 3);
+    let mut at = start;
+    let mut c = a.0 + 1;
+    while c <= columns {
+        let last = c - 1;
+        let width = sides::span(xs, a, Line(c));
+        let step = sides::span(xs, Line(last), Line(c));
+        let strip = Strip {
+            columns,
+            pairs: 10,
+            a,
+            c: Line(c),
+            first: start,
+            at,
+            width,
+        };
+        lowest = sums::grown(cells, rule, strip, step, 0, lowest);
+        second = sums::grown(cells, rule, strip, step, 1, second);
+        third = sums::grown(cells, rule, strip, step, 2, third);
+        highest = sums::grown(cells, rule, strip, step, 3, highest);
+        let costs = highest_four(table, strip, rule, lowest, second, third, highest);
+        store_ten(table, at, costs);
+        at += 10;
+        c += 1;
+    }
+}
+
+// The same in a grid of five rows of cells.
+pub fn fill_five(
+    xs: &[u16],
+    ys: &[u16],
+    cells: &[u8],
+    columns: usize,
+    rule: Rule,
+    a: Line,
+    first: usize,
+    table: &mut [u32],
+)
+    requires { ⌜ Ready (stored columns 5 (now xs) (now ys) (now cells)) rule (now xs) (now ys) (now cells) (now table) ⌝ }
+    requires { ⌜ (a .0 < columns) × (first ≡ pairsBelow columns (a .0)) ⌝ }
+    requires { ⌜ Reached Straight (stored columns 5 (now xs) (now ys) (now cells)) rule (now table) (a .0) (a .0 + 1) ⌝ }
+    ensures { λ _. ⌜ Reached Straight (stored columns 5 (now (xs .entry)) (now (ys .entry)) (now (cells .entry))) rule (now (table .exit)) (a .0) (columns + 1) ⌝ }
+    ensures { λ _. ⌜ Beyond (entryCount columns 5) (now (table .entry)) (now (table .exit)) ⌝ }
+{
+    let start = 15 * first;
+    let mut lowest = sums::empty(ys, 0);
+    let mut second = sums::empty(ys, 1);
+    let mut third = sums::empty(ys, 2);
+    let mut fourth = sums::empty(ys, 3);
+    let mut highest = sums::empty(ys, 4);
+    let mut at = start;
+    let mut c = a.0 + 1;
+    while c <= columns {
+        let last = c - 1;
+        let width = sides::span(xs, a, Line(c));
+        let step = sides::span(xs, Line(last), Line(c));
+        let strip = Strip {
+            columns,
+            pairs: 15,
+            a,
+            c: Line(c),
+            first: start,
+            at,
+            width,
+        };
+        lowest = sums::grown(cells, rule, strip, step, 0, lowest);
+        second = sums::grown(cells, rule, strip, step, 1, second);
+        third = sums::grown(cells, rule, strip, step, 2, third);
+        fourth = sums::grown(cells, rule, strip, step, 3, fourth);
+        highest = sums::grown(cells, rule, strip, step, 4, highest);
+        let above = highest_four(table, strip, rule, second, third, fourth, highest);
+        let costs = fifth_row(
+            table,
+            strip,
+            rule,
+            lowest,
+            second,
+            third,
+            fourth,
+            highest,
+            above,
+        );
+        store_five(table, at, costs);
+        store_ten(table, at + 5, above);
+        at += 15;
         c += 1;
     }
 }

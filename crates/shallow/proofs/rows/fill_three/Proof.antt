@@ -10,7 +10,7 @@ use Rattle.shallow.specs.declared.cuts.Strip.{Strip}
 use Rattle.shallow.specs.Sums.{Summed}
 use Rattle.shallow.specs.Rows.{TwoRows, TopTwo, ThreeRows}
 use Rattle.shallow.proofs.Settling.{pairs-three, six-wrote}
-use Rattle.shallow.proofs.Filling.{Strips, Turn, asks-empty, asks-span, asks-grown, columns-few, row-empty, row-next, turn-first, turn-start, turn-more, turn-end, turn-room, turn-top, turn-three, three-right}
+use Rattle.shallow.proofs.Filling.{Strips, Turn, asks-empty, asks-span, asks-grown, columns-few, row-empty, row-next, turn-first, turn-start, turn-more, turn-end, turn-room, turn-two, turn-three, three-right}
 use borrow.Author.Needs.{needs}
 use Rattle.shallow.proofs.rows.fill_three.Statement.{statement}
 use Rattle.shallow.proofs.rows.fill_three.Tie as tie
@@ -81,7 +81,7 @@ top-given c =
     let n = c .before .before .before in
     let m = n .before .before in
     let l = m .before .loop in
-    turn-top _ _ _ _ _ _ _ _ _ _ (turn n) _ _ _ _
+    turn-two _ _ _ _ _ _ _ _ _ _ 1 (turn n) _ _ _ _
     (l .inv .1 .1 .0)
     (c .before .grown2 .ensures)
     (l .inv .1 .1 .1)
@@ -100,6 +100,8 @@ top-costs c = c .two-rows .ensures (grid (entry (c .before .before .before .befo
 all-given : (c : tie.After-two-rows Inv-loop μ-loop)
     → ThreeRows (grid (entry (c .before .before .before .before .before .before .before .before))) (entry (c .before .before .before .before .before .before .before .before) .args .rule)
     (strip (c .before .before .before .before .before))
+    0
+    0
     (c .before .before .before .before .grown .result)
     (c .before .before .before .grown2 .result)
     (c .before .before .grown3 .result)
@@ -183,7 +185,7 @@ two-rows-requires : tie.Need-two-rows-requires Inv-loop μ-loop
 two-rows-requires c κs = (let n = c .before in (grid (entry (n .before .before .before .before .before .before)), 1, top-given n))
 
 third-row-requires : tie.Need-third-row-requires Inv-loop μ-loop
-third-row-requires c κs = (let x = c .before in (grid (entry (x .before .before .before .before .before .before .before .before)), all-given x))
+third-row-requires c κs = (let x = c .before in (grid (entry (x .before .before .before .before .before .before .before .before)), 0, all-given x))
 
 store-requires : tie.Need-store-requires Inv-loop μ-loop
 store-requires c κs =
@@ -226,7 +228,7 @@ loop-again c =
     let w = all-given x in (
       turn-more _ _ _ _ _ _ _ (s .pre .0) _ _ _ _ (l .inv .0) _ _ 6 (m .loop-test .taken) (sym (pairs-three 3 refl))
           (six-wrote _ _ _ _ (y .third-row .result) (x .two-rows .result) (e .store .ensures) (e₂ .store2 .ensures))
-          (three-right (grid s) _ _ _ (y .third-row .result) (x .two-rows .result) (y .third-row .ensures (grid s) w) (top-costs x)),
+          (three-right (grid s) _ _ _ (y .third-row .result) (x .two-rows .result) (y .third-row .ensures (grid s) 0 w) (top-costs x)),
       (row-next _ _ _ _ _ _ _ (w .low-sums), (row-next _ _ _ _ _ _ _ (w .middle-sums), row-next _ _ _ _ _ _ _ (w .high-sums))),
     )
 

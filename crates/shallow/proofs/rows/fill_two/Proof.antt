@@ -80,7 +80,7 @@ rows-given c =
     let n = c .before .before in
     let m = n .before .before in
     let l = m .before .loop in
-    turn-two _ _ _ _ _ _ _ _ _ _ (turn n) _ _ _ _
+    turn-two _ _ _ _ _ _ _ _ _ _ 0 (turn n) _ _ _ _
     (l .inv .1 .0)
     (c .before .grown .ensures)
     (l .inv .1 .1)

@@ -1,6 +1,6 @@
 -- `shallow::rows::one_row` meets its contract. Assumes nothing.
 use native.Mathlib.Omega.{arith}
-use Rattle.shallow.proofs.Settling.{placed-cuttable, whole-ready, row-cost, pairs-one, low-pairs}
+use Rattle.shallow.proofs.Settling.{placed-cuttable, whole-ready, row-cost, pairs-one, low-pair}
 use borrow.Author.Needs.{needs}
 use Rattle.shallow.proofs.rows.one_row.Statement.{statement}
 use Rattle.shallow.proofs.rows.one_row.Tie as tie
@@ -17,7 +17,7 @@ settled-requires c κs =
 
 returns : tie.Need-returns
 returns c g w =
-    row-cost g _ _ _ (w .placed) 0 1 0 _ _ _ (omega arith) (omega (arith, w .rows-are)) (w .row-sums) (low-pairs (g .rows) .0) (c .before .least-cut .ensures)
+    row-cost g _ _ _ (w .placed) 0 0 _ _ _ (omega (arith, w .rows-are)) (w .row-sums) (low-pair (g .rows)) (c .before .least-cut .ensures)
     (c .settled .ensures)
 
 pub one-row-spec : {M : Type 1} → statement M

@@ -1,5 +1,5 @@
 -- `shallow::rows::two_rows` meets its contract: the two rows first, then both together. Assumes nothing.
-use Prim.Native.Nat.{ℕ, _+_, _-_}
+use Prim.Native.Nat.{ℕ, suc, _+_, _-_}
 use mathlib.Core.Path.{_≡_, sym, _∙_, ap, subst}
 use native.Mathlib.Omega.{arith}
 use Rattle.outline.specs.Grid.{Grid}
@@ -7,9 +7,9 @@ use Rattle.piece.specs.declared.Mode.the-variants.{Straight}
 use Rattle.piece.specs.Piece.{box}
 use Rattle.piece.specs.Cuts.{cost}
 use Rattle.shallow.specs.Sums.{Whole}
-use Rattle.shallow.specs.Rows.{TwoRows}
+use Rattle.shallow.specs.Rows.{TwoRows, up2}
 use Rattle.shallow.proofs.Summing.{whole-stacked}
-use Rattle.shallow.proofs.Settling.{placed-cuttable, whole-ready, cost-fits, row-cost, pair-cost, top-enough, top-pairs}
+use Rattle.shallow.proofs.Settling.{placed-cuttable, whole-ready, cost-fits, across-none, across-more, piece-cost, row-cost, top-pairs}
 use borrow.Author.Needs.{needs}
 use Rattle.shallow.proofs.rows.two_rows.Statement.{statement}
 use Rattle.shallow.proofs.rows.two_rows.Tie as tie
@@ -23,37 +23,37 @@ abbrev Of : Grid → ℕ → tie.After-least-cuts → Type 0
 Of g b c = (let a = entry c .args in TwoRows g (a .rule) (a .strip) b (a .low) (a .high) (a .table .now))
 
 first-is : (c : tie.After-settled) (g : Grid) (b : ℕ) → Of g b (c .before)
-    → c .settled .result ≡ cost Straight g (entry (c .before) .args .rule) (box (entry (c .before) .args .strip .a .0) (entry (c .before) .args .strip .c .0) b (b + 1))
+    → c .settled .result ≡ cost Straight g (entry (c .before) .args .rule) (box (entry (c .before) .args .strip .a .0) (entry (c .before) .args .strip .c .0) b (suc b))
 first-is c g b w =
-    row-cost g _ _ _ (w .placed) b (b + 1) _ _ _ _ (omega arith) (omega (arith, w .rows-are)) (w .low-sums)
-    (ap (λ n. n - 3) (w .placed .pairs-are) ∙ top-pairs (g .rows) b (w .rows-are) .0)
+    row-cost g _ _ _ (w .placed) b _ _ _ _ (omega (arith, w .rows-are)) (w .low-sums)
+    (omega (arith, w .placed .pairs-are, top-pairs (g .rows) b (w .rows-are) .0))
     (c .before .least-cuts .ensures .first)
     (c .settled .ensures)
 
 third-is : (c : tie.After-settled2) (g : Grid) (b : ℕ) → Of g b (c .before .before)
     → c .settled2 .result
-    ≡ cost Straight g (entry (c .before .before) .args .rule) (box (entry (c .before .before) .args .strip .a .0) (entry (c .before .before) .args .strip .c .0) (b + 1) (b + 2))
+    ≡ cost Straight g (entry (c .before .before) .args .rule) (box (entry (c .before .before) .args .strip .a .0) (entry (c .before .before) .args .strip .c .0) (suc b) (up2 b))
 third-is c g b w =
-    row-cost g _ _ _ (w .placed) (b + 1) (b + 2) _ _ _ _ (omega arith) (omega (arith, w .rows-are)) (w .high-sums)
-    (ap (λ n. n - 3 + 2) (w .placed .pairs-are) ∙ top-pairs (g .rows) b (w .rows-are) .1 .1)
+    row-cost g _ _ _ (w .placed) (suc b) _ _ _ _ (omega (arith, w .rows-are)) (w .high-sums)
+    (omega (arith, w .placed .pairs-are, top-pairs (g .rows) b (w .rows-are)))
     (c .before .before .least-cuts .ensures .third)
     (c .settled2 .ensures)
 
 both-are : (c : tie.After-stacked) (g : Grid) (b : ℕ) → Of g b (c .before .before .before)
-    → Whole g (entry (c .before .before .before) .args .rule) (entry (c .before .before .before) .args .strip .a .0) (entry (c .before .before .before) .args .strip .c .0) b (b + 2) (c .stacked .result)
+    → Whole g (entry (c .before .before .before) .args .rule) (entry (c .before .before .before) .args .strip .a .0) (entry (c .before .before .before) .args .strip .c .0) b (up2 b) (c .stacked .result)
 both-are c g b w =
-    subst (Whole g _ _ _ b (b + 2)) (sym (c .stacked .ensures))
-    (whole-stacked g (w .placed .sound) _ _ _ b (b + 1) (b + 2) _ _ (omega arith) (omega arith) (w .low-sums) (w .high-sums))
+    subst (Whole g _ _ _ b (up2 b)) (sym (c .stacked .ensures))
+    (whole-stacked g (w .placed .sound) _ _ _ b (suc b) (up2 b) _ _ (omega arith) (omega arith) (w .low-sums) (w .high-sums))
 
 sub-least-cuts : tie.Need-sub-least-cuts
 sub-least-cuts c =
     let w = c .before .before .pre .2 in
-    omega (arith, w .placed .pairs-are, top-enough _ _ (w .rows-are))
+    omega (arith, w .placed .pairs-are, top-pairs _ _ (w .rows-are) .0)
 
 least-cuts-requires : tie.Need-least-cuts-requires
 least-cuts-requires c κs =
     let w = c .before .before .pre .2 in
-    (placed-cuttable _ _ _ _ (w .placed), omega (arith, w .placed .pairs-are, top-enough _ _ (w .rows-are)))
+    (placed-cuttable _ _ _ _ (w .placed), omega (arith, w .placed .pairs-are, top-pairs _ _ (w .rows-are) .0))
 
 settled-requires : tie.Need-settled-requires
 settled-requires c κs =
@@ -79,7 +79,7 @@ add-lesser c =
     let b = p .1 in
     record {
       fits =
-          cost-fits _ _ _ _ (w .placed) b (b + 1) (b + 1) (b + 2) _ _ (omega arith) (omega (arith, w .rows-are)) (omega arith) (omega (arith, w .rows-are))
+          cost-fits _ _ _ _ (w .placed) b (suc b) (suc b) (up2 b) _ _ (omega arith) (omega (arith, w .rows-are)) (omega arith) (omega (arith, w .rows-are))
           (first-is (c .before .before) (p .0) b w)
           (third-is (c .before) (p .0) b w);
     }
@@ -103,12 +103,10 @@ returns c g b w =
     record {
       first-is = y;
       second-is =
-          pair-cost g _ _ _ (w .placed) b _ _ _ _ _ _ _ (omega (arith, w .rows-are)) (both-are s g b w)
-          (ap (λ n. n - 3 + 1) (w .placed .pairs-are) ∙ top-pairs (g .rows) b (w .rows-are) .1 .0)
+          piece-cost g _ _ _ (w .placed) b (up2 b) _ _ _ _ _ (omega arith) (omega (arith, w .rows-are)) (both-are s g b w)
+          (omega (arith, w .placed .pairs-are, top-pairs (g .rows) b (w .rows-are)))
           (s .before .before .before .least-cuts .ensures .second)
-          y
-          z
-          (c .before .lesser .ensures)
+          (across-more _ _ _ _ b _ _ _ _ _ _ _ (omega arith) y z (c .before .lesser .ensures) (across-none _ _ _ _ _ _ _))
           (c .settled3 .ensures);
       third-is = z;
     }

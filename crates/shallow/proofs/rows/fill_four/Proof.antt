@@ -1,0 +1,244 @@
+-- `shallow::rows::fill_four` meets its contract: the strips that end below the line c are filled. Assumes nothing.
+use Prim.Native.Nat.{_+_, _*_, _-_, _≤_}
+use mathlib.Core.Path.{_≡_, refl, sym}
+use native.Mathlib.Omega.{arith}
+use lib.ListN.{length}
+use Rattle.outline.specs.Grid.{Grid, stored}
+use Rattle.table.specs.Entry.{pairsBelow, pairCount}
+use Rattle.table.proofs.Entry.{below-most}
+use Rattle.shallow.specs.declared.cuts.Strip.{Strip}
+use Rattle.shallow.specs.Sums.{Summed}
+use Rattle.shallow.specs.Rows.{FourRows}
+use Rattle.shallow.proofs.Settling.{pairs-four}
+use Rattle.shallow.proofs.Filling.{Strips, Turn, asks-empty, asks-span, asks-grown, columns-few, row-empty, row-next, turn-first, turn-start, turn-more, turn-end, turn-room, turn-four, four-right}
+use borrow.Author.Needs.{needs}
+use Rattle.shallow.proofs.rows.fill_four.Statement.{statement}
+use Rattle.shallow.proofs.rows.fill_four.Tie as tie
+
+abbrev Inv-loop : tie.InvT-loop
+Inv-loop xs ys cells columns rule a first table₀ start lowest₀ second₀ third₀ highest₀ at₀ c₀ table lowest second third highest at c =
+    Strips (stored columns 4 xs ys cells) rule (a .0) c at table₀ table
+    × Summed (stored columns 4 xs ys cells) (a .0) (c - 1) 0 1 lowest
+    × Summed (stored columns 4 xs ys cells) (a .0) (c - 1) 1 2 second
+    × Summed (stored columns 4 xs ys cells) (a .0) (c - 1) 2 3 third
+    × Summed (stored columns 4 xs ys cells) (a .0) (c - 1) 3 4 highest
+
+abbrev μ-loop : tie.MeasureT-loop
+μ-loop xs ys cells columns rule a first table₀ start lowest₀ second₀ third₀ highest₀ at₀ c₀ table lowest second third highest at c =
+    columns + 1 - c
+
+-- the function's entry, from the head of the loop, and the head of the loop, from where a row grows
+abbrev entry : tie.At-loop Inv-loop μ-loop → tie.Start Inv-loop μ-loop
+entry c = c .before .before .before .before .before .before .before .before .before .before
+
+abbrev head : tie.After-span2 Inv-loop μ-loop → tie.At-loop Inv-loop μ-loop
+head c = c .before .before .before
+
+abbrev grid : tie.Start Inv-loop μ-loop → Grid
+grid s = stored (s .args .columns) 4 (s .args .xs .now) (s .args .ys .now) (s .args .cells .now)
+
+start-at : (s : tie.Start Inv-loop μ-loop) → 10 * s .args .first ≡ pairsBelow (s .args .columns) (s .args .a .0) * pairCount 4
+start-at s = turn-first _ _ _ _ _ _ _ (s .pre .0) _ (s .args .first) 10 (10 * s .args .first) (s .pre .1 .0 .1) (sym (pairs-four 4 refl)) refl
+
+-- the strip of a turn
+abbrev strip : tie.After-span2 Inv-loop μ-loop → Strip
+strip c =
+    let s = entry (head c) in
+    record {
+      columns = s .args .columns;
+      pairs = 10;
+      a = s .args .a;
+      c = record { 0 = head c .loop .c };
+      first = 10 * s .args .first;
+      at = head c .loop .at;
+      width = c .before .span .result;
+    }
+
+turn : (c : tie.After-span2 Inv-loop μ-loop)
+    → Turn (entry (head c) .args .columns) 4 (entry (head c) .args .xs .now) (entry (head c) .args .ys .now) (entry (head c) .args .cells .now) (entry (head c) .args .rule)
+    (entry (head c) .args .table .now)
+    (head c .loop .table)
+    (strip c)
+    (head c .loop .at)
+    (c .span2 .result)
+turn c =
+    let s = entry (head c) in
+    record {
+      ready = s .pre .0;
+      strips = head c .loop .inv .0;
+      cx = c .before .before .loop-test .taken;
+      columns-are = refl;
+      pairs-are = sym (pairs-four 4 refl);
+      first-is = start-at s;
+      at-is = refl;
+      width-is = c .before .span .ensures .0;
+      step-is = c .span2 .ensures .0;
+    }
+
+-- the rows have grown by a column
+abbrev spans : tie.After-grown4 Inv-loop μ-loop → tie.After-span2 Inv-loop μ-loop
+spans c = c .before .before .before .before
+
+rows-given : (c : tie.After-grown4 Inv-loop μ-loop)
+    → FourRows (grid (entry (head (spans c)))) (entry (head (spans c)) .args .rule) (strip (spans c)) 0 (c .before .before .before .grown .result)
+    (c .before .before .grown2 .result)
+    (c .before .grown3 .result)
+    (c .grown4 .result)
+    (head (spans c) .loop .table)
+rows-given c =
+    let i = head (spans c) .loop .inv in
+    turn-four _ _ _ _ _ _ _ _ _ _ 0 (turn (spans c)) _ _ _ _ _ _ _ _
+    (i .1)
+    (c .before .before .before .grown .ensures)
+    (i .2)
+    (c .before .before .grown2 .ensures)
+    (i .3)
+    (c .before .grown3 .ensures)
+    (i .4)
+    (c .grown4 .ensures)
+
+-- its entries are in the table
+room : (c : tie.In-loop Inv-loop μ-loop) → (c .before .loop .at + pairCount 4 ≤ length (c .before .loop .table)) × (c .before .loop .at ≤ 54000)
+room c = turn-room _ _ _ _ _ _ _ (entry (c .before) .pre .0) _ _ _ _ (c .before .loop .inv .0) (c .loop-test .taken)
+
+mul-start : tie.Need-mul-start Inv-loop μ-loop
+mul-start c =
+    let s = c .before .before .before .before in
+    let few = columns-few _ _ _ _ _ _ _ (s .pre .0) in
+    omega (arith, s .pre .1 .0 .1, below-most (s .args .columns) (s .args .a .0) few, s .pre .1 .0 .0, few)
+
+empty-requires : tie.Need-empty-requires Inv-loop μ-loop
+empty-requires c κs = asks-empty _ _ _ _ _ _ _ (c .before .before .before .before .pre .0) 0 (omega arith)
+
+empty-requires-2 : tie.Need-empty-requires-2 Inv-loop μ-loop
+empty-requires-2 c κs = asks-empty _ _ _ _ _ _ _ (c .before .before .before .before .before .pre .0) 1 (omega arith)
+
+empty-requires-3 : tie.Need-empty-requires-3 Inv-loop μ-loop
+empty-requires-3 c κs = asks-empty _ _ _ _ _ _ _ (c .before .before .before .before .before .before .pre .0) 2 (omega arith)
+
+empty-requires-4 : tie.Need-empty-requires-4 Inv-loop μ-loop
+empty-requires-4 c κs = asks-empty _ _ _ _ _ _ _ (c .before .before .before .before .before .before .before .pre .0) 3 (omega arith)
+
+add-c : tie.Need-add-c Inv-loop μ-loop
+add-c c = (let s = c .before .before .before .before .before .before .before .before .before in omega (arith, s .pre .1 .0 .0, columns-few _ _ _ _ _ _ _ (s .pre .0)))
+
+loop-holds : tie.Need-loop-holds Inv-loop μ-loop
+loop-holds c =
+    let s = c .before .before .before .before .before .before .before .before .before in (
+      turn-start _ _ _ _ _ _ _ (s .pre .0) _ _ (s .pre .1 .0 .0) (start-at s) (s .pre .1 .1),
+      row-empty _ _ _ _ _ _ _ (s .pre .0) _ 0 _ (omega arith) (c .before .before .before .before .empty .ensures),
+      row-empty _ _ _ _ _ _ _ (s .pre .0) _ 1 _ (omega arith) (c .before .before .before .empty2 .ensures),
+      row-empty _ _ _ _ _ _ _ (s .pre .0) _ 2 _ (omega arith) (c .before .before .empty3 .ensures),
+      row-empty _ _ _ _ _ _ _ (s .pre .0) _ 3 _ (omega arith) (c .before .empty4 .ensures),
+    )
+
+sub-last : tie.Need-sub-last Inv-loop μ-loop
+sub-last c = omega (arith, c .before .loop .inv .0 .above)
+
+span-requires : tie.Need-span-requires Inv-loop μ-loop
+span-requires c κs =
+    asks-span _ _ _ _ _ _ _ (entry (c .before) .pre .0) _ _ (omega (arith, c .before .loop .inv .0 .above)) (c .loop-test .taken)
+
+span-requires-2 : tie.Need-span-requires-2 Inv-loop μ-loop
+span-requires-2 c κs =
+    let m = c .before in
+    asks-span _ _ _ _ _ _ _ (entry (m .before) .pre .0) _ _ (omega arith) (m .loop-test .taken)
+
+grown-requires : tie.Need-grown-requires Inv-loop μ-loop
+grown-requires c κs =
+    let m = c .before .before in
+    let l = head c .loop in
+    asks-grown _ _ _ _ _ _ _ (entry (head c) .pre .0) _ _ _ 0 _ (l .inv .0 .above) (m .loop-test .taken) (omega arith) (c .span2 .ensures .1) (l .inv .1)
+
+grown-requires-2 : tie.Need-grown-requires-2 Inv-loop μ-loop
+grown-requires-2 c κs =
+    let n = c .before in
+    let m = n .before .before in
+    let l = head n .loop in
+    asks-grown _ _ _ _ _ _ _ (entry (head n) .pre .0) _ _ _ 1 _ (l .inv .0 .above) (m .loop-test .taken) (omega arith) (n .span2 .ensures .1) (l .inv .2)
+
+grown-requires-3 : tie.Need-grown-requires-3 Inv-loop μ-loop
+grown-requires-3 c κs =
+    let n = c .before .before in
+    let m = n .before .before in
+    let l = head n .loop in
+    asks-grown _ _ _ _ _ _ _ (entry (head n) .pre .0) _ _ _ 2 _ (l .inv .0 .above) (m .loop-test .taken) (omega arith) (n .span2 .ensures .1) (l .inv .3)
+
+grown-requires-4 : tie.Need-grown-requires-4 Inv-loop μ-loop
+grown-requires-4 c κs =
+    let n = c .before .before .before in
+    let m = n .before .before in
+    let l = head n .loop in
+    asks-grown _ _ _ _ _ _ _ (entry (head n) .pre .0) _ _ _ 3 _ (l .inv .0 .above) (m .loop-test .taken) (omega arith) (n .span2 .ensures .1) (l .inv .4)
+
+highest-four-requires : tie.Need-highest-four-requires Inv-loop μ-loop
+highest-four-requires c κs = (let n = c .before in (grid (entry (head (spans n))), 0, rows-given n))
+
+store-ten-requires : tie.Need-store-ten-requires Inv-loop μ-loop
+store-ten-requires c κs = (let n = spans (c .before .before .before) in omega (arith, room (n .before .before), pairs-four 4 refl))
+
+-- a turn's rows, from its end
+abbrev grown : tie.After-store-ten Inv-loop μ-loop → tie.After-grown4 Inv-loop μ-loop
+grown e = e .before .before .before .before
+
+add-at : tie.Need-add-at Inv-loop μ-loop
+add-at c = (let n = spans (grown (c .before .before)) in omega (arith, room (n .before .before)))
+
+add-c-2 : tie.Need-add-c-2 Inv-loop μ-loop
+add-c-2 c =
+    let m = spans (grown (c .before .before)) .before .before in
+    omega (arith, m .loop-test .taken, columns-few _ _ _ _ _ _ _ (entry (m .before) .pre .0))
+
+loop-less : tie.Need-loop-less Inv-loop μ-loop
+loop-less c = (let m = spans (grown (c .before .before)) .before .before in omega (arith, m .loop-test .taken))
+
+loop-again : tie.Need-loop-again Inv-loop μ-loop
+loop-again c =
+    let e = c .before .before in
+    let x = e .before .before in
+    let n = grown e in
+    let m = spans n .before .before in
+    let s = entry (m .before) in
+    let w = rows-given n in (
+      turn-more _ _ _ _ _ _ _ (s .pre .0) _ _ _ _ (m .before .loop .inv .0) _ _ 10 (m .loop-test .taken) (sym (pairs-four 4 refl)) (e .store-ten .ensures)
+          (four-right (grid s) _ _ _ (x .highest-four .result) (x .highest-four .ensures (grid s) 0 w)),
+      row-next _ _ _ _ _ _ _ (w .sums .lowest-sums),
+      row-next _ _ _ _ _ _ _ (w .sums .second-sums),
+      row-next _ _ _ _ _ _ _ (w .sums .third-sums),
+      row-next _ _ _ _ _ _ _ (w .sums .highest-sums),
+    )
+
+same-length : tie.Need-same-length Inv-loop μ-loop
+same-length c = c .before .loop .inv .0 .beyond .long
+
+returns : tie.Need-returns Inv-loop μ-loop
+returns c = turn-end _ _ _ _ _ _ _ (entry (c .before) .pre .0) _ _ _ _ (c .before .loop .inv .0) (c .loop-test .left)
+
+pub fill-four-spec : {M : Type 1} → statement M
+fill-four-spec =
+    tie.close
+    (tie.spec
+    Inv-loop
+    μ-loop
+    mul-start
+    empty-requires
+    empty-requires-2
+    empty-requires-3
+    empty-requires-4
+    add-c
+    loop-holds
+    sub-last
+    span-requires
+    span-requires-2
+    grown-requires
+    grown-requires-2
+    grown-requires-3
+    grown-requires-4
+    highest-four-requires
+    store-ten-requires
+    add-at
+    add-c-2
+    loop-less
+    loop-again
+    same-length
+    returns)
