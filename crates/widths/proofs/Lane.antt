@@ -2,7 +2,8 @@
 --
 --   copy-more, add-more, flank-more
 --                        == a run that is copied or added, one number after the other
---   narrow-more          == flanks that the rule spares stay 0
+--   narrow-more, narrow-most
+--                        == flanks that the rule spares stay 0, and the others are no more than all of them
 --   pairs-small          == a side store has room for all pairs
 --   cut-spots            == where the parts of a cut stand
 --   upper-next           == where the high part of the next cut stands
@@ -21,7 +22,7 @@ use native.Mathlib.Nat.{mul-le-mul}
 use lib.ListN.{length, getD, set, length-set}
 use lib.Seq.{getD-set-same, getD-set-other}
 use Rattle.sum.specs.Sum.{only}
-use Rattle.sum.proofs.Sum.{le-or}
+use Rattle.sum.proofs.Sum.{le-or, only-most}
 use lib.Dec.{ltb}
 use Rattle.rule.specs.declared.Rule.{Rule}
 use Rattle.rule.specs.Rules.{limit}
@@ -66,11 +67,12 @@ add-more t from u at n i m l w =
     (wrote-more (added t from at) 0 i t u (getD u i 0 + getD from (at + i) 0) (omega (arith, w .long)) (omega (arith, w .kept i (inr (omega arith)))) w)
 
 pub flank-fits : (r : Rule) (wide t from u : List ℕ) (at n i v : ℕ) → v ≡ only (not (spared r (getD wide i 0))) (getD from (at + i) 0) → i < n
-    → ((k : ℕ) → k < n → narrowed r wide t from at k < 2 ^ 32)
+    → ((k : ℕ) → k < n → added t from at k < 2 ^ 32)
     → Wrote (narrowed r wide t from at) 0 i t u
     → getD u i 0 + v < 2 ^ 32
-unfolding narrowed
-flank-fits r wide t from u at n i v e l f w = omega (arith, e, w .kept i (inr (omega arith)), f i l)
+unfolding added
+flank-fits r wide t from u at n i v e l f w =
+    omega (arith, e, only-most (not (spared r (getD wide i 0))) (getD from (at + i) 0), w .kept i (inr (omega arith)), f i l)
 
 pub flank-more : (r : Rule) (wide t from u : List ℕ) (at n i v : ℕ) → v ≡ only (not (spared r (getD wide i 0))) (getD from (at + i) 0) → n ≤ length t → i < n
     → Wrote (narrowed r wide t from at) 0 i t u
@@ -80,6 +82,12 @@ flank-more r wide t from u at n i v e m l w =
     let z : 0 + i ≡ i = omega arith in
     subst (λ k. Wrote (narrowed r wide t from at) 0 (i + 1) t (set u k (getD u i 0 + v))) z
     (wrote-more (narrowed r wide t from at) 0 i t u (getD u i 0 + v) (omega (arith, w .long)) (omega (arith, e, w .kept i (inr (omega arith)))) w)
+
+-- no more is there than with all flanks added
+pub narrow-most : (r : Rule) (wide t from u : List ℕ) (at n l : ℕ) → l < n → Wrote (narrowed r wide t from at) 0 n t u → getD u l 0 ≤ added t from at l
+unfolding added narrowed
+narrow-most r wide t from u at n l i w =
+    omega (arith, wrote-at (narrowed r wide t from at) n t u l i w, only-most (not (spared r (getD wide l 0))) (getD from (at + l) 0))
 
 pub narrow-more : (r : Rule) (wide t from u : List ℕ) (at m n : ℕ) → n ≤ m → Narrow r wide m t
     → Wrote (narrowed r wide t from at) 0 n t u

@@ -132,21 +132,11 @@ running-on r sums wide n b d count flanks w = subst (λ i. Running r sums wide n
 pub running-most : (t : Sheet) (b d : ℕ) (count flanks : List ℕ) → Measured t → b < d → d ≤ t .rows
     → Running (t .rule) (t .sums) (t .wide) (t .strips) b (d - 1) count flanks
     → (l : ℕ) → l < 16
-    → (added count (t .sums) (16 * (d - 1)) l ≤ 225)
-    × ((narrowed (t .rule) (t .wide) flanks (t .sums) (768 + 16 * (d - 1)) l ≤ 131070) × (endsAt (t .sums) l b d ≤ 131070))
-unfolding added narrowed
+    → (added count (t .sums) (16 * (d - 1)) l ≤ 225) × ((added flanks (t .sums) (768 + 16 * (d - 1)) l ≤ 131070) × (endsAt (t .sums) l b d ≤ 131070))
+unfolding added
 running-most t b d count flanks m h k w l i = (
   omega (arith, w .count-up l i, count-last (t .sums) l b d h, m .count-most l b d i h k),
-  (
-    omega (
-      arith,
-      only-most (not (spared (t .rule) (getD (t .wide) l 0))) (getD (t .sums) (768 + 16 * (d - 1) + l) 0),
-      w .flank-up l i,
-      flank-last (t .sums) l b d h,
-      m .flank-most l b d i h k,
-    ),
-    m .ends-most l b d i h k,
-  ),
+  (omega (arith, w .flank-up l i, flank-last (t .sums) l b d h, m .flank-most l b d i h k), m .ends-most l b d i h k),
 )
 
 -- both parts of a cut are settled

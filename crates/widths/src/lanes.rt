@@ -54,7 +54,7 @@ fn add(to: &mut [u32], from: &[u32], at: usize, n: usize)
 // The same with the exposed flanks of strips of these widths: nothing is added where the rule spares them.
 fn add_flanks(to: &mut [u32], from: &[u32], widths: &[u32], rule: Rule, at: usize, n: usize)
     requires { ⌜ (n ≤ length (now to)) × ((at + n ≤ length (now from)) × (n ≤ length (now widths))) ⌝ }
-    requires { ⌜ ((i : ℕ) → i < n → narrowed rule (now widths) (now to) (now from) at i < 2 ^ 32) ⌝ }
+    requires { ⌜ ((i : ℕ) → i < n → added (now to) (now from) at i < 2 ^ 32) ⌝ }
     ensures { λ _. ⌜ Wrote (narrowed rule (now (widths .entry)) (now (to .entry)) (now (from .entry)) at) 0 n (now (to .entry)) (now (to .exit)) ⌝ }
 {
     let mut i: usize = 0;
@@ -153,7 +153,7 @@ fn settle_lanes(
     requires { ⌜ (length (now side) ≡ 1920) × ((length (now sums) ≡ 1024) × ((length (now widths) ≡ 16) × ((length (now count) ≡ 16) × (length (now flanks) ≡ 16)))) ⌝ }
     requires { ⌜ (lanes ≤ 16) × ((judged ≡ lanes) × (rule .weight ≤ limit)) ⌝ }
     requires { ⌜ ((l k : ℕ) → l < 16 → level .low < k → k < level .high → partsAt (now side) (level .rows) l (level .low) (level .high) k < 2 ^ 32) ⌝ }
-    requires { ⌜ ((l : ℕ) → l < 16 → (added (now count) (now sums) (16 * (level .high - 1)) l ≤ 225) × ((narrowed rule (now widths) (now flanks) (now sums) (768 + 16 * (level .high - 1)) l ≤ 131070) × (endsAt (now sums) l (level .low) (level .high) ≤ 131070))) ⌝ }
+    requires { ⌜ ((l : ℕ) → l < 16 → (added (now count) (now sums) (16 * (level .high - 1)) l ≤ 225) × ((added (now flanks) (now sums) (768 + 16 * (level .high - 1)) l ≤ 131070) × (endsAt (now sums) l (level .low) (level .high) ≤ 131070))) ⌝ }
     requires { ⌜ Narrow rule (now widths) 16 (now flanks) ⌝ }
     ensures { λ _. ⌜ Wrote (added (now (count .entry)) (now (sums .entry)) (16 * (level .high - 1))) 0 lanes (now (count .entry)) (now (count .exit)) ⌝ }
     ensures { λ _. ⌜ Wrote (narrowed rule (now (widths .entry)) (now (flanks .entry)) (now (sums .entry)) (768 + 16 * (level .high - 1))) 0 lanes (now (flanks .entry)) (now (flanks .exit)) ⌝ }
@@ -198,7 +198,7 @@ pub fn settle_some(
     requires { ⌜ (length (now side) ≡ 1920) × ((length (now sums) ≡ 1024) × ((length (now widths) ≡ 16) × ((length (now count) ≡ 16) × (length (now flanks) ≡ 16)))) ⌝ }
     requires { ⌜ (n ≤ 16) × (rule .weight ≤ limit) ⌝ }
     requires { ⌜ ((l k : ℕ) → l < 16 → level .low < k → k < level .high → partsAt (now side) (level .rows) l (level .low) (level .high) k < 2 ^ 32) ⌝ }
-    requires { ⌜ ((l : ℕ) → l < 16 → (added (now count) (now sums) (16 * (level .high - 1)) l ≤ 225) × ((narrowed rule (now widths) (now flanks) (now sums) (768 + 16 * (level .high - 1)) l ≤ 131070) × (endsAt (now sums) l (level .low) (level .high) ≤ 131070))) ⌝ }
+    requires { ⌜ ((l : ℕ) → l < 16 → (added (now count) (now sums) (16 * (level .high - 1)) l ≤ 225) × ((added (now flanks) (now sums) (768 + 16 * (level .high - 1)) l ≤ 131070) × (endsAt (now sums) l (level .low) (level .high) ≤ 131070))) ⌝ }
     requires { ⌜ Narrow rule (now widths) 16 (now flanks) ⌝ }
     ensures { λ _. ⌜ Enough rule (level .rows) (level .height) (level .cells) (level .low) (level .high) n (now (sums .entry)) (now (widths .entry)) (now (count .entry)) (now (count .exit)) (now (flanks .entry)) (now (flanks .exit)) (now (side .entry)) (now (side .exit)) ⌝ }
 {

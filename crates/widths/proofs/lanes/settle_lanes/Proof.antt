@@ -2,7 +2,7 @@
 use mathlib.Core.Path.{_∙_}
 use native.Mathlib.Omega.{arith}
 use Rattle.table.proofs.Entry.{below-most}
-use Rattle.widths.proofs.Lane.{spot-first, spot-room, narrow-more, wrote-at, wrote-count, settled-made}
+use Rattle.widths.proofs.Lane.{spot-first, spot-room, narrow-more, narrow-most, wrote-count, settled-made}
 use borrow.Author.Needs.{needs}
 use Rattle.widths.proofs.lanes.settle_lanes.Statement.{statement}
 use Rattle.widths.proofs.lanes.settle_lanes.Tie as tie
@@ -88,7 +88,7 @@ judge-lanes-requires c κs =
         (
           λ l h.
               let o = s .pre .1 .1 .1 .1 .0 l (omega (arith, m)) in
-              (omega (arith, wrote-at _ _ _ _ l h z, o .1 .0), o .1 .1),
+              (omega (arith, narrow-most _ _ _ _ _ _ _ l h z, o .1 .0), o .1 .1),
           narrow-more _ _ _ _ _ _ _ _ (omega (arith, m)) (s .pre .1 .1 .1 .1 .1) z,
         ),
       ),
