@@ -109,7 +109,7 @@ impl Rule {
 
     // The sliver length of a shot of this width and height, whose left and right sides are exposed over `upright` nm together and its
     // bottom and top over `level` nm: where its shorter extent is below the threshold, the longer sides count, and only those. What a
-    // sliver costs is reckoned by this and nothing else.
+    // sliver costs is reckoned in this crate and nowhere else.
     pub fn sliver(self, width: u32, height: u32, upright: u32, level: u32) -> u32
         ensures { λ r. ⌜ r ≡ sliverOf self width height upright level ⌝ }
     {

@@ -51,7 +51,7 @@ fn add(to: &mut [u32], from: &[u32], at: usize, n: usize)
     }
 }
 
-// The same with the exposed flanks of strips of these widths: nothing is added where the rule spares them.
+// The same of the exposed flanks of strips of these widths: nothing is added where the rule spares them.
 fn add_flanks(to: &mut [u32], from: &[u32], widths: &[u32], rule: Rule, at: usize, n: usize)
     requires { ⌜ (n ≤ length (now to)) × ((at + n ≤ length (now from)) × (n ≤ length (now widths))) ⌝ }
     requires { ⌜ ((i : ℕ) → i < n → added (now to) (now from) at i < 2 ^ 32) ⌝ }
@@ -135,9 +135,9 @@ fn judge_lanes(
     }
 }
 
-// Settles these pieces in so many lanes: their last row of cells is added to the counts and flanks, their cuts are weighed, and each gets
-// its cost. The count of lanes is said twice, once for the cuts and once for the costs: the compiler would otherwise make one call of the
-// four below, with a count that it does not know.
+// Settles these pieces in so many lanes: their last row of cells is added to the counts, and to the flanks where those count; their cuts
+// are weighed, and each gets its cost. The count of lanes is said twice, once for the cuts and once for the costs: the compiler would
+// otherwise make one call of the four below, with a count that it does not know.
 fn settle_lanes(
     side: &mut [u32],
     count: &mut [u32],

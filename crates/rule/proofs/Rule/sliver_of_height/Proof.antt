@@ -1,5 +1,5 @@
 -- `Rule::sliver_of_height` meets its contract: by whether the rule spares bottom and top. Assumes nothing.
-use mathlib.Core.Path.{_≡_, sym, _∙_}
+use mathlib.Core.Path.{sym, _∙_}
 use borrow.Author.Needs.{needs}
 use Rattle.rule.proofs.Charge.{sliver-tall, sliver-low}
 use Rattle.rule.proofs.Rule.sliver_of_height.Statement.{statement}
