@@ -5,6 +5,8 @@
 --   sliver-turn      == x for y
 --   sliver-most      == no more than what is exposed
 --   spared-x, spared-y == sides that are spared have no influence on it
+--   narrow-none, narrow-same == left and right taken as 0 where the rule spares them, without influence on it
+--   sliver-tall, sliver-low == where they are: it is left and right where the rule spares bottom and top, and the longer sides where not
 --   charge-least     == a shot costs something
 --   charge-cut       == a shorter sliver than two others together costs no more than they
 --   charge-most      == a longer sliver costs no less
@@ -12,12 +14,12 @@
 --   charge-dearer    == nor does a greater weight, with no shorter a sliver, cost less
 use Prim.Native.Nat.{ℕ, _+_, _<_, _≤_, min, max}
 use mathlib.Core.Path.{_≡_, refl, sym, _∙_, ap, ap₂}
-use mathlib.Core.Bool.{Bool, true, false, cond}
+use mathlib.Core.Bool.{Bool, true, false, cond, not}
 use mathlib.Core.Logic.{_⊎_, inl, inr}
 use native.Mathlib.Omega.{arith}
 use native.Mathlib.Nat.{mul-le-mul, mul-le-mul-left}
 use lib.Dec.{ltb}
-use borrow.Author.Tests.{ltb-true, ltb-false, lt-ltb, le-ltb, leb-true}
+use borrow.Author.Tests.{ltb-true, ltb-false, lt-ltb, le-ltb, leb-true, leb-false, le-leb, lt-leb}
 use Rattle.sum.specs.Sum.{only}
 use Rattle.sum.proofs.Sum.{only-most, le-or}
 use Rattle.rule.specs.declared.Rule.{Rule}
@@ -109,6 +111,39 @@ module _ (r : Rule) where
   spared-y w h u l e =
       let p = leb-true (r .threshold) h e in
       sliver-flecks w h u 0 (inr p) ∙ (rw (le-ltb h (r .threshold) p) refl) ∙ sym (sliver-flecks w h u l (inr p))
+
+  pub narrow-none : (w u : ℕ) → spared r w ≡ true → only (not (spared r w)) u ≡ 0
+  narrow-none w u e = ap (λ t. only (not t) u) e
+
+  pub narrow-same : (w h u l : ℕ) → sliverOf r w h (only (not (spared r w)) u) l ≡ sliverOf r w h u l
+  narrow-same w h u l = go (spared r w) refl
+    where
+      go : (t : Bool) → spared r w ≡ t → sliverOf r w h (only (not (spared r w)) u) l ≡ sliverOf r w h u l
+      go true e = ap (λ t. sliverOf r w h (only (not t) u) l) e ∙ spared-x w h u l e
+      go false e = ap (λ t. sliverOf r w h (only (not t) u) l) e
+
+  -- as the code has it
+  pub narrow-made : (w u : ℕ) → only (ltb w (r .threshold)) u ≡ only (not (spared r w)) u
+  unfolding spared
+  narrow-made w u = elim (le-or (r .threshold) w) [
+    | inl p ↦ rw (le-ltb w (r .threshold) p, le-leb (r .threshold) w p) refl
+    | inr p ↦ rw (lt-ltb w (r .threshold) p, lt-leb (r .threshold) w p) refl
+  ]
+
+  pub sliver-tall : (w h u l : ℕ) → spared r h ≡ true → (spared r w ≡ true → u ≡ 0) → sliverOf r w h u l ≡ u
+  unfolding sliverOf spared
+  sliver-tall w h u l e none =
+      let q = leb-true (r .threshold) h e in
+      elim (le-or (r .threshold) w) [
+        | inl p ↦ rw (le-ltb (min w h) (r .threshold) (omega arith)) (sym (none (le-leb (r .threshold) w p)))
+        | inr p ↦ rw (lt-ltb (min w h) (r .threshold) (omega arith)) (longer-upright w h u l (omega arith))
+      ]
+
+  pub sliver-low : (w h u l : ℕ) → spared r h ≡ false → sliverOf r w h u l ≡ longer w h u l
+  unfolding sliverOf spared
+  sliver-low w h u l e =
+      let q = leb-false (r .threshold) h e in
+      rw (lt-ltb (min w h) (r .threshold) (omega arith)) refl
 
   pub charge-least : (n : ℕ) → 1000 ≤ chargeOf r n
   unfolding chargeOf

@@ -1,6 +1,7 @@
 // The rule of a fracture: below which width a shot is a sliver, and what a nanometre of sliver weighs.
 use refusal::Refusal;
 ghost use mathlib.Core.Path.{_≡_};
+ghost use mathlib.Core.Bool.{not, true};
 ghost use Prim.Native.Nat.{_≤_, min};
 ghost use Rattle.sum.specs.Sum.{only};
 ghost use Rattle.rule.specs.Rules.{limit, madeTold, rowTold, ruleTold, presetTold};
@@ -108,7 +109,7 @@ impl Rule {
 
     // The sliver length of a shot of this width and height, whose left and right sides are exposed over `upright` nm together and its
     // bottom and top over `level` nm: where its shorter extent is below the threshold, the longer sides count, and only those. What a
-    // sliver costs is reckoned by this and nothing else.
+    // sliver costs is reckoned in this crate and nowhere else.
     pub fn sliver(self, width: u32, height: u32, upright: u32, level: u32) -> u32
         ensures { λ r. ⌜ r ≡ sliverOf self width height upright level ⌝ }
     {
@@ -125,6 +126,35 @@ impl Rule {
     {
         let threshold = self.threshold;
         threshold <= extent
+    }
+
+    // The exposed length of two opposite sides that lie so far apart, and 0 where the rule spares them.
+    pub fn narrow(self, extent: u32, length: u32) -> u32
+        ensures { λ r. ⌜ r ≡ only (not (spared self extent)) length ⌝ }
+    {
+        let threshold = self.threshold;
+        counted(extent < threshold, length)
+    }
+
+    // The sliver length once more, for many shots of one height: `tall` says whether the rule spares the bottom and top of each, and
+    // `upright` is 0 where it spares left and right (`narrow`).
+    pub fn sliver_of_height(
+        self,
+        tall: bool,
+        width: u32,
+        height: u32,
+        upright: u32,
+        level: u32,
+    ) -> u32
+        requires { ⌜ tall ≡ spared self height ⌝ }
+        requires { ⌜ (spared self width ≡ true → upright ≡ 0) ⌝ }
+        ensures { λ r. ⌜ r ≡ sliverOf self width height upright level ⌝ }
+    {
+        if tall {
+            upright
+        } else {
+            longer(width, height, upright, level)
+        }
     }
 
     // What a shot of this sliver length costs, in thousandths of a shot.

@@ -8,8 +8,8 @@
 --   whole-stacked           == two pieces one above the other
 --   whole-shot              == the charge by these sums is the charge
 use Prim.Native.Nat.{ℕ, zero, suc, _+_, _*_, _-_, _≤_, _<_}
-use mathlib.Core.Path.{_≡_, refl, sym, _∙_, ap, ap₂, subst}
-use mathlib.Core.Bool.{Bool, true, false, not}
+use mathlib.Core.Path.{_≡_, sym, _∙_, ap, ap₂, subst}
+use mathlib.Core.Bool.{not}
 use mathlib.Core.List.{List}
 use native.Mathlib.Omega.{arith}
 use native.Mathlib.Nat.{mul-le-mul, mul-one}
@@ -19,7 +19,7 @@ use Rattle.sum.proofs.Sum.{over-none, over-one, over-cut, only-add, only-most, 
 use Rattle.outline.specs.Grid.{Grid, Sound, Drawn}
 use Rattle.rule.specs.declared.Rule.{Rule}
 use Rattle.rule.specs.Charge.{sliverOf, spared, chargeOf}
-use Rattle.rule.proofs.Charge.{spared-x}
+use Rattle.rule.proofs.Charge.{narrow-same}
 use Rattle.piece.specs.Piece.{box, lowSide, highSide, cellSum, cells, insideCells, width, height, left, right, bottom, top, sliver, charge}
 use Rattle.piece.proofs.Cells.{cells-product, sum-horizontal}
 use Rattle.piece.proofs.Kind.{inside-most}
@@ -132,13 +132,6 @@ module _ (g : Grid) (sound : Sound g) where
       R b d = over b d right-of
 
   -- the charge
-  counted : (r : Rule) (w h u l : ℕ) → sliverOf r w h (only (not (spared r w)) u) l ≡ sliverOf r w h u l
-  counted r w h u l = go (spared r w) refl
-    where
-      go : (t : Bool) → spared r w ≡ t → sliverOf r w h (only (not (spared r w)) u) l ≡ sliverOf r w h u l
-      go true e = ap (λ t. sliverOf r w h (only (not t) u) l) e ∙ spared-x r w h u l e
-      go false e = ap (λ t. sliverOf r w h (only (not t) u) l) e
-
   pub whole-shot : (r : Rule) (a c b d w : ℕ) (s : Sums) → w ≡ width g a c → Whole g r a c b d s → shotOf r w s ≡ charge g r (box a c b d)
   unfolding shotOf charge sliver
   whole-shot r a c b d w s e u =
@@ -147,7 +140,7 @@ module _ (g : Grid) (sound : Sound g) where
       ∙ ap₂ (λ x y. sliverOf r x (height g b d) (only (not (spared r (width g a c))) (left g (box a c b d) + right g (box a c b d))) y)
       e
       (ap₂ _+_ (u .summed .bottom-is) (u .summed .top-is))
-      ∙ counted r (width g a c) (height g b d) (left g (box a c b d) + right g (box a c b d)) (bottom g (box a c b d) + top g (box a c b d)))
+      ∙ narrow-same r (width g a c) (height g b d) (left g (box a c b d) + right g (box a c b d)) (bottom g (box a c b d) + top g (box a c b d)))
 
 -- a row of cells
 row-cells : (a c j : ℕ) → a ≤ c → cells (box a c j (suc j)) ≡ c - a

@@ -1,6 +1,9 @@
 -- Laws of the pieces of one pair of y lines, of the strips side by side. Assumes nothing.
 --
---   copy-more, add-more  == a run that is copied or added, one number after the other
+--   copy-more, add-more, flank-more
+--                        == a run that is copied or added, one number after the other
+--   narrow-more, narrow-most
+--                        == flanks that the rule spares stay 0, and the others are no more than all of them
 --   pairs-small          == a side store has room for all pairs
 --   cut-spots            == where the parts of a cut stand
 --   upper-next           == where the high part of the next cut stands
@@ -11,17 +14,19 @@
 --   settled-made         == the steps of settling put together
 use Prim.Native.Nat.{ℕ, suc, _+_, _*_, _-_, _≤_, _<_, _^_, min}
 use mathlib.Core.Path.{_≡_, refl, sym, _∙_, ap, ap₂, subst}
+use mathlib.Core.Bool.{not}
 use mathlib.Core.Logic.{_⊎_, inl, inr}
 use mathlib.Core.List.{List}
 use native.Mathlib.Omega.{arith}
 use native.Mathlib.Nat.{mul-le-mul}
 use lib.ListN.{length, getD, set, length-set}
 use lib.Seq.{getD-set-same, getD-set-other}
-use Rattle.sum.proofs.Sum.{le-or}
+use Rattle.sum.specs.Sum.{only}
+use Rattle.sum.proofs.Sum.{le-or, only-most}
 use lib.Dec.{ltb}
 use Rattle.rule.specs.declared.Rule.{Rule}
 use Rattle.rule.specs.Rules.{limit}
-use Rattle.rule.specs.Charge.{sliverOf, chargeOf}
+use Rattle.rule.specs.Charge.{sliverOf, spared, chargeOf}
 use Rattle.piece.specs.Piece.{mostCost}
 use Rattle.table.specs.Entry.{pairsBelow, pairCount, pairNo}
 use Rattle.table.specs.Run.{Wrote, weighedApart, Lowest}
@@ -29,8 +34,12 @@ use Rattle.table.specs.Cuts.{Judged}
 use Rattle.table.proofs.Entry.{count-closed, pair-below, below-next}
 use Rattle.table.proofs.Run.{wrote-more, lowest-more}
 use Rattle.table.proofs.Pairs.{Dec-eq}
-use Rattle.widths.specs.Lane.{copied, added, spot, partsAt, endsAt, Ruled, Settled}
-use Rattle.rule.proofs.Charge.{sliver-most}
+use Rattle.widths.specs.Lane.{copied, added, narrowed, Narrow, spot, partsAt, endsAt, Ruled, Settled}
+use Rattle.rule.proofs.Charge.{sliver-most, narrow-none}
+
+-- what stands at the front of a list that was written from there
+pub wrote-at : (f : ℕ → ℕ) (n : ℕ) (t u : List ℕ) (l : ℕ) → l < n → Wrote f 0 n t u → getD u l 0 ≡ f l
+wrote-at f n t u l h w = (let z : 0 + l ≡ l = omega arith in ap (λ i. getD u i 0) (sym z) ∙ w .made l h)
 
 pub copy-more : (t from u : List ℕ) (at n i : ℕ) → n ≤ length t → i < n
     → Wrote (copied from at) 0 i t u
@@ -56,6 +65,36 @@ add-more t from u at n i m l w =
     let z : 0 + i ≡ i = omega arith in
     subst (λ k. Wrote (added t from at) 0 (i + 1) t (set u k (getD u i 0 + getD from (at + i) 0))) z
     (wrote-more (added t from at) 0 i t u (getD u i 0 + getD from (at + i) 0) (omega (arith, w .long)) (omega (arith, w .kept i (inr (omega arith)))) w)
+
+pub flank-fits : (r : Rule) (wide t from u : List ℕ) (at n i v : ℕ) → v ≡ only (not (spared r (getD wide i 0))) (getD from (at + i) 0) → i < n
+    → ((k : ℕ) → k < n → added t from at k < 2 ^ 32)
+    → Wrote (narrowed r wide t from at) 0 i t u
+    → getD u i 0 + v < 2 ^ 32
+unfolding added
+flank-fits r wide t from u at n i v e l f w =
+    omega (arith, e, only-most (not (spared r (getD wide i 0))) (getD from (at + i) 0), w .kept i (inr (omega arith)), f i l)
+
+pub flank-more : (r : Rule) (wide t from u : List ℕ) (at n i v : ℕ) → v ≡ only (not (spared r (getD wide i 0))) (getD from (at + i) 0) → n ≤ length t → i < n
+    → Wrote (narrowed r wide t from at) 0 i t u
+    → Wrote (narrowed r wide t from at) 0 (i + 1) t (set u i (getD u i 0 + v))
+unfolding narrowed
+flank-more r wide t from u at n i v e m l w =
+    let z : 0 + i ≡ i = omega arith in
+    subst (λ k. Wrote (narrowed r wide t from at) 0 (i + 1) t (set u k (getD u i 0 + v))) z
+    (wrote-more (narrowed r wide t from at) 0 i t u (getD u i 0 + v) (omega (arith, w .long)) (omega (arith, e, w .kept i (inr (omega arith)))) w)
+
+-- no more is there than with all flanks added
+pub narrow-most : (r : Rule) (wide t from u : List ℕ) (at n l : ℕ) → l < n → Wrote (narrowed r wide t from at) 0 n t u → getD u l 0 ≤ added t from at l
+unfolding added narrowed
+narrow-most r wide t from u at n l i w =
+    omega (arith, wrote-at (narrowed r wide t from at) n t u l i w, only-most (not (spared r (getD wide l 0))) (getD from (at + l) 0))
+
+pub narrow-more : (r : Rule) (wide t from u : List ℕ) (at m n : ℕ) → n ≤ m → Narrow r wide m t
+    → Wrote (narrowed r wide t from at) 0 n t u
+    → Narrow r wide n u
+unfolding narrowed
+narrow-more r wide t from u at m n h k w =
+    record { none = λ l i e. omega (arith, wrote-at (narrowed r wide t from at) n t u l i w, k .none l (omega arith) e, narrow-none r (getD wide l 0) (getD from (at + l) 0) e) }
 
 -- 16 lines have 120 pairs
 pub pairs-small : (m : ℕ) → m ≤ 15 → pairCount m ≤ 120
@@ -175,10 +214,6 @@ judged-most n m shot best v top h k j = go (le-or n 0) (Dec-eq n m)
     go (inl z) q = (let e : n ≡ 0 = omega arith in omega (arith, j .none e))
     go (inr z) (inl q) = omega (arith, j .full z q)
     go (inr z) (inr q) = omega (arith, j .cut z q)
-
--- what stands at the front of a list that was written from there
-pub wrote-at : (f : ℕ → ℕ) (n : ℕ) (t u : List ℕ) (l : ℕ) → l < n → Wrote f 0 n t u → getD u l 0 ≡ f l
-wrote-at f n t u l h w = (let z : 0 + l ≡ l = omega arith in ap (λ i. getD u i 0) (sym z) ∙ w .made l h)
 
 pub wrote-count : (f : ℕ → ℕ) (n m : ℕ) (t u : List ℕ) → n ≡ m → Wrote f 0 n t u → Wrote f 0 m t u
 wrote-count f n m t u e w = subst (λ i. Wrote f 0 i t u) e w

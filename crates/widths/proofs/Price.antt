@@ -8,14 +8,15 @@
 --   priced-*             == from low line to low line
 use Prim.Native.Nat.{ℕ, suc, _+_, _*_, _-_, _≤_, _<_, _^_}
 use mathlib.Core.Path.{_≡_, refl, sym, _∙_, ap, ap₂, subst}
+use mathlib.Core.Bool.{not}
 use mathlib.Core.Logic.{_⊎_, inl, inr}
 use mathlib.Core.List.{List}
 use native.Mathlib.Omega.{arith}
 use lib.ListN.{length, getD, replicate, getD-replicate}
-use Rattle.sum.specs.Sum.{over}
-use Rattle.sum.proofs.Sum.{le-or, over-none, over-last}
+use Rattle.sum.specs.Sum.{only, over}
+use Rattle.sum.proofs.Sum.{le-or, over-none, over-last, only-add, only-most}
 use Rattle.rule.specs.declared.Rule.{Rule}
-use Rattle.rule.specs.Charge.{sliverOf, chargeOf}
+use Rattle.rule.specs.Charge.{sliverOf, spared, chargeOf}
 use Rattle.piece.specs.Piece.{mostCost}
 use Rattle.table.specs.Entry.{pairsBelow, pairCount, pairNo}
 use Rattle.table.specs.Run.{Wrote, Lowest}
@@ -23,10 +24,10 @@ use Rattle.table.specs.Cuts.{Judged}
 use Rattle.table.proofs.Entry.{pair-same}
 use Rattle.table.proofs.Run.{lowest-same}
 use Rattle.table.proofs.Pairs.{Dec-eq}
-use Rattle.widths.specs.Lane.{added, spot, partsAt, endsAt, Ruled, Settled, Enough}
+use Rattle.widths.specs.Lane.{added, narrowed, Narrow, spot, partsAt, endsAt, Ruled, Settled, Enough}
 use Rattle.widths.specs.Price.{Sheet, countIn, flankIn, shotAt, Measured, Done, Ahead, Priced}
-use Rattle.rule.proofs.Charge.{sliver-most}
-use Rattle.widths.proofs.Lane.{spot-lane, wrote-at, charge-most, judged-most}
+use Rattle.rule.proofs.Charge.{sliver-most, narrow-same}
+use Rattle.widths.proofs.Lane.{spot-lane, wrote-at, narrow-more, charge-most, judged-most}
 
 -- the sums from row to row
 pub count-none : (sums : List ℕ) (a b d : ℕ) → d ≤ b → countIn sums a b d ≡ 0
@@ -52,39 +53,55 @@ flank-last sums a b d h =
     ∙ sym (over-last b (d - 1) (λ j. getD sums (768 + (16 * j + a)) 0) (omega arith))
     ∙ ap (λ n. over b n (λ j. getD sums (768 + (16 * j + a)) 0)) e
 
--- the counts and flanks of the rows of cells between the lines b and d: right in the lanes of the strips, bounded in all
-pub record Running (sums : List ℕ) (n b d : ℕ) (count flanks : List ℕ) : Type 0 where
+-- the counts and flanks of the rows of cells between the lines b and d: right in the lanes of the strips, bounded in all, and flanks only
+-- where the rule counts them
+pub record Running (r : Rule) (sums wide : List ℕ) (n b d : ℕ) (count flanks : List ℕ) : Type 0 where
   pub count-long : length count ≡ 16
   pub flank-long : length flanks ≡ 16
   pub counted : (l : ℕ) → l < n → getD count l 0 ≡ countIn sums l b d
   pub count-up : (l : ℕ) → l < 16 → getD count l 0 ≤ countIn sums l b d
-  pub flanked : (l : ℕ) → l < n → getD flanks l 0 ≡ flankIn sums l b d
+  pub flanked : (l : ℕ) → l < n → getD flanks l 0 ≡ only (not (spared r (getD wide l 0))) (flankIn sums l b d)
   pub flank-up : (l : ℕ) → l < 16 → getD flanks l 0 ≤ flankIn sums l b d
+  pub narrow : Narrow r wide 16 flanks
 
-pub running-none : (sums : List ℕ) (n b : ℕ) → n ≤ 15 → Running sums n b (b + 1 - 1) (replicate 16 0) (replicate 16 0)
-running-none sums n b h =
+pub running-none : (r : Rule) (sums wide : List ℕ) (n b : ℕ) → n ≤ 15 → Running r sums wide n b (b + 1 - 1) (replicate 16 0) (replicate 16 0)
+running-none r sums wide n b h =
     record {
       count-long = refl;
       flank-long = refl;
       counted = λ l i. omega (arith, getD-replicate {A = ℕ} 16 l 0 0 (omega arith), count-none sums l b (b + 1 - 1) (omega arith));
       count-up = λ l i. omega (arith, getD-replicate {A = ℕ} 16 l 0 0 i);
-      flanked = λ l i. omega (arith, getD-replicate {A = ℕ} 16 l 0 0 (omega arith), flank-none sums l b (b + 1 - 1) (omega arith));
+      flanked =
+          λ l i. omega (
+            arith,
+            getD-replicate {A = ℕ} 16 l 0 0 (omega arith),
+            flank-none sums l b (b + 1 - 1) (omega arith),
+            only-most (not (spared r (getD wide l 0))) (flankIn sums l b (b + 1 - 1)),
+          );
       flank-up = λ l i. omega (arith, getD-replicate {A = ℕ} 16 l 0 0 i);
+      narrow = record { none = λ l i e. getD-replicate {A = ℕ} 16 l 0 0 i };
     }
 
-module _ (sums : List ℕ) (n b d lanes : ℕ) (count flanks count₂ flanks₂ : List ℕ) (h : b < d) (few : n ≤ lanes) (most : lanes ≤ 16)
-    (w : Running sums n b (d - 1) count flanks)
+module _ (r : Rule) (sums wide : List ℕ) (n b d lanes : ℕ) (count flanks count₂ flanks₂ : List ℕ) (h : b < d) (few : n ≤ lanes) (most : lanes ≤ 16)
+    (w : Running r sums wide n b (d - 1) count flanks)
     (wc : Wrote (added count sums (16 * (d - 1))) 0 lanes count count₂)
-    (wf : Wrote (added flanks sums (768 + 16 * (d - 1))) 0 lanes flanks flanks₂) where
+    (wf : Wrote (narrowed r wide flanks sums (768 + 16 * (d - 1))) 0 lanes flanks flanks₂) where
   count-here : (l : ℕ) → l < lanes → getD count₂ l 0 ≡ getD count l 0 + getD sums (16 * (d - 1) + l) 0
   unfolding added
   count-here l i = wrote-at (added count sums (16 * (d - 1))) lanes count count₂ l i wc
 
-  flank-here : (l : ℕ) → l < lanes → getD flanks₂ l 0 ≡ getD flanks l 0 + getD sums (768 + 16 * (d - 1) + l) 0
-  unfolding added
-  flank-here l i = wrote-at (added flanks sums (768 + 16 * (d - 1))) lanes flanks flanks₂ l i wf
+  flank-here : (l : ℕ) → l < lanes → getD flanks₂ l 0 ≡ getD flanks l 0 + only (not (spared r (getD wide l 0))) (getD sums (768 + 16 * (d - 1) + l) 0)
+  unfolding narrowed
+  flank-here l i = wrote-at (narrowed r wide flanks sums (768 + 16 * (d - 1))) lanes flanks flanks₂ l i wf
 
-  pub running-more : Running sums n b d count₂ flanks₂
+  flank-all : (l : ℕ) → l < n → getD flanks₂ l 0 ≡ only (not (spared r (getD wide l 0))) (flankIn sums l b d)
+  flank-all l i =
+      flank-here l (omega arith)
+      ∙ ap (λ m. m + only (not (spared r (getD wide l 0))) (getD sums (768 + 16 * (d - 1) + l) 0)) (w .flanked l i)
+      ∙ sym (only-add (not (spared r (getD wide l 0))) (flankIn sums l b (d - 1)) (getD sums (768 + 16 * (d - 1) + l) 0))
+      ∙ ap (only (not (spared r (getD wide l 0)))) (flank-last sums l b d h)
+
+  pub running-more : Running r sums wide n b d count₂ flanks₂
   running-more =
       record {
         count-long = wc .long ∙ w .count-long;
@@ -94,18 +111,26 @@ module _ (sums : List ℕ) (n b d lanes : ℕ) (count flanks count₂ flanks₂ 
           | inl z ↦ omega (arith, wc .kept l (inr (omega arith)), w .count-up l i, count-last sums l b d h)
           | inr z ↦ omega (arith, count-here l z, w .count-up l i, count-last sums l b d h)
         ];
-        flanked = λ l i. omega (arith, flank-here l (omega arith), w .flanked l i, flank-last sums l b d h);
+        flanked = flank-all;
         flank-up = λ l i. elim (le-or lanes l) [
           | inl z ↦ omega (arith, wf .kept l (inr (omega arith)), w .flank-up l i, flank-last sums l b d h)
-          | inr z ↦ omega (arith, flank-here l z, w .flank-up l i, flank-last sums l b d h)
+          | inr z ↦ omega (arith, flank-here l z, only-most (not (spared r (getD wide l 0))) (getD sums (768 + 16 * (d - 1) + l) 0), w .flank-up l i, flank-last sums l b d h)
         ];
+        narrow = record {
+          none = λ l i e. elim (le-or lanes l) [
+            | inl z ↦ wf .kept l (inr (omega arith)) ∙ w .narrow .none l i e
+            | inr z ↦ narrow-more r wide flanks sums flanks₂ (768 + 16 * (d - 1)) 16 lanes most (w .narrow) wf .none l z e
+          ];
+        };
       }
 
-pub running-on : (sums : List ℕ) (n b d : ℕ) (count flanks : List ℕ) → Running sums n b d count flanks → Running sums n b (d + 1 - 1) count flanks
-running-on sums n b d count flanks w = subst (λ i. Running sums n b i count flanks) (omega arith) w
+pub running-on : (r : Rule) (sums wide : List ℕ) (n b d : ℕ) (count flanks : List ℕ) → Running r sums wide n b d count flanks
+    → Running r sums wide n b (d + 1 - 1) count flanks
+running-on r sums wide n b d count flanks w = subst (λ i. Running r sums wide n b i count flanks) (omega arith) w
 
 -- what is added is bounded in all lanes
-pub running-most : (t : Sheet) (b d : ℕ) (count flanks : List ℕ) → Measured t → b < d → d ≤ t .rows → Running (t .sums) (t .strips) b (d - 1) count flanks
+pub running-most : (t : Sheet) (b d : ℕ) (count flanks : List ℕ) → Measured t → b < d → d ≤ t .rows
+    → Running (t .rule) (t .sums) (t .wide) (t .strips) b (d - 1) count flanks
     → (l : ℕ) → l < 16
     → (added count (t .sums) (16 * (d - 1)) l ≤ 225) × ((added flanks (t .sums) (768 + 16 * (d - 1)) l ≤ 131070) × (endsAt (t .sums) l b d ≤ 131070))
 unfolding added
@@ -149,7 +174,7 @@ spot-apart rows a p q b d lanes i l pq qr bd dr n = elim (le-or (pairNo rows p q
 module _ (s : ℕ → ℕ → ℕ → ℕ) (t : Sheet) (side made : List ℕ) (b d height cells : ℕ) (count count₂ flanks flanks₂ : List ℕ)
     (m : Measured t) (k : Priced s t side b d) (h : b < d) (dr : d ≤ t .rows) (ec : cells ≡ (d - b) * t .width)
     (eh : height ≡ getD (t .ys) d 0 - getD (t .ys) b 0)
-    (w : Running (t .sums) (t .strips) b d count₂ flanks₂)
+    (w : Running (t .rule) (t .sums) (t .wide) (t .strips) b d count₂ flanks₂)
     (e : Enough (t .rule) (t .rows) height cells b d (t .strips) (t .sums) (t .wide) count count₂ flanks flanks₂ side made) where
   -- what is stored in a lane
   stored-here : (a : ℕ) → a < e .lanes
@@ -174,7 +199,9 @@ module _ (s : ℕ → ℕ → ℕ → ℕ) (t : Sheet) (side made : List ℕ) (b
       (subst (λ n. Judged (getD count₂ a 0) cells n (getD (e .settled .best) a 0) (getD made (spot (t .rows) a b d) 0)) shot (stored-here a (omega (arith, e .enough))))))
     where
       shot : chargeOf (t .rule) (sliverOf (t .rule) (getD (t .wide) a 0) height (getD flanks₂ a 0) (endsAt (t .sums) a b d)) ≡ shotAt t a b d
-      shot = ap₂ (λ x y. chargeOf (t .rule) (sliverOf (t .rule) (getD (t .wide) a 0) x y (endsAt (t .sums) a b d))) eh (w .flanked a i)
+      shot =
+          ap₂ (λ x y. chargeOf (t .rule) (sliverOf (t .rule) (getD (t .wide) a 0) x y (endsAt (t .sums) a b d))) eh (w .flanked a i)
+          ∙ ap (chargeOf (t .rule)) (narrow-same (t .rule) (getD (t .wide) a 0) (getD (t .ys) d 0 - getD (t .ys) b 0) (flankIn (t .sums) a b d) (endsAt (t .sums) a b d))
 
   -- it is bounded, where there is none
   spare-here : (a : ℕ) → t .strips ≤ a → a < 16 → a < e .lanes → getD made (spot (t .rows) a b d) 0 ≤ mostCost

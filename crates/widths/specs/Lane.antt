@@ -4,6 +4,9 @@
 --
 --   copied from at i         == the i-th number of a list from the place at on
 --   added to from at i       == the same, added to the i-th number of another list
+--   narrowed r wide to from at i
+--                            == the same, only where the rule counts the flanks of a strip of the i-th width
+--   Narrow r wide n flanks   == of n flanks those are 0 that the rule spares
 --   spot rows a b d          == where the piece between the y lines b and d of the strip in lane a stands in a side store
 --   partsAt side rows a b d k
 --                            == what the side store has for its two parts together, cut at the line k
@@ -16,11 +19,13 @@
 --                               for each, the least of its vertical cuts, and of its horizontal cuts
 use Prim.Native.Nat.{ℕ, _+_, _*_, _-_, _≤_, _<_}
 use mathlib.Core.Path.{_≡_}
+use mathlib.Core.Bool.{true, not}
 use mathlib.Core.Logic.{_⊎_}
 use mathlib.Core.List.{List}
 use lib.ListN.{length, getD}
+use Rattle.sum.specs.Sum.{only}
 use Rattle.rule.specs.declared.Rule.{Rule}
-use Rattle.rule.specs.Charge.{sliverOf, chargeOf}
+use Rattle.rule.specs.Charge.{sliverOf, spared, chargeOf}
 use Rattle.table.specs.Entry.{pairNo}
 use Rattle.table.specs.Run.{Wrote, Lowest}
 use Rattle.table.specs.Cuts.{Judged}
@@ -30,6 +35,12 @@ copied from at i = getD from (at + i) 0
 
 unfoldable pub added : List ℕ → List ℕ → ℕ → ℕ → ℕ
 added to from at i = getD to i 0 + getD from (at + i) 0
+
+unfoldable pub narrowed : Rule → List ℕ → List ℕ → List ℕ → ℕ → ℕ → ℕ
+narrowed r wide to from at i = getD to i 0 + only (not (spared r (getD wide i 0))) (getD from (at + i) 0)
+
+pub record Narrow (r : Rule) (wide : List ℕ) (n : ℕ) (flanks : List ℕ) : Type 0 where
+  pub none : (l : ℕ) → l < n → spared r (getD wide l 0) ≡ true → getD flanks l 0 ≡ 0
 
 unfoldable pub spot : ℕ → ℕ → ℕ → ℕ → ℕ
 spot rows a b d = 16 * pairNo rows b d + a
@@ -59,5 +70,5 @@ pub record Enough (r : Rule) (rows height cells low high n : ℕ) (sums wide cou
   pub enough : n ≤ lanes
   pub most : lanes ≤ 16
   pub counted : Wrote (added count sums (16 * (high - 1))) 0 lanes count count₂
-  pub flanked : Wrote (added flanks sums (768 + 16 * (high - 1))) 0 lanes flanks flanks₂
+  pub flanked : Wrote (narrowed r wide flanks sums (768 + 16 * (high - 1))) 0 lanes flanks flanks₂
   pub settled : Settled r rows height cells low high sums wide count₂ flanks₂ lanes side made

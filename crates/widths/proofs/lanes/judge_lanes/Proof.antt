@@ -11,10 +11,13 @@ use Rattle.widths.proofs.lanes.judge_lanes.Statement.{statement}
 use Rattle.widths.proofs.lanes.judge_lanes.Tie as tie
 
 abbrev Inv-loop : tie.InvT-loop
-Inv-loop side₀ best sums widths count flanks rule at lanes low high cells height bottom top l₀ side l = (l ≤ lanes) × Ruled rule height cells low high sums widths count flanks best at l side₀ side
+Inv-loop side₀ best sums widths count flanks rule at lanes low high cells height tall bottom top l₀ side l = (l ≤ lanes) × Ruled rule height cells low high sums widths count flanks best at l side₀ side
 
 abbrev μ-loop : tie.MeasureT-loop
-μ-loop side₀ best sums widths count flanks rule at lanes low high cells height bottom top l₀ side l = lanes - l
+μ-loop side₀ best sums widths count flanks rule at lanes low high cells height tall bottom top l₀ side l = lanes - l
+
+spares-requires : tie.Need-spares-requires Inv-loop μ-loop
+spares-requires c κs = search needs
 
 mul-bottom : tie.Need-mul-bottom Inv-loop μ-loop
 mul-bottom c = search needs
@@ -54,25 +57,28 @@ shared-slice-read-ends-2 c = search needs
 
 add-ends-3 : tie.Need-add-ends-3 Inv-loop μ-loop
 add-ends-3 c =
-    let s = c .before .before .before .before .before .before .before .before .before .before in
+    let s = c .before .before .before .before .before .before .before .before .before .before .before in
     let l = c .before .before .before .loop in
     let v = s .args .level in
-    record { fits = omega (arith, ends-here (s .args .sums .now) (l .l) (v .low) (v .high) _ _ refl refl, s .pre .1 .1 (l .l) (omega arith) .1) }
+    record { fits = omega (arith, ends-here (s .args .sums .now) (l .l) (v .low) (v .high) _ _ refl refl, s .pre .1 .1 .0 (l .l) (omega arith) .1) }
 
-mul-sliver : tie.Need-mul-sliver Inv-loop μ-loop
-mul-sliver c = search needs
+mul-sliver-of-height : tie.Need-mul-sliver-of-height Inv-loop μ-loop
+mul-sliver-of-height c = search needs
 
-shared-slice-read-sliver : tie.Need-shared-slice-read-sliver Inv-loop μ-loop
-shared-slice-read-sliver c = search needs
+shared-slice-read-sliver-of-height : tie.Need-shared-slice-read-sliver-of-height Inv-loop μ-loop
+shared-slice-read-sliver-of-height c = search needs
 
-mul-sliver-2 : tie.Need-mul-sliver-2 Inv-loop μ-loop
-mul-sliver-2 c = search needs
+mul-sliver-of-height-2 : tie.Need-mul-sliver-of-height-2 Inv-loop μ-loop
+mul-sliver-of-height-2 c = search needs
 
-shared-slice-read-sliver-2 : tie.Need-shared-slice-read-sliver-2 Inv-loop μ-loop
-shared-slice-read-sliver-2 c = search needs
+shared-slice-read-sliver-of-height-2 : tie.Need-shared-slice-read-sliver-of-height-2 Inv-loop μ-loop
+shared-slice-read-sliver-of-height-2 c = search needs
 
-sliver-requires : tie.Need-sliver-requires Inv-loop μ-loop
-sliver-requires c κs = search needs
+sliver-of-height-requires : tie.Need-sliver-of-height-requires Inv-loop μ-loop
+sliver-of-height-requires c κs =
+    let s = c .before .before .before .before .before .before .before .before .before .before .before .before .before in
+    let l = c .before .before .before .before .before .loop in
+    (c .before .before .before .before .before .before .spares .ensures, s .pre .1 .1 .1 .none (l .l) (omega arith))
 
 mul-settled : tie.Need-mul-settled Inv-loop μ-loop
 mul-settled c = search needs
@@ -82,12 +88,12 @@ shared-slice-read-settled c = search needs
 
 charge-requires : tie.Need-charge-requires Inv-loop μ-loop
 charge-requires c κs =
-    let s = c .before .before .before .before .before .before .before .before .before .before .before .before .before .before in
+    let s = c .before .before .before .before .before .before .before .before .before .before .before .before .before .before .before in
     let l = c .before .before .before .before .before .before .before .loop in
     let v = s .args .level in
-    let m = s .pre .1 .1 (l .l) (omega arith) in
+    let m = s .pre .1 .1 .0 (l .l) (omega arith) in
     let e = ends-here (s .args .sums .now) (l .l) (v .low) (v .high) _ _ refl refl in
-    (sliver-fits _ _ _ _ _ _ (c .before .sliver .ensures) (m .0) (omega (arith, m .1, e)), s .pre .1 .0 .1 .1 .1 .1)
+    (sliver-fits _ _ _ _ _ _ (c .before .sliver-of-height .ensures) (m .0) (omega (arith, m .1, e)), s .pre .1 .0 .1 .1 .1 .1)
 
 mul-settled-2 : tie.Need-mul-settled-2 Inv-loop μ-loop
 mul-settled-2 c = search needs
@@ -100,17 +106,17 @@ settled-requires c κs = search needs
 
 add-side : tie.Need-add-side Inv-loop μ-loop
 add-side c =
-    let s = c .before .before .before .before .before .before .before .before .before .before .before .before .before .before .before .before .before in
+    let s = c .before .before .before .before .before .before .before .before .before .before .before .before .before .before .before .before .before .before in
     record { fits = omega (arith, s .pre .1 .0) }
 
 mul-side : tie.Need-mul-side Inv-loop μ-loop
 mul-side c =
-    let s = c .before .before .before .before .before .before .before .before .before .before .before .before .before .before .before .before .before in
+    let s = c .before .before .before .before .before .before .before .before .before .before .before .before .before .before .before .before .before .before in
     record { fits = omega (arith, s .pre .1 .0) }
 
 slice-write-side : tie.Need-slice-write-side Inv-loop μ-loop
 slice-write-side c =
-    let s = c .before .before .before .before .before .before .before .before .before .before .before .before .before .before .before .before .before in
+    let s = c .before .before .before .before .before .before .before .before .before .before .before .before .before .before .before .before .before .before in
     let l = c .before .before .before .before .before .before .before .before .before .before .loop in
     omega (arith, l .inv .1 .long, s .pre .1 .0)
 
@@ -122,11 +128,11 @@ loop-less c = search needs
 
 loop-again : tie.Need-loop-again Inv-loop μ-loop
 loop-again c =
-    let s = c .before .before .before .before .before .before .before .before .before .before .before .before .before .before .before .before .before in
+    let s = c .before .before .before .before .before .before .before .before .before .before .before .before .before .before .before .before .before .before in
     let l = c .before .before .before .before .before .before .before .before .before .before .loop in
     let v = s .args .level in
     let e = ends-here (s .args .sums .now) (l .l) (v .low) (v .high) _ _ refl refl in
-    let o = c .before .before .before .before .sliver in
+    let o = c .before .before .before .before .sliver-of-height in
     let q = c .before .before .charge in (
       omega arith,
       ruled-more _ _ _ _ _ _ _ _ _ _ _ _ (l .l) (c .settled .result) (l .side) (omega (arith, s .pre .1 .0))
@@ -146,6 +152,7 @@ judge-lanes-spec =
     (tie.spec
     Inv-loop
     μ-loop
+    spares-requires
     mul-bottom
     add-bottom
     sub-top
@@ -159,11 +166,11 @@ judge-lanes-spec =
     mul-ends-2
     shared-slice-read-ends-2
     add-ends-3
-    mul-sliver
-    shared-slice-read-sliver
-    mul-sliver-2
-    shared-slice-read-sliver-2
-    sliver-requires
+    mul-sliver-of-height
+    shared-slice-read-sliver-of-height
+    mul-sliver-of-height-2
+    shared-slice-read-sliver-of-height-2
+    sliver-of-height-requires
     mul-settled
     shared-slice-read-settled
     charge-requires

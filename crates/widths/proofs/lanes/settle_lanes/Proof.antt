@@ -2,7 +2,7 @@
 use mathlib.Core.Path.{_∙_}
 use native.Mathlib.Omega.{arith}
 use Rattle.table.proofs.Entry.{below-most}
-use Rattle.widths.proofs.Lane.{spot-first, spot-room, wrote-at, wrote-count, settled-made}
+use Rattle.widths.proofs.Lane.{spot-first, spot-room, narrow-more, narrow-most, wrote-count, settled-made}
 use borrow.Author.Needs.{needs}
 use Rattle.widths.proofs.lanes.settle_lanes.Statement.{statement}
 use Rattle.widths.proofs.lanes.settle_lanes.Tie as tie
@@ -51,16 +51,16 @@ add-requires : tie.Need-add-requires
 add-requires c κs =
     let s = c .before .before .before .before .before .before .before .before .before .before .before .before .before .before in
     let m = s .pre .1 .1 .0 in
-    ((omega (arith, m, s .pre .1 .0), omega (arith, m, s .pre .1 .0, s .pre .0)), λ i h. omega (arith, s .pre .1 .1 .1 .1 i (omega (arith, m)) .0))
+    ((omega (arith, m, s .pre .1 .0), omega (arith, m, s .pre .1 .0, s .pre .0)), λ i h. omega (arith, s .pre .1 .1 .1 .1 .0 i (omega (arith, m)) .0))
 
-add-add : tie.Need-add-add
-add-add c = search needs
+add-add-flanks : tie.Need-add-add-flanks
+add-add-flanks c = search needs
 
-add-requires-2 : tie.Need-add-requires-2
-add-requires-2 c κs =
+add-flanks-requires : tie.Need-add-flanks-requires
+add-flanks-requires c κs =
     let s = c .before .before .before .before .before .before .before .before .before .before .before .before .before .before .before .before .before .before in
     let m = s .pre .1 .1 .0 in
-    ((omega (arith, m, s .pre .1 .0), omega (arith, m, s .pre .1 .0, s .pre .0)), λ i h. omega (arith, s .pre .1 .1 .1 .1 i (omega (arith, m)) .1 .0))
+    ((omega (arith, m, s .pre .1 .0), (omega (arith, m, s .pre .1 .0, s .pre .0), omega (arith, m, s .pre .1 .0))), λ i h. omega (arith, s .pre .1 .1 .1 .1 .0 i (omega (arith, m)) .1 .0))
 
 slice-aggregate-judge-lanes : tie.Need-slice-aggregate-judge-lanes
 slice-aggregate-judge-lanes c = search needs
@@ -72,7 +72,7 @@ judge-lanes-requires c κs =
     let p = s .pre .0 in
     let m = s .pre .1 .1 .0 in
     let d = s .pre .1 .0 in
-    let z = c .before .before .before .before .before .before .add2 .ensures in (
+    let z = c .before .before .before .before .before .before .add-flanks .ensures in (
       (c .before .before .before .before .before .before .before .before .before .before .before .before .before .weigh-lanes .kept .0 ∙ c .before .before .before .before .before .before .before .before .before .before .before .before .before .before .before .before .before .copy .ensures .long, (d .1 .0, (d .1 .1 .0, (c .before .before .before .before .before .before .before .before .before .before .add .ensures .long ∙ d .1 .1 .1 .0, z .long ∙ d .1 .1 .1 .1)))),
       (
         (
@@ -85,9 +85,12 @@ judge-lanes-requires c κs =
             ),
           ),
         ),
-        λ l h.
-            let o = s .pre .1 .1 .1 .1 l (omega (arith, m)) in
-            (omega (arith, wrote-at _ _ _ _ l h z, o .1 .0), o .1 .1),
+        (
+          λ l h.
+              let o = s .pre .1 .1 .1 .1 .0 l (omega (arith, m)) in
+              (omega (arith, narrow-most _ _ _ _ _ _ _ l h z, o .1 .0), o .1 .1),
+          narrow-more _ _ _ _ _ _ _ _ (omega (arith, m)) (s .pre .1 .1 .1 .1 .1) z,
+        ),
       ),
     )
 
@@ -107,7 +110,7 @@ returns c =
     let m = s .pre .1 .1 .0 in (
       wrote-count _ _ _ _ _ (m .1 .0) (c .before .before .before .before .before .before .before .before .before .before .before .before .before .add .ensures),
       (
-        wrote-count _ _ _ _ _ (m .1 .0) (c .before .before .before .before .before .before .before .before .before .add2 .ensures),
+        wrote-count _ _ _ _ _ (m .1 .0) (c .before .before .before .before .before .before .before .before .before .add-flanks .ensures),
         settled-made _ _ _ _ _ _ _ _ _ _ _ _ _ _ _ _ _ _ (p .0) (p .1 .1 .1) (m .1 .0) (c .before .before .before .before .before .before .before .before .before .before .before .before .before .before .before .before .before .before .before .before .copy .ensures) (c .before .before .before .before .before .before .before .before .before .before .before .before .before .before .before .before .weigh-lanes .ensures) (c .before .before .judge-lanes .ensures),
       ),
     )
@@ -127,8 +130,8 @@ settle-lanes-spec =
     slice-aggregate-weigh-lanes
     weigh-lanes-requires
     add-requires
-    add-add
-    add-requires-2
+    add-add-flanks
+    add-flanks-requires
     slice-aggregate-judge-lanes
     judge-lanes-requires
     same-length

@@ -18,7 +18,7 @@ back-left : (d b : ℕ) → d - b ≡ d + 1 - 1 - b
 back-left d b = omega arith
 
 abbrev Inv-loop : tie.InvT-loop
-Inv-loop side₀ sums widths ys rule rows w low first n count₀ flanks₀ cells₀ high₀ side count flanks cells high = (low < high) × ((high ≤ rows + 1) × ((cells ≡ (high - 1 - low) * w) × ((length side ≡ length side₀) × (Running sums n low (high - 1) count flanks × ((s : ℕ → ℕ → ℕ → ℕ) → Priced s (sheet sums widths ys rule rows w n) side₀ low (low + 1) → Priced s (sheet sums widths ys rule rows w n) side low high)))))
+Inv-loop side₀ sums widths ys rule rows w low first n count₀ flanks₀ cells₀ high₀ side count flanks cells high = (low < high) × ((high ≤ rows + 1) × ((cells ≡ (high - 1 - low) * w) × ((length side ≡ length side₀) × (Running rule sums widths n low (high - 1) count flanks × ((s : ℕ → ℕ → ℕ → ℕ) → Priced s (sheet sums widths ys rule rows w n) side₀ low (low + 1) → Priced s (sheet sums widths ys rule rows w n) side low high)))))
 
 abbrev μ-loop : tie.MeasureT-loop
 μ-loop side₀ sums widths ys rule rows w low first n count₀ flanks₀ cells₀ high₀ side count flanks cells high = rows + 1 - high
@@ -34,7 +34,7 @@ loop-holds c =
         omega (arith, s .pre .1 .0),
         (
           sym (ap (λ n. n * s .args .w) (zero-left (s .args .low)) ∙ zero-mul (s .args .w)),
-          (refl, (running-none (s .args .sums .now) (s .args .n) (s .args .low) (s .pre .0 .strips-most), λ f k. k)),
+          (refl, (running-none (s .args .rule) (s .args .sums .now) (s .args .widths .now) (s .args .n) (s .args .low) (s .pre .0 .strips-most), λ f k. k)),
         ),
       ),
     )
@@ -74,7 +74,10 @@ settle-some-requires c κs =
           (omega (arith, m .strips-most), m .weight-most),
           (
             λ a j i p q. priced-fits (k .price) (sheet (s .args .sums .now) (s .args .widths .now) (s .args .ys .now) (s .args .rule) (s .args .rows) (s .args .w) (s .args .n)) (l .side) (s .args .low) (l .high) (l .inv .1 .1 .1 .1 .1 (k .price) (k .priced)) (l .inv .0) t a j i p q,
-            running-most (sheet (s .args .sums .now) (s .args .widths .now) (s .args .ys .now) (s .args .rule) (s .args .rows) (s .args .w) (s .args .n)) (s .args .low) (l .high) (l .count) (l .flanks) m (l .inv .0) t w,
+            (
+              running-most (sheet (s .args .sums .now) (s .args .widths .now) (s .args .ys .now) (s .args .rule) (s .args .rows) (s .args .w) (s .args .n)) (s .args .low) (l .high) (l .count) (l .flanks) m (l .inv .0) t w,
+              w .narrow,
+            ),
           ),
         ),
       ),
@@ -93,7 +96,7 @@ loop-again c =
     let t = c .before .before .before .before .before .before .before .before .before .loop-test .taken in
     let m = s .pre .0 in
     let e = c .before .before .before .before .settle-some .ensures in
-    let w = running-more (s .args .sums .now) (s .args .n) (s .args .low) (l .high) (e .lanes) (l .count) (l .flanks) _ _ (l .inv .0) (e .enough) (e .most) (l .inv .1 .1 .1 .1 .0) (e .counted) (e .flanked) in
+    let w = running-more (s .args .rule) (s .args .sums .now) (s .args .widths .now) (s .args .n) (s .args .low) (l .high) (e .lanes) (l .count) (l .flanks) _ _ (l .inv .0) (e .enough) (e .most) (l .inv .1 .1 .1 .1 .0) (e .counted) (e .flanked) in
     let ec = cells-more (s .args .low) (l .high) (s .args .w) (l .cells) (l .inv .0) (l .inv .1 .1 .0) in (
       omega (arith, l .inv .0),
       (
@@ -103,7 +106,7 @@ loop-again c =
           (
             c .before .before .before .before .settle-some .kept .0 ∙ l .inv .1 .1 .1 .0,
             (
-              running-on _ _ _ _ _ _ w,
+              running-on _ _ _ _ _ _ _ _ w,
               λ f k. price-step f (sheet (s .args .sums .now) (s .args .widths .now) (s .args .ys .now) (s .args .rule) (s .args .rows) (s .args .w) (s .args .n)) (l .side) _ (s .args .low) (l .high) _ _ (l .count) _ (l .flanks) _ m (l .inv .1 .1 .1 .1 .1 f k) (l .inv .0) t ec (c .before .before .before .before .before .before .before .before .span .ensures) w e,
             ),
           ),
