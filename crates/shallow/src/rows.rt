@@ -196,6 +196,44 @@ fn highest_four(
     }
 }
 
+// The same in a strip of four rows, of which these are all. What has two callers the compiler does not put in place, and a strip then takes
+// half as long again: so each count of rows has one of its own.
+fn all_four(
+    table: &[u32],
+    strip: Strip,
+    rule: Rule,
+    lowest: Sums,
+    second: Sums,
+    third: Sums,
+    highest: Sums,
+) -> Ten
+    requires { ⌜ ((g : Grid) × (b : ℕ) × FourRows g rule strip b lowest second third highest (now table)) ⌝ }
+    ensures { λ x. ⌜ ((g : Grid) (b : ℕ) → FourRows g rule strip b lowest second third highest (now (table .entry)) → TopFour g rule (strip .a .0) (strip .c .0) b x) ⌝ }
+{
+    let pairs = strip.pairs;
+    let top = two_rows(table, strip, rule, third, highest);
+    let upper = third_row(table, strip, pairs - 6, rule, second, third, highest, top);
+    let over = Three {
+        first: upper.first,
+        second: upper.second,
+        third: top.first,
+    };
+    let lower = third_row(table, strip, pairs - 10, rule, lowest, second, third, over);
+    let left = Three {
+        first: upper.third,
+        second: top.second,
+        third: top.third,
+    };
+    let all = four_sums(lowest, second, third, highest);
+    let whole = four_rows(table, strip, pairs - 7, rule, all, lower, left);
+    Ten {
+        lowest: lower,
+        whole,
+        second: upper,
+        top,
+    }
+}
+
 // What a fifth row below the four highest adds, whose costs are known: the costs of the five pieces that begin at the lowest line. They
 // stand first in the strip.
 fn fifth_row(
@@ -454,7 +492,7 @@ pub fn fill_four(
         second = sums::grown(cells, rule, strip, step, 1, second);
         third = sums::grown(cells, rule, strip, step, 2, third);
         highest = sums::grown(cells, rule, strip, step, 3, highest);
-        let costs = highest_four(table, strip, rule, lowest, second, third, highest);
+        let costs = all_four(table, strip, rule, lowest, second, third, highest);
         store_ten(table, at, costs);
         at += 10;
         c += 1;

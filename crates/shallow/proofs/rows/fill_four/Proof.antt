@@ -171,8 +171,8 @@ grown-requires-4 c κs =
     let l = head n .loop in
     asks-grown _ _ _ _ _ _ _ (entry (head n) .pre .0) _ _ _ 3 _ (l .inv .0 .above) (m .loop-test .taken) (omega arith) (n .span2 .ensures .1) (l .inv .4)
 
-highest-four-requires : tie.Need-highest-four-requires Inv-loop μ-loop
-highest-four-requires c κs = (let n = c .before in (grid (entry (head (spans n))), 0, rows-given n))
+all-four-requires : tie.Need-all-four-requires Inv-loop μ-loop
+all-four-requires c κs = (let n = c .before in (grid (entry (head (spans n))), 0, rows-given n))
 
 store-ten-requires : tie.Need-store-ten-requires Inv-loop μ-loop
 store-ten-requires c κs = (let n = spans (c .before .before .before) in omega (arith, room (n .before .before), pairs-four 4 refl))
@@ -201,7 +201,7 @@ loop-again c =
     let s = entry (m .before) in
     let w = rows-given n in (
       turn-more _ _ _ _ _ _ _ (s .pre .0) _ _ _ _ (m .before .loop .inv .0) _ _ 10 (m .loop-test .taken) (sym (pairs-four 4 refl)) (e .store-ten .ensures)
-          (four-right (grid s) _ _ _ (x .highest-four .result) (x .highest-four .ensures (grid s) 0 w)),
+          (four-right (grid s) _ _ _ (x .all-four .result) (x .all-four .ensures (grid s) 0 w)),
       row-next _ _ _ _ _ _ _ (w .sums .lowest-sums),
       row-next _ _ _ _ _ _ _ (w .sums .second-sums),
       row-next _ _ _ _ _ _ _ (w .sums .third-sums),
@@ -234,7 +234,7 @@ fill-four-spec =
     grown-requires-2
     grown-requires-3
     grown-requires-4
-    highest-four-requires
+    all-four-requires
     store-ten-requires
     add-at
     add-c-2
