@@ -2,6 +2,7 @@
 --
 --   lowest-next, lowest-end            == the least of the lines passed: with one line more, and of all of them
 --   entry-in, entry-most               == the entry of a piece is the table's, and has at most the scope's bound
+--   plan-small                         == the plan has the size of a grid
 --   few-lowered                        == a piece with fewer than three columns or rows has its cost by pinwheels
 --   here-within                        == the entry of the piece at hand is the table's
 --   weighable-x, weighable-y           == its cuts in each direction are the table's
@@ -69,8 +70,8 @@ module _ (g : Grid) (r : Rule) (t cells : List ℕ) (plan : Plan) (s : Between g
     | inr e ↦ e
   ]
 
-  sized : (plan .columns ≤ 15) × (plan .rows ≤ 15)
-  sized = let k = s .sound in (omega (arith, s .columns, k .columns-most), omega (arith, s .rows, k .rows-most))
+  pub plan-small : (plan .columns ≤ 15) × (plan .rows ≤ 15)
+  plan-small = let k = s .sound in (omega (arith, s .columns, k .columns-most), omega (arith, s .rows, k .rows-most))
 
   -- the piece at hand
   module _ (p : stored.Piece) (n : ℕ) (z : Known plan (record { piece = p; entry = n })) where
@@ -117,8 +118,8 @@ module _ (g : Grid) (r : Rule) (t cells : List ℕ) (plan : Plan) (s : Between g
     weighable-x = record {
       ordered = w .ac;
       some = w .cx;
-      few = sized .0;
-      short = omega (arith, s .pairs, count-most (plan .rows) (sized .1));
+      few = plan-small .0;
+      short = omega (arith, s .pairs, count-most (plan .rows) (plan-small .1));
       here = z .entry ∙ sym (part-x plan p n (z .entry) (s .pairs) (p .a .0) (p .c .0));
       within = λ a c h k.
           entry-in (box a c (p .b .0) (p .d .0)) (record { ac = h; cx = k; bd = w .bd; dy = w .dy }) _ (part-x plan p n (z .entry) (s .pairs) a c);
@@ -131,7 +132,7 @@ module _ (g : Grid) (r : Rule) (t cells : List ℕ) (plan : Plan) (s : Between g
     weighable-y = record {
       ordered = w .bd;
       some = w .dy;
-      few = sized .1;
+      few = plan-small .1;
       short = omega arith;
       here = z .entry ∙ sym (part-y plan p n (z .entry) (s .pairs) (p .b .0) (p .d .0));
       within = λ b d h k.
@@ -157,7 +158,7 @@ module _ (g : Grid) (r : Rule) (t cells : List ℕ) (plan : Plan) (s : Between g
     -- the cells, as memory has them
     seen : (i j : ℕ) → Within p i j → (getD cells (16 * i + j) 0 ≡ only (g .inside i j) 1) × cell.Within (meant p) i j
     seen i j h = (
-      s .cell-at i j (omega (arith, h, w, sized)) (omega (arith, h, w, sized)),
+      s .cell-at i j (omega (arith, h, w, plan-small)) (omega (arith, h, w, plan-small)),
       record { a = h .a; c = h .c; b = h .b; d = h .d },
     )
 

@@ -104,9 +104,11 @@ fn lower_pieces(
     ensures { λ _. ⌜ ((g : Grid) (r : Rule) → Standing g r (now (table .entry)) (now (cells .entry)) (now (best .entry)) plan (a .0) (c .0) (b .0) (b .0 + 3) → Standing g r (now (table .exit)) (now (cells .entry)) (now (best .entry)) plan (a .0) (c .0) (b .0) (plan .rows + 1)) ⌝ }
     ensures { λ _. ⌜ Beyond (entryCount (plan .columns) (plan .rows)) (now (table .entry)) (now (table .exit)) ⌝ }
 {
+    let columns = plan.columns;
     let rows = plan.rows;
+    let pairs = plan.pairs;
     let low = b.0;
-    let strip = plan.pairs * pair_number(plan.columns, a, c);
+    let strip = pairs * pair_number(columns, a, c);
     let mut d = low + 3;
     while d <= rows {
         let high = Line(d);
@@ -138,16 +140,11 @@ fn lower_strip(table: &mut [u32], cells: &[u8], plan: Plan, a: Line, c: Line)
     ensures { λ _. ⌜ ((g : Grid) (r : Rule) → Lowering g r (now (table .entry)) (now (cells .entry)) plan (a .0) (c .0) → Lowering g r (now (table .exit)) (now (cells .entry)) plan (a .0) (c .0 + 1)) ⌝ }
     ensures { λ _. ⌜ Beyond (entryCount (plan .columns) (plan .rows)) (now (table .entry)) (now (table .exit)) ⌝ }
 {
+    let columns = plan.columns;
+    let rows = plan.rows;
+    let pairs = plan.pairs;
     let mut best = [u32::MAX; 16];
-    weigh(
-        &mut best,
-        table,
-        plan.columns,
-        plan.rows,
-        plan.pairs,
-        a,
-        c,
-    );
+    weigh(&mut best, table, columns, rows, pairs, a, c);
     lower_weighed(table, cells, &best, plan, a, c);
 }
 
