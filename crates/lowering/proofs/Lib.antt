@@ -1,2 +1,3 @@
 pub mod Costs
+pub mod Turning
 pub mod Steps
