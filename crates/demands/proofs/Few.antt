@@ -1,10 +1,10 @@
 -- Where a grid has fewer than four lines in a direction no piece has a pinwheel, so both modes are one. Assumes nothing.
 --
---   few-cuts        == a piece that ends at the third line of a direction has the same cuts in both modes
+--   few-cuts        == a piece of at most two columns or rows of cells has the same cuts in both modes
 --   few-shots       == so it has the same shots ..
 --   few-cost        == .. and costs the same
 --   few-same        == of a figure with at most three lines in a direction the outcome is the same in both modes: answer, table and list
-use Prim.Native.Nat.{ℕ, zero, suc, _*_, _-_, _≤_, _<_}
+use Prim.Native.Nat.{ℕ, zero, suc, _+_, _*_, _-_, _≤_, _<_}
 use mathlib.Core.Path.{_≡_, refl, sym, _∙_, ap, ap₂}
 use mathlib.Core.Bool.{cond}
 use mathlib.Core.Logic.{_⊎_, inl, inr}
@@ -36,9 +36,9 @@ use Rattle.demands.specs.Cuts.{weighedCuts}
 use Rattle.demands.specs.Promise.{Asked, drawn, ruleOf, frameShots, frameCost, frameSliver, frameNumbers, Outcome, written, refused, delivered, gridded, ruled, outcome}
 use Rattle.demands.proofs.Outcome.{in-mode}
 
--- the piece ends at the third line, or before
+-- the piece has at most two columns or two rows of cells
 abbrev pub Few : Piece → Type 0
-Few p = (p .c ≤ 2) ⊎ (p .d ≤ 2)
+Few p = (p .c ≤ p .a + 2) ⊎ (p .d ≤ p .b + 2)
 
 module _ {A B : Type 0} where
   join-none : (f : A → List B) (l : List A) → All (λ s. f s ≡ []) l → join f l ≡ []
@@ -88,12 +88,12 @@ few-parts p h = cuts-all Straight _ p each
   where
     each : (k : Cut) → CutOf Straight p k → All Few (parts p k)
     each (vertical j) w = elim h [
-      | inl q ↦ (inl (omega (arith, w .1)), (inl q, tt))
+      | inl q ↦ (inl (omega (arith, w .1)), (inl (omega (arith, w .0)), tt))
       | inr q ↦ (inr q, (inr q, tt))
     ]
     each (horizontal j) w = elim h [
       | inl q ↦ (inl q, (inl q, tt))
-      | inr q ↦ (inr (omega (arith, w .1)), (inr q, tt))
+      | inr q ↦ (inr (omega (arith, w .1)), (inr (omega (arith, w .0)), tt))
     ]
     each (wheel t j l k m) w = absurd (straight-only (w .0))
 

@@ -3,6 +3,7 @@
 --   laid-few, laid-ready   : the grid is small, and the fill may have it
 --   laid-filled            : what the fill leaves in the table
 --   laid-walk              : then the pieces may be walked
+--   laid-lowered           : what is left in it once it is lowered to the costs in another mode
 --   gridded-table          : the outcome with too few entries
 --   gridded-delivered      : and with enough of them
 use Prim.Native.Nat.{ℕ, _≤_, _<_}
@@ -20,11 +21,13 @@ use Rattle.piece.specs.declared.Mode.{Mode}
 use Rattle.piece.specs.Piece.{Piece}
 use Rattle.piece.specs.Cuts.{cost}
 use Rattle.table.specs.Entry.{Valid, pairCount, entryCount, entryOf, costs}
-use Rattle.table.specs.Fill.{Ready}
-use Rattle.table.proofs.Entry.{costs-length, costs-at, entry-below}
+use Rattle.table.specs.Fill.{Ready, Beyond}
+use Rattle.table.proofs.Entry.{costs-length, costs-at, costs-whole, entry-below}
+use Rattle.verdict.specs.declared.Plan.{Plan}
+use Rattle.verdict.specs.Memory.{Costed}
 use Rattle.emission.specs.Emission.{Walk}
 use Rattle.demands.specs.Promise.{written, refused, delivered, gridded}
-use Rattle.demands.proofs.Outcome.{written-length, written-at}
+use Rattle.demands.proofs.Outcome.{written-past, written-length, written-at}
 use Rattle.fracture.specs.declared.Fractured.{Fractured}
 use Rattle.fracture.specs.declared.Fractured.the-variants.{Refused}
 use Rattle.fracture.specs.Delivery.{Laid}
@@ -82,6 +85,23 @@ module _ (mode : Mode) (g : Grid) (m : Memory) (w : Laid g m) where
             drawn = d;
             rule = refl;
           }
+
+      pub laid-lowered : (to : Mode) {v : List ℕ} (plan : Plan)
+          → Costed to g r v (m .cells) plan → Beyond (entryCount (m .columns) (m .rows)) u v
+          → v ≡ written (costs to g r) t
+      unfolding written
+      laid-lowered to {v} plan c b =
+          costs-whole to g r t v (omega (arith, long, counted g m w)) long
+          (λ p z.
+          ap (λ i. getD v i 0) (ap₂ (λ i j. entryOf i j p) (sym (c .columns)) (sym (c .rows)))
+          ∙ c .cost-at p (record { ac = z .ac; cx = omega (arith, z .cx, c .columns); bd = z .bd; dy = omega (arith, z .dy, c .rows) }))
+          (λ i h.
+          b .kept i (omega (arith, counted g m w))
+          ∙ ap (λ (l : List ℕ). getD l i 0) e
+          ∙ written-past (costs mode g r) t i (omega (arith, costs-length mode g r)))
+        where
+          long : length v ≡ length t
+          long = b .long ∙ ap length e ∙ written-length (costs mode g r) t (omega (arith, counted g m w, costs-length mode g r))
 
       pub gridded-delivered : (a : Fractured) (l l′ : List ℕ) → told a u l′ ≡ delivered mode g r u l → told a u l′ ≡ gridded mode g r t l
       unfolding gridded refused

@@ -53,6 +53,6 @@ pub record Fillable (m : Memory) (r : Rule) : Type 0 where
 
 abbrev pub Sizes : Turns → ℕ → ℕ → Type 0
 Sizes None columns rows = (columns ≤ 2) ⊎ (rows ≤ 2)
-Sizes Few columns rows = (columns ≤ 5) × (rows ≤ 5)
+Sizes Few columns rows = (3 ≤ columns) × ((3 ≤ rows) × (rows ≤ 5))
 Sizes Wide columns rows = Unit {0}
 Sizes High columns rows = Unit {0}

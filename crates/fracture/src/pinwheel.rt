@@ -6,6 +6,7 @@ use crate::delivery::Room;
 use crate::delivery::frame_of;
 use emission::measuring::slivers;
 use emission::pinwheel::emit;
+use lowering::lower;
 use outline::Answer;
 use outline::MOST_CELLS;
 use outline::MOST_LINES;
@@ -16,9 +17,7 @@ use table::numbering::entries;
 use table::numbering::pair_count;
 use verdict::Numbered;
 use verdict::Plan;
-use wheels::FEW;
 use wheels::fill;
-use wheels::fill_few;
 ghost use mathlib.Core.Path.{_≡_};
 ghost use mathlib.Core.Bool.{true};
 ghost use Prim.Native.Nat.{_≤_};
@@ -37,6 +36,9 @@ ghost use Rattle.demands.specs.Promise.{delivered, gridded, ruled};
 ghost use Rattle.demands.specs.Demands.{Words};
 ghost use Rattle.fracture.specs.Delivery.{roomOf, Walkable, Laid, Fillable, Sizes};
 ghost use Rattle.fracture.specs.Told.{told};
+
+// A grid of so many columns and rows at most is filled by straight cuts and then lowered, which takes no store.
+const FEW: usize = 5;
 
 // The pinwheels of a grid: none, or those of few columns and rows, or of more columns, or of more rows.
 enum Turns {
@@ -138,7 +140,8 @@ fn fracture_grid(
     deliver(table, cells, xs, ys, list, plan)
 }
 
-// The same of a grid of few columns and rows, whose store is small. It stands apart, so that such a call makes no room on the stack for the large store.
+// The same of a grid of few columns and rows: its table by straight cuts is lowered. It stands apart, so that such a call makes no room on the
+// stack for the store of the pinwheel fill.
 fn fracture_few(
     columns: usize,
     rows: usize,
@@ -150,13 +153,13 @@ fn fracture_few(
     list: &mut [u16],
 ) -> Fractured
     requires { ⌜ Fillable (memory columns rows (now xs) (now ys) (now cells)) rule ⌝ }
-    requires { ⌜ (columns ≤ 5) × (rows ≤ 5) ⌝ }
+    requires { ⌜ (3 ≤ columns) × ((3 ≤ rows) × (rows ≤ 5)) ⌝ }
     ensures { λ a. ⌜ ((g : Grid) → Laid g (memory columns rows (now (xs .entry)) (now (ys .entry)) (now (cells .entry))) → told a (now (table .exit)) (now (list .exit)) ≡ gridded Pinwheel g rule (now (table .entry)) (now (list .entry))) ⌝ }
 {
     if table.len() < entries(columns, rows) {
         return Fractured::Refused(Refusal::Table, 0);
     }
-    fill_few(xs, ys, cells, columns, rows, rule, table);
+    fill::fill(xs, ys, cells, columns, rows, rule, table);
     let pairs = pair_count(rows);
     let plan = Plan {
         columns,
@@ -164,10 +167,11 @@ fn fracture_few(
         pairs,
         rule,
     };
+    lower(table, cells, plan);
     deliver(table, cells, xs, ys, list, plan)
 }
 
-// What a grid of this size has of pinwheels. With fewer than three columns or rows of cells there is none; the rest goes by the store.
+// What a grid of this size has of pinwheels. With fewer than three columns or rows of cells there is none; the rest goes by the fill.
 fn turns_of(columns: usize, rows: usize) -> Turns
     ensures { λ r. ⌜ Sizes r columns rows ⌝ }
 {

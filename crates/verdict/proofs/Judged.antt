@@ -59,7 +59,7 @@ cuts-y plan p n = record { last = plan .rows; low = p .b; high = p .d; entry = n
 
 -- the entries of their parts, n being the piece's own
 module _ (plan : Plan) (p : stored.Piece) (n : ℕ) (e : n ≡ entryOf (plan .columns) (plan .rows) (meant p)) (m : plan .pairs ≡ pairCount (plan .rows)) where
-  part-x : (a c : ℕ) → partEntry (cuts-x plan p n) a c ≡ entryOf (plan .columns) (plan .rows) (box a c (p .b .0) (p .d .0))
+  pub part-x : (a c : ℕ) → partEntry (cuts-x plan p n) a c ≡ entryOf (plan .columns) (plan .rows) (box a c (p .b .0) (p .d .0))
   unfolding partEntry baseOf entryOf
   part-x a c =
       omega (
@@ -71,7 +71,7 @@ module _ (plan : Plan) (p : stored.Piece) (n : ℕ) (e : n ≡ entryOf (plan .co
         ap (λ i. pairNo (plan .columns) a c * i) m,
       )
 
-  part-y : (b d : ℕ) → partEntry (cuts-y plan p n) b d ≡ entryOf (plan .columns) (plan .rows) (box (p .a .0) (p .c .0) b d)
+  pub part-y : (b d : ℕ) → partEntry (cuts-y plan p n) b d ≡ entryOf (plan .columns) (plan .rows) (box (p .a .0) (p .c .0) b d)
   unfolding partEntry baseOf entryOf
   part-y b d = omega (arith, e)
 

@@ -64,7 +64,7 @@ fn first_hole(cells: &[u8], i: usize, b: Line, d: Line) -> usize
 }
 
 // Whether every cell of the piece is inside.
-fn all_inside(cells: &[u8], p: Piece) -> bool
+pub fn all_inside(cells: &[u8], p: Piece) -> bool
     requires { ⌜ (p .c .0 ≤ 15) × ((p .b .0 ≤ p .d .0) × ((p .d .0 ≤ 15) × (length (now cells) ≡ 256))) ⌝ }
     ensures { λ r. ⌜ AllInside (now (cells .entry)) p r ⌝ }
 {
@@ -84,7 +84,7 @@ fn all_inside(cells: &[u8], p: Piece) -> bool
 
 // The cuts of a piece in one direction, as the table has them: they lie on the lines between low and high, of the lines 0 to
 // last; the piece has its cost at entry, and the next pair of lines has its own a stride on.
-struct Cuts {
+pub struct Cuts {
     pub last: usize,
     pub low: Line,
     pub high: Line,

@@ -3,8 +3,8 @@
 --   ground, all-fit              == the store has all narrower strips; the five costs of a pinwheel fit together
 --   asks-wheels, wheel-start, asks-keep, kept-on
 --                                == what the steps of a width ask and tell in the pinwheel mode
---   asks-by, start-by, asks-keep-by, kept-by, room-at, few-room, small-room, large-room
---                                == and in either mode; the sizes of the three stores
+--   asks-by, start-by, asks-keep-by, kept-by, room-at, small-room, large-room
+--                                == and in either mode; the sizes of the two stores
 --   wheel-prices                 == the costs are prices where the vertical cuts and the pinwheels are weighed
 use Prim.Native.Nat.{ℕ, _+_, _*_, _-_, _≤_, _<_}
 use mathlib.Core.Path.{_≡_, refl, sym, _∙_, ap₂, subst}
@@ -329,12 +329,6 @@ module _ (mode : Mode) (columns rows : ℕ) (xs ys cs : List ℕ) (r : Rule) (t�
 -- the sizes of the two stores
 pub room-at : (columns rows pairs n : ℕ) → pairs ≡ pairCount rows → 16 * (columns * pairCount rows) + 16 ≤ n → 16 * (columns * pairs) + 16 ≤ n
 room-at columns rows pairs n e h = subst (λ p. 16 * (columns * p) + 16 ≤ n) (sym e) h
-
-pub few-room : (columns rows : ℕ) → columns ≤ 5 → rows ≤ 5 → 16 * (columns * pairCount rows) + 16 ≤ 1216
-few-room columns rows h k =
-    let i : rows + 1 ≤ 6 = omega arith in
-    let p : pairCount rows ≤ 15 = omega (arith, count-closed rows, mul-le-mul {n₁ = rows} {m₁ = rows + 1} {n₂ = 5} {m₂ = 6} k i) in
-    omega (arith, mul-le-mul {n₁ = columns} {m₁ = pairCount rows} {n₂ = 5} {m₂ = 15} h p)
 
 pub small-room : (columns rows : ℕ) → columns ≤ 7 → rows ≤ 7 → 16 * (columns * pairCount rows) + 16 ≤ 3152
 small-room columns rows h k =

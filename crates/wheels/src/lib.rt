@@ -28,14 +28,10 @@ ghost use Rattle.wheels.specs.Wheel.{Ground, AllFit, wheeled, WeighedBy,
 mod lanes;
 mod turning;
 
-// A grid of so many columns and rows at most has its costs in a small store, which is sooner cleared; one of even fewer in a smaller one.
+// A grid of so many columns and rows at most has its costs in a small store, which is sooner cleared.
 const SMALL: usize = 7;
 
-pub const FEW: usize = 5;
-
 // Room for the costs of all strips of such a grid, and of any, in all lanes: LANES for each width and pair of y lines, and LANES more.
-const FEW_STORE: usize = 1216;
-
 const SMALL_STORE: usize = 3152;
 
 const LARGE_STORE: usize = 28816;
@@ -128,35 +124,7 @@ fn fill_by(
     }
 }
 
-// The fill of a grid of few columns and rows. It is a call of its own, so that its caller makes no room on the stack for a large store.
-pub fn fill_few(
-    xs: &[u16],
-    ys: &[u16],
-    cells: &[u8],
-    columns: usize,
-    rows: usize,
-    rule: Rule,
-    table: &mut [u32],
-)
-    requires { ⌜ Ready (stored columns rows (now xs) (now ys) (now cells)) rule (now xs) (now ys) (now cells) (now table) ⌝ }
-    requires { ⌜ (columns ≤ 5) × (rows ≤ 5) ⌝ }
-    ensures { λ _. ⌜ now (table .exit) ≡ costs Pinwheel (stored columns rows (now (xs .entry)) (now (ys .entry)) (now (cells .entry))) rule ++ drop (length (costs Pinwheel (stored columns rows (now (xs .entry)) (now (ys .entry)) (now (cells .entry))) rule)) (now (table .entry)) ⌝ }
-{
-    let mut store = [0u32; FEW_STORE];
-    fill_by(
-        Mode::Pinwheel,
-        xs,
-        ys,
-        cells,
-        columns,
-        rows,
-        rule,
-        table,
-        &mut store,
-    );
-}
-
-// The same of a small grid.
+// The fill of a small grid.
 fn fill_small(
     xs: &[u16],
     ys: &[u16],

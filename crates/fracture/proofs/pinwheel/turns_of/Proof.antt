@@ -17,7 +17,9 @@ returns-4 : tie.Need-returns-4
 returns-4 c = tt
 
 returns-5 : tie.Need-returns-5
-returns-5 c = (omega (arith, c .before .if3 .left), omega (arith, c .if4 .left))
+returns-5 c =
+    let k = c .before .before in
+    (omega (arith, k .before .if1 .left), (omega (arith, k .if2 .left), omega (arith, c .if4 .left)))
 
 pub turns-of-spec : {M : Type 1} → statement M
 turns-of-spec =

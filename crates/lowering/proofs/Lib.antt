@@ -1,0 +1,4 @@
+pub mod Costs
+pub mod Turning
+pub mod Stub
+pub mod Steps
