@@ -1,4 +1,5 @@
+pub mod Weighed
+pub mod Wheels
 pub mod Costs
 pub mod Turning
-pub mod Stub
 pub mod Steps

@@ -1,3 +1,3 @@
 pub mod Least
+pub mod Lowered
 pub mod Lowering
-pub mod Stub
