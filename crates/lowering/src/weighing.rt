@@ -12,15 +12,7 @@ ghost use Rattle.table.specs.Entry.{pairCount, pairNo, entryCount, entryOf, Val
 ghost use Rattle.lowering.specs.Least.{LeastWheel, Weighable};
 ghost use Rattle.lowering.specs.Stub.{Spot, six, weight, Tried, Is, Fits};
 
-fn cost_of(
-    table: &[u32],
-    columns: usize,
-    rows: usize,
-    a: Line,
-    c: Line,
-    b: Line,
-    d: Line,
-) -> u32
+fn cost_of(table: &[u32], columns: usize, rows: usize, a: Line, c: Line, b: Line, d: Line) -> u32
     requires { ⌜ (columns ≤ 15) × ((rows ≤ 15) × Valid columns rows (box (a .0) (c .0) (b .0) (d .0))) ⌝ }
     requires { ⌜ entryCount columns rows ≤ length (now table) ⌝ }
     ensures { λ r. ⌜ r ≡ getD (now (table .entry)) (entryOf columns rows (box (a .0) (c .0) (b .0) (d .0))) 0 ⌝ }
@@ -77,7 +69,17 @@ fn second_of(
     p + q + r + s + t
 }
 
-fn inner(a: Line, c: Line, b: Line, d: Line, j: Line, l: Line, k: Line, m: Line, rows: usize) -> bool
+fn inner(
+    a: Line,
+    c: Line,
+    b: Line,
+    d: Line,
+    j: Line,
+    l: Line,
+    k: Line,
+    m: Line,
+    rows: usize,
+) -> bool
     ensures { λ r. ⌜ Fits (a .0) (c .0) (six (b .0) (d .0) (j .0) (l .0) (k .0) (m .0)) rows r ⌝ }
 {
     let low = a.0;

@@ -123,8 +123,8 @@ loop-again c =
     let i = n .before in
     let s = start i in
     let step : (g : Grid) (r : Rule) → Standing g r (s .args .table .now) (s .args .cells .now) (s .args .best .now) (s .args .plan) (s .args .a .0) (s .args .c .0) (s .args .b .0) (s .args .b .0 + 3)
-        → Standing g r (p .lower-piece .last .0) (s .args .cells .now) (s .args .best .now) (s .args .plan) (s .args .a .0) (s .args .c .0) (s .args .b .0) (i .before .loop .d + 1)
-        × Beyond (entryCount (s .args .plan .columns) (s .args .plan .rows)) (i .before .loop .table) (p .lower-piece .last .0)
+    → Standing g r (p .lower-piece .last .0) (s .args .cells .now) (s .args .best .now) (s .args .plan) (s .args .a .0) (s .args .c .0) (s .args .b .0) (i .before .loop .d + 1)
+    × Beyond (entryCount (s .args .plan .columns) (s .args .plan .rows)) (i .before .loop .table) (p .lower-piece .last .0)
     = λ g r w.
     piece-step g r (s .args .cells .now) (s .args .plan) (i .before .loop .table) (s .args .best .now)
     (s .args .a) (s .args .c) (s .args .b) (record { 0 = i .before .loop .d }) _ _ (p .lower-piece .last .0)
