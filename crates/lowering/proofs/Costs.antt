@@ -8,7 +8,7 @@
 --   weighable-x, weighable-y           == its cuts in each direction are the table's
 --   priced-outside, priced-full        == what costs nothing, and what is inside in all cells, costs the same by pinwheels
 --   priced-cut                         == else the least of its pinwheels, its vertical and its horizontal cuts is its cost
-use Prim.Native.Nat.{ℕ, _+_, _*_, _≤_, _<_, _^_, min}
+use Prim.Native.Nat.{ℕ, _+_, _*_, _≤_, _<_, min}
 use mathlib.Core.Path.{_≡_, refl, ap, ap₂, sym, _∙_, subst}
 use mathlib.Core.Bool.{Bool, true, false}
 use mathlib.Core.Logic.{_⊎_, inl, inr}
@@ -16,39 +16,36 @@ use mathlib.Core.List.{List}
 use native.Mathlib.Omega.{arith}
 use lib.ListN.{length, getD, set, length-set}
 use lib.Seq.{getD-set-same, getD-set-other}
-use Rattle.sum.specs.Sum.{sumOf, only, All}
+use Rattle.sum.specs.Sum.{sumOf, only}
 use Rattle.recurrence.specs.Scheme.{Kind, outside, full, mixed}
 use Rattle.outline.specs.Grid.{Grid}
 use Rattle.rule.specs.declared.Rule.{Rule}
 use Rattle.piece.specs.declared.Mode.{Mode}
 use Rattle.piece.specs.declared.Mode.the-variants.{Straight, Pinwheel}
-use Rattle.piece.specs.declared.Turn.{Turn}
 use Rattle.piece.specs.declared.Piece as stored
 use Rattle.piece.specs.Piece.{Piece, box, kind, mostCost, leftPart, rightPart, lowerPart, upperPart}
 use Rattle.piece.specs.Meant.{meant}
-use Rattle.piece.specs.Cuts.{Cut, vertical, horizontal, wheel, cuts, parts, Inner, CutOf, cost}
+use Rattle.piece.specs.Cuts.{Cut, vertical, horizontal, wheel, parts, CutOf, cost}
 use Rattle.piece.proofs.Cells as cell
 use Rattle.piece.proofs.Kind.{kind-all, full-cell}
 use Rattle.piece.proofs.Cuts.{cuts-all, cuts-at, cost-zero, cost-outside, cost-full, cost-cuts, cost-settled, across-vertical, across-horizontal}
 use Rattle.piece.proofs.Bound.{cost-most}
-use Rattle.table.specs.Entry.{pairCount, entryOf, Valid}
-use Rattle.table.specs.Cuts.{uncut}
+use Rattle.table.specs.Entry.{entryOf, Valid}
 use Rattle.table.specs.Run.{Lowest}
 use Rattle.table.proofs.Entry.{entry-below, count-most}
 use Rattle.table.proofs.Run.{lowest-more}
 use Rattle.verdict.specs.declared.Plan.{Plan}
-use Rattle.verdict.specs.declared.Numbered.{Numbered}
 use Rattle.verdict.specs.Memory.{Known}
 use Rattle.verdict.specs.Search.{Within, AllInside, across, Weighable}
 use Rattle.verdict.proofs.Judged.{cuts-x, cuts-y, part-x, part-y}
 use Rattle.demands.proofs.Few.{Few, few-cost}
-use Rattle.lowering.specs.Lowering.{Between, Begun, Raised, LeastTurn, AtPiece, Priced}
+use Rattle.lowering.specs.Lowering.{Between, Begun, Raised, LeastTurn, Priced}
 
 pub lowest-next : (f : ℕ → ℕ) (a j m best v x : ℕ) → a < j → v ≡ f j → x ≡ min best v → Lowest f a j m best → Lowest f a (j + 1) m x
 lowest-next f a j m best v x h e z l = subst (Lowest f a (j + 1) m) (sym z) (lowest-more f a j m best v h e l)
 
-pub lowest-end : (f : ℕ → ℕ) (a j c m best : ℕ) → a < c → j ≤ c → c ≤ j → Lowest f a j m best → Lowest f a c m best
-lowest-end f a j c m best h p q l = subst (λ n. Lowest f a n m best) (omega arith) l
+pub lowest-end : (f : ℕ → ℕ) (a j c m best : ℕ) → j ≤ c → c ≤ j → Lowest f a j m best → Lowest f a c m best
+lowest-end f a j c m best p q l = subst (λ n. Lowest f a n m best) (omega arith) l
 
 module _ (g : Grid) (r : Rule) (t cells : List ℕ) (plan : Plan) (s : Between g r t cells plan) where
   pub entry-in : (q : Piece) → Valid (plan .columns) (plan .rows) q → (i : ℕ) → i ≡ entryOf (plan .columns) (plan .rows) q → i < length t

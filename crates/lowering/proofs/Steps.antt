@@ -5,17 +5,15 @@
 --   piece-step, standing-last           == one piece more; all pieces that begin at a y line
 --   standing-none, standing-high, standing-down, standing-all
 --                                       == a strip: none of its pieces, those of fewer than three rows, the next y line down, all of them
---   strip-weighable, strip-turns        == its pinwheels may be weighed, and are
 --   lowering-first, lowering-down, lowering-last, lowering-all
 --                                       == the table: strips of fewer than three columns, the next x line down, all strips of a line, all of them
-use Prim.Native.Nat.{ℕ, suc, _+_, _*_, _-_, _≤_, _<_}
-use mathlib.Core.Path.{_≡_, refl, ap, ap₂, sym, _∙_, subst}
+use Prim.Native.Nat.{ℕ, _+_, _*_, _-_, _≤_, _<_}
+use mathlib.Core.Path.{_≡_, ap, ap₂, sym, _∙_, subst}
 use mathlib.Core.Logic.{_⊎_, inl, inr}
 use mathlib.Core.List.{List}
 use native.Mathlib.Omega.{arith}
 use native.Mathlib.Nat.{mul-comm, mul-le-mul}
-use lib.ListN.{length, getD}
-use Rattle.sum.specs.Sum.{sumOf}
+use lib.ListN.{getD}
 use Rattle.sum.proofs.Sum.{le-or}
 use Rattle.outline.specs.Grid.{Grid}
 use Rattle.outline.specs.declared.Line.{Line}

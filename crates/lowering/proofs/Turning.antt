@@ -2,12 +2,12 @@
 --
 --   strip-weighable   == they may be weighed
 --   strip-turns       == what is the least by the table is the least by the costs
-use Prim.Native.Nat.{ℕ, _+_, _≤_, _<_, _^_}
+use Prim.Native.Nat.{ℕ, _≤_, _<_}
 use mathlib.Core.Path.{_≡_, refl}
 use mathlib.Core.Logic.{_⊎_, inl, inr}
 use mathlib.Core.List.{List}
 use native.Mathlib.Omega.{arith}
-use lib.ListN.{length, getD}
+use lib.ListN.{getD}
 use Rattle.sum.specs.Sum.{sumOf}
 use Rattle.sum.proofs.Sum.{le-or}
 use Rattle.outline.specs.Grid.{Grid}
@@ -19,7 +19,7 @@ use Rattle.piece.specs.Piece.{Piece, box, mostCost}
 use Rattle.piece.specs.Cuts.{wheel, parts, Inner, cost}
 use Rattle.piece.proofs.Cuts.{Part, cuts-at}
 use Rattle.piece.proofs.Bound.{parts-most}
-use Rattle.table.specs.Entry.{Valid, pairNo, entryOf}
+use Rattle.table.specs.Entry.{pairNo, entryOf}
 use Rattle.table.specs.Cuts.{uncut}
 use Rattle.verdict.specs.declared.Plan.{Plan}
 use Rattle.verdict.specs.Verdict.{partNo, wheelIn}

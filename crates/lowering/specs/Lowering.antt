@@ -32,7 +32,6 @@ use Rattle.piece.specs.Meant.{meant}
 use Rattle.piece.specs.Cuts.{wheel, parts, Inner, cost}
 use Rattle.table.specs.Entry.{Valid, pairCount, pairNo, entryOf, entryCount}
 use Rattle.table.specs.Cuts.{uncut}
-use Rattle.table.specs.Fill.{Beyond}
 use Rattle.verdict.specs.declared.Plan.{Plan}
 use Rattle.verdict.specs.declared.Numbered.{Numbered}
 use Rattle.verdict.specs.Memory.{Known, Costed}

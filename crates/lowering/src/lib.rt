@@ -1,6 +1,7 @@
 // From the table of costs by straight cuts to the one by pinwheels, in place, of a grid of few rows. Strip by strip, from the last x line down
 // and from narrow to wide, each mixed piece of three rows and more is weighed anew: its cost is the least of its pinwheels and of its vertical and
-// horizontal cuts, by the table, in which all its parts have been lowered before it. Nothing else costs less by pinwheels.
+// horizontal cuts, by the table, in which all its parts have been lowered before it. What is outside or full, and what has fewer than three columns
+// or rows, costs the same by pinwheels.
 use outline::Line;
 use piece::Piece;
 use table::numbering::pair_number;
@@ -10,9 +11,7 @@ use verdict::Numbered;
 use verdict::Plan;
 use verdict::all_inside;
 use weighing::weigh;
-ghost use mathlib.Core.Path.{_≡_};
-ghost use Prim.Native.Nat.{_+_, _≤_};
-ghost use lib.ListN.{length, getD};
+ghost use Prim.Native.Nat.{_+_};
 ghost use Rattle.outline.specs.Grid.{Grid};
 ghost use Rattle.rule.specs.declared.Rule.{Rule};
 ghost use Rattle.piece.specs.declared.Mode.the-variants.{Straight, Pinwheel};

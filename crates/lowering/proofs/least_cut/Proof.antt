@@ -133,8 +133,7 @@ loop-again c =
 
 returns : tie.Need-returns Inv-loop μ-loop
 returns c =
-    let w = c .before .before .before .pre in
-    lowest-end _ _ _ _ _ _ (w .ordered) (c .before .loop .inv .2) (omega (arith, c .loop-test)) (c .before .loop .inv .1)
+    lowest-end _ _ _ _ _ _ (c .before .loop .inv .2) (omega (arith, c .loop-test)) (c .before .loop .inv .1)
 
 pub least-cut-spec : {M : Type 1} → statement M
 least-cut-spec =
