@@ -35,10 +35,10 @@ use Rattle.table.proofs.Fill.{beyond-none, beyond-trans, reached-at}
 use Rattle.shallow.specs.declared.cuts.Strip.{Strip}
 use Rattle.shallow.specs.declared.cuts.Three.{Three}
 use Rattle.shallow.specs.declared.rows.Five.{Five}
-use Rattle.shallow.specs.declared.rows.Ten.{Ten}
+use Rattle.shallow.specs.declared.rows.Four.{Four}
 use Rattle.shallow.specs.declared.sums.Sums.{Sums}
 use Rattle.shallow.specs.Sums.{Summed, Whole, Small, emptyOf, grownRow}
-use Rattle.shallow.specs.Rows.{Placed, OneRow, TwoRows, TopTwo, ThreeRows, LowThree, FourRows, FiveRows, TopFour, LowFive, up2, up3, up4, threeAt, tenAt}
+use Rattle.shallow.specs.Rows.{Placed, OneRow, TwoRows, TopTwo, ThreeRows, LowThree, FourRows, LowFour, FifthRow, LowFive, up2, up3, up4, threeAt, tenAt}
 use Rattle.shallow.proofs.Parting.{low-entry, low-first}
 use Rattle.shallow.proofs.Settling.{sixAt, fifteenAt, low-pair}
 use Rattle.shallow.proofs.Summing.{summed-small, summed-none, whole-grown}
@@ -300,72 +300,72 @@ module _ (g : Grid) (r : Rule) (a c : ℕ) where
   three-right x y w v (suc (suc zero)) (suc (suc (suc (suc d)))) h k = absurd (omega arith)
   three-right x y w v (suc (suc (suc b))) d h k = absurd (omega arith)
 
-  pub four-right : (x : Ten) → TopFour g r a c 0 x → (b d : ℕ) → b < d → d ≤ 4 → tenAt x (pairNo 4 b d) ≡ cost Straight g r (box a c b d)
+  pub four-right : (x : Four) (y z : Three) → LowFour g r a c 0 x → LowThree g r a c 1 y → TopTwo g r a c 2 z → (b d : ℕ) → b < d → d ≤ 4 → tenAt x y z (pairNo 4 b d) ≡ cost Straight g r (box a c b d)
   unfolding tenAt pairNo pairsBelow
-  four-right x w zero zero h k = absurd (omega arith)
-  four-right x w zero (suc zero) h k = w .lowest-are .first-is
-  four-right x w zero (suc (suc zero)) h k = w .lowest-are .second-is
-  four-right x w zero (suc (suc (suc zero))) h k = w .lowest-are .third-is
-  four-right x w zero (suc (suc (suc (suc zero)))) h k = w .whole-is
-  four-right x w zero (suc (suc (suc (suc (suc d))))) h k = absurd (omega arith)
-  four-right x w (suc zero) zero h k = absurd (omega arith)
-  four-right x w (suc zero) (suc zero) h k = absurd (omega arith)
-  four-right x w (suc zero) (suc (suc zero)) h k = w .second-are .first-is
-  four-right x w (suc zero) (suc (suc (suc zero))) h k = w .second-are .second-is
-  four-right x w (suc zero) (suc (suc (suc (suc zero)))) h k = w .second-are .third-is
-  four-right x w (suc zero) (suc (suc (suc (suc (suc d))))) h k = absurd (omega arith)
-  four-right x w (suc (suc zero)) zero h k = absurd (omega arith)
-  four-right x w (suc (suc zero)) (suc zero) h k = absurd (omega arith)
-  four-right x w (suc (suc zero)) (suc (suc zero)) h k = absurd (omega arith)
-  four-right x w (suc (suc zero)) (suc (suc (suc zero))) h k = w .top-are .first-is
-  four-right x w (suc (suc zero)) (suc (suc (suc (suc zero)))) h k = w .top-are .second-is
-  four-right x w (suc (suc zero)) (suc (suc (suc (suc (suc d))))) h k = absurd (omega arith)
-  four-right x w (suc (suc (suc zero))) zero h k = absurd (omega arith)
-  four-right x w (suc (suc (suc zero))) (suc zero) h k = absurd (omega arith)
-  four-right x w (suc (suc (suc zero))) (suc (suc zero)) h k = absurd (omega arith)
-  four-right x w (suc (suc (suc zero))) (suc (suc (suc zero))) h k = absurd (omega arith)
-  four-right x w (suc (suc (suc zero))) (suc (suc (suc (suc zero)))) h k = w .top-are .third-is
-  four-right x w (suc (suc (suc zero))) (suc (suc (suc (suc (suc d))))) h k = absurd (omega arith)
-  four-right x w (suc (suc (suc (suc b)))) d h k = absurd (omega arith)
+  four-right x y z w v u zero zero h k = absurd (omega arith)
+  four-right x y z w v u zero (suc zero) h k = w .three-are .first-is
+  four-right x y z w v u zero (suc (suc zero)) h k = w .three-are .second-is
+  four-right x y z w v u zero (suc (suc (suc zero))) h k = w .three-are .third-is
+  four-right x y z w v u zero (suc (suc (suc (suc zero)))) h k = w .whole-is
+  four-right x y z w v u zero (suc (suc (suc (suc (suc d))))) h k = absurd (omega arith)
+  four-right x y z w v u (suc zero) zero h k = absurd (omega arith)
+  four-right x y z w v u (suc zero) (suc zero) h k = absurd (omega arith)
+  four-right x y z w v u (suc zero) (suc (suc zero)) h k = v .first-is
+  four-right x y z w v u (suc zero) (suc (suc (suc zero))) h k = v .second-is
+  four-right x y z w v u (suc zero) (suc (suc (suc (suc zero)))) h k = v .third-is
+  four-right x y z w v u (suc zero) (suc (suc (suc (suc (suc d))))) h k = absurd (omega arith)
+  four-right x y z w v u (suc (suc zero)) zero h k = absurd (omega arith)
+  four-right x y z w v u (suc (suc zero)) (suc zero) h k = absurd (omega arith)
+  four-right x y z w v u (suc (suc zero)) (suc (suc zero)) h k = absurd (omega arith)
+  four-right x y z w v u (suc (suc zero)) (suc (suc (suc zero))) h k = u .first-is
+  four-right x y z w v u (suc (suc zero)) (suc (suc (suc (suc zero)))) h k = u .second-is
+  four-right x y z w v u (suc (suc zero)) (suc (suc (suc (suc (suc d))))) h k = absurd (omega arith)
+  four-right x y z w v u (suc (suc (suc zero))) zero h k = absurd (omega arith)
+  four-right x y z w v u (suc (suc (suc zero))) (suc zero) h k = absurd (omega arith)
+  four-right x y z w v u (suc (suc (suc zero))) (suc (suc zero)) h k = absurd (omega arith)
+  four-right x y z w v u (suc (suc (suc zero))) (suc (suc (suc zero))) h k = absurd (omega arith)
+  four-right x y z w v u (suc (suc (suc zero))) (suc (suc (suc (suc zero)))) h k = u .third-is
+  four-right x y z w v u (suc (suc (suc zero))) (suc (suc (suc (suc (suc d))))) h k = absurd (omega arith)
+  four-right x y z w v u (suc (suc (suc (suc b)))) d h k = absurd (omega arith)
 
-  pub five-right : (x : Five) (y : Ten) → LowFive g r a c x → TopFour g r a c 1 y → (b d : ℕ) → b < d → d ≤ 5 → fifteenAt x y (pairNo 5 b d) ≡ cost Straight g r (box a c b d)
+  pub five-right : (n : Five) (x : Four) (y z : Three) → LowFive g r a c n → LowFour g r a c 1 x → LowThree g r a c 2 y → TopTwo g r a c 3 z → (b d : ℕ) → b < d → d ≤ 5 → fifteenAt n x y z (pairNo 5 b d) ≡ cost Straight g r (box a c b d)
   unfolding fifteenAt pairNo pairsBelow
-  five-right x y w v zero zero h k = absurd (omega arith)
-  five-right x y w v zero (suc zero) h k = w .three-are .first-is
-  five-right x y w v zero (suc (suc zero)) h k = w .three-are .second-is
-  five-right x y w v zero (suc (suc (suc zero))) h k = w .three-are .third-is
-  five-right x y w v zero (suc (suc (suc (suc zero)))) h k = w .fourth-is
-  five-right x y w v zero (suc (suc (suc (suc (suc zero))))) h k = w .whole-is
-  five-right x y w v zero (suc (suc (suc (suc (suc (suc d)))))) h k = absurd (omega arith)
-  five-right x y w v (suc zero) zero h k = absurd (omega arith)
-  five-right x y w v (suc zero) (suc zero) h k = absurd (omega arith)
-  five-right x y w v (suc zero) (suc (suc zero)) h k = v .lowest-are .first-is
-  five-right x y w v (suc zero) (suc (suc (suc zero))) h k = v .lowest-are .second-is
-  five-right x y w v (suc zero) (suc (suc (suc (suc zero)))) h k = v .lowest-are .third-is
-  five-right x y w v (suc zero) (suc (suc (suc (suc (suc zero))))) h k = v .whole-is
-  five-right x y w v (suc zero) (suc (suc (suc (suc (suc (suc d)))))) h k = absurd (omega arith)
-  five-right x y w v (suc (suc zero)) zero h k = absurd (omega arith)
-  five-right x y w v (suc (suc zero)) (suc zero) h k = absurd (omega arith)
-  five-right x y w v (suc (suc zero)) (suc (suc zero)) h k = absurd (omega arith)
-  five-right x y w v (suc (suc zero)) (suc (suc (suc zero))) h k = v .second-are .first-is
-  five-right x y w v (suc (suc zero)) (suc (suc (suc (suc zero)))) h k = v .second-are .second-is
-  five-right x y w v (suc (suc zero)) (suc (suc (suc (suc (suc zero))))) h k = v .second-are .third-is
-  five-right x y w v (suc (suc zero)) (suc (suc (suc (suc (suc (suc d)))))) h k = absurd (omega arith)
-  five-right x y w v (suc (suc (suc zero))) zero h k = absurd (omega arith)
-  five-right x y w v (suc (suc (suc zero))) (suc zero) h k = absurd (omega arith)
-  five-right x y w v (suc (suc (suc zero))) (suc (suc zero)) h k = absurd (omega arith)
-  five-right x y w v (suc (suc (suc zero))) (suc (suc (suc zero))) h k = absurd (omega arith)
-  five-right x y w v (suc (suc (suc zero))) (suc (suc (suc (suc zero)))) h k = v .top-are .first-is
-  five-right x y w v (suc (suc (suc zero))) (suc (suc (suc (suc (suc zero))))) h k = v .top-are .second-is
-  five-right x y w v (suc (suc (suc zero))) (suc (suc (suc (suc (suc (suc d)))))) h k = absurd (omega arith)
-  five-right x y w v (suc (suc (suc (suc zero)))) zero h k = absurd (omega arith)
-  five-right x y w v (suc (suc (suc (suc zero)))) (suc zero) h k = absurd (omega arith)
-  five-right x y w v (suc (suc (suc (suc zero)))) (suc (suc zero)) h k = absurd (omega arith)
-  five-right x y w v (suc (suc (suc (suc zero)))) (suc (suc (suc zero))) h k = absurd (omega arith)
-  five-right x y w v (suc (suc (suc (suc zero)))) (suc (suc (suc (suc zero)))) h k = absurd (omega arith)
-  five-right x y w v (suc (suc (suc (suc zero)))) (suc (suc (suc (suc (suc zero))))) h k = v .top-are .third-is
-  five-right x y w v (suc (suc (suc (suc zero)))) (suc (suc (suc (suc (suc (suc d)))))) h k = absurd (omega arith)
-  five-right x y w v (suc (suc (suc (suc (suc b))))) d h k = absurd (omega arith)
+  five-right n x y z o w v u zero zero h k = absurd (omega arith)
+  five-right n x y z o w v u zero (suc zero) h k = o .four-are .three-are .first-is
+  five-right n x y z o w v u zero (suc (suc zero)) h k = o .four-are .three-are .second-is
+  five-right n x y z o w v u zero (suc (suc (suc zero))) h k = o .four-are .three-are .third-is
+  five-right n x y z o w v u zero (suc (suc (suc (suc zero)))) h k = o .four-are .whole-is
+  five-right n x y z o w v u zero (suc (suc (suc (suc (suc zero))))) h k = o .whole-is
+  five-right n x y z o w v u zero (suc (suc (suc (suc (suc (suc d)))))) h k = absurd (omega arith)
+  five-right n x y z o w v u (suc zero) zero h k = absurd (omega arith)
+  five-right n x y z o w v u (suc zero) (suc zero) h k = absurd (omega arith)
+  five-right n x y z o w v u (suc zero) (suc (suc zero)) h k = w .three-are .first-is
+  five-right n x y z o w v u (suc zero) (suc (suc (suc zero))) h k = w .three-are .second-is
+  five-right n x y z o w v u (suc zero) (suc (suc (suc (suc zero)))) h k = w .three-are .third-is
+  five-right n x y z o w v u (suc zero) (suc (suc (suc (suc (suc zero))))) h k = w .whole-is
+  five-right n x y z o w v u (suc zero) (suc (suc (suc (suc (suc (suc d)))))) h k = absurd (omega arith)
+  five-right n x y z o w v u (suc (suc zero)) zero h k = absurd (omega arith)
+  five-right n x y z o w v u (suc (suc zero)) (suc zero) h k = absurd (omega arith)
+  five-right n x y z o w v u (suc (suc zero)) (suc (suc zero)) h k = absurd (omega arith)
+  five-right n x y z o w v u (suc (suc zero)) (suc (suc (suc zero))) h k = v .first-is
+  five-right n x y z o w v u (suc (suc zero)) (suc (suc (suc (suc zero)))) h k = v .second-is
+  five-right n x y z o w v u (suc (suc zero)) (suc (suc (suc (suc (suc zero))))) h k = v .third-is
+  five-right n x y z o w v u (suc (suc zero)) (suc (suc (suc (suc (suc (suc d)))))) h k = absurd (omega arith)
+  five-right n x y z o w v u (suc (suc (suc zero))) zero h k = absurd (omega arith)
+  five-right n x y z o w v u (suc (suc (suc zero))) (suc zero) h k = absurd (omega arith)
+  five-right n x y z o w v u (suc (suc (suc zero))) (suc (suc zero)) h k = absurd (omega arith)
+  five-right n x y z o w v u (suc (suc (suc zero))) (suc (suc (suc zero))) h k = absurd (omega arith)
+  five-right n x y z o w v u (suc (suc (suc zero))) (suc (suc (suc (suc zero)))) h k = u .first-is
+  five-right n x y z o w v u (suc (suc (suc zero))) (suc (suc (suc (suc (suc zero))))) h k = u .second-is
+  five-right n x y z o w v u (suc (suc (suc zero))) (suc (suc (suc (suc (suc (suc d)))))) h k = absurd (omega arith)
+  five-right n x y z o w v u (suc (suc (suc (suc zero)))) zero h k = absurd (omega arith)
+  five-right n x y z o w v u (suc (suc (suc (suc zero)))) (suc zero) h k = absurd (omega arith)
+  five-right n x y z o w v u (suc (suc (suc (suc zero)))) (suc (suc zero)) h k = absurd (omega arith)
+  five-right n x y z o w v u (suc (suc (suc (suc zero)))) (suc (suc (suc zero))) h k = absurd (omega arith)
+  five-right n x y z o w v u (suc (suc (suc (suc zero)))) (suc (suc (suc (suc zero)))) h k = absurd (omega arith)
+  five-right n x y z o w v u (suc (suc (suc (suc zero)))) (suc (suc (suc (suc (suc zero))))) h k = u .third-is
+  five-right n x y z o w v u (suc (suc (suc (suc zero)))) (suc (suc (suc (suc (suc (suc d)))))) h k = absurd (omega arith)
+  five-right n x y z o w v u (suc (suc (suc (suc (suc b))))) d h k = absurd (omega arith)
 
 -- a strip in its turn, and the rows of which have grown by its last column
 pub record Turn (columns rows : ℕ) (xs ys cs : List ℕ) (r : Rule) (t u : List ℕ) (strip : Strip) (at step : ℕ) : Type 0 where
@@ -454,19 +454,23 @@ module _ (columns : ℕ) (xs ys cs : List ℕ) (r : Rule) (t u : List ℕ) (stri
             };
       }
 
-  pub turn-five : Turn columns 5 xs ys cs r t u strip at step → (lowest new second third fourth highest : Sums) (above : Ten)
+  pub turn-five : Turn columns 5 xs ys cs r t u strip at step → (lowest new second third fourth highest : Sums) (middle : Four) (upper top : Three)
       → Summed (stored columns 5 xs ys cs) (strip .a .0) (strip .c .0 - 1) 0 1 lowest → new ≡ grownRow cs r strip step 0 lowest
       → FourRows (stored columns 5 xs ys cs) r strip 1 second third fourth highest u
-      → TopFour (stored columns 5 xs ys cs) r (strip .a .0) (strip .c .0) 1 above
-      → FiveRows (stored columns 5 xs ys cs) r strip new second third fourth highest above u
+      → LowFour (stored columns 5 xs ys cs) r (strip .a .0) (strip .c .0) 1 middle
+      → LowThree (stored columns 5 xs ys cs) r (strip .a .0) (strip .c .0) 2 upper
+      → TopTwo (stored columns 5 xs ys cs) r (strip .a .0) (strip .c .0) 3 top
+      → FifthRow (stored columns 5 xs ys cs) r strip new second third fourth highest middle upper top u
   unfolding stored
-  turn-five k lowest new second third fourth highest above w e four costs =
+  turn-five k lowest new second third fourth highest middle upper top w e four x y z =
       record {
         placed = four .placed;
         rows-are = refl;
         lowest-sums = grown columns 5 xs ys cs r t u strip at step k 0 lowest new (omega arith) w e;
         upper-sums = four .sums;
-        above-costs = costs;
+        middle-costs = x;
+        upper-costs = y;
+        top-costs = z;
       }
 
 -- the count of rows, as it was found

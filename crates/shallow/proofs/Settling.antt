@@ -8,10 +8,12 @@
 --                          == the horizontal cuts of a piece, and the least of them so far
 --   piece-cost, row-cost   == the cost of a piece, and of one of one row
 --   pairs-*                == how many pieces a strip has
---   low-pair, next-pairs, next-room, high-pairs
+--   low-pair, next-pairs, next-room, fourth-pair, fifth-pair
 --                          == where the pieces that begin at one line stand
 --   top-pairs, four-pairs  == where the pieces of the two and of the four highest rows stand
---   sixAt, fifteenAt, one-wrote, three-wrote, threes-*, six-wrote, five-wrote, ten-wrote, fifteen-wrote
+--   four-top, four-upper, four-lowest
+--                          == what is known of them
+--   sixAt, fifteenAt, one-wrote, three-wrote, threes-*, six-wrote, four-wrote, five-wrote, ten-wrote, fifteen-wrote
 --                          == what the stores of a strip write
 use Prim.Native.Nat.{ℕ, zero, suc, _+_, _*_, _-_, _≤_, _<_, _^_, min}
 use mathlib.Core.Path.{_≡_, refl, sym, _∙_, ap, ap₂, subst}
@@ -37,11 +39,11 @@ use Rattle.table.proofs.Judging.{judged-piece}
 use Rattle.shallow.specs.declared.cuts.Strip.{Strip}
 use Rattle.shallow.specs.declared.cuts.Three.{Three}
 use Rattle.shallow.specs.declared.rows.Five.{Five}
-use Rattle.shallow.specs.declared.rows.Ten.{Ten}
+use Rattle.shallow.specs.declared.rows.Four.{Four}
 use Rattle.shallow.specs.declared.sums.Sums.{Sums}
 use Rattle.shallow.specs.Sums.{Whole, Small, shotOf}
 use Rattle.shallow.specs.Cuts.{Cuttable}
-use Rattle.shallow.specs.Rows.{Placed, LowThree, HighThree, Addable, leastOf, up2, up3, up4, threeAt, fiveAt, tenAt}
+use Rattle.shallow.specs.Rows.{Placed, TwoRows, TopTwo, ThreeRows, LowThree, HighThree, FourRows, FourthRow, Addable, leastOf, up2, up3, up4, threeAt, fourAt, fiveAt, tenAt}
 use Rattle.shallow.proofs.Summing.{whole-small, whole-shot}
 
 -- what the two parts of the piece between the y lines b and d cost together, cut at the line j
@@ -208,10 +210,13 @@ next-pairs rows b i e = omega arith
 pub next-room : (rows b i : ℕ) → up3 b ≤ rows → i ≡ pairNo rows b (suc b) → i + 3 ≤ pairCount rows
 next-room rows b i h e = omega (arith, next-pairs rows b i e .1, pair-below rows b (up3 b) (omega arith) h)
 
--- where those of four and of five rows that begin at the lowest line stand
-pub high-pairs : (rows : ℕ) → (3 ≡ pairNo rows 0 4) × (4 ≡ pairNo rows 0 5)
+pub fourth-pair : (rows b i : ℕ) → i ≡ pairNo rows b (suc b) → i + 3 ≡ pairNo rows b (up4 b)
 unfolding pairNo
-high-pairs rows = omega (arith, below-zero rows)
+fourth-pair rows b i e = omega arith
+
+pub fifth-pair : (rows : ℕ) → 4 ≡ pairNo rows 0 5
+unfolding pairNo
+fifth-pair rows = omega (arith, below-zero rows)
 
 -- where the pieces of the two highest rows stand
 pub top-pairs : (rows b : ℕ) → rows ≡ up2 b
@@ -221,10 +226,39 @@ top-pairs rows b e = omega (arith, ap (pairsBelow rows) e, below-suc rows b, bel
 
 -- and of the four highest
 pub four-pairs : (rows b : ℕ) → rows ≡ up4 b
-    → (pairCount rows ≡ 10 + pairNo rows b (suc b)) × ((pairCount rows ≡ 7 + pairNo rows b (up4 b)) × (pairCount rows ≡ 6 + pairNo rows (suc b) (up2 b)))
+    → (pairCount rows ≡ 10 + pairNo rows b (suc b)) × (pairCount rows ≡ 6 + pairNo rows (suc b) (up2 b))
 unfolding pairCount pairNo
 four-pairs rows b e =
     omega (arith, ap (pairsBelow rows) e, below-suc rows b, below-suc rows (suc b), below-suc rows (up2 b), below-suc rows (up3 b))
+
+-- the four highest rows: the two highest of them, with the second, and all
+module _ (g : Grid) (r : Rule) (s : Strip) (b : ℕ) (lowest second third highest : Sums) (t : List ℕ) (w : FourRows g r s b lowest second third highest t) where
+  pub four-top : TwoRows g r s (up2 b) third highest t
+  four-top = record { placed = w .placed; rows-are = w .rows-are; low-sums = w .sums .third-sums; high-sums = w .sums .highest-sums }
+
+  pub four-upper : (i : ℕ) (top : Three) → i + 6 ≡ s .pairs → TopTwo g r (s .a .0) (s .c .0) (up2 b) top → ThreeRows g r s (suc b) i second third highest top t
+  four-upper i top e x =
+      record {
+        placed = w .placed;
+        within = w .sums .within;
+        entry-is = omega (arith, w .placed .pairs-are, four-pairs (g .rows) b (w .rows-are));
+        low-sums = w .sums .second-sums;
+        middle-sums = w .sums .third-sums;
+        high-sums = w .sums .highest-sums;
+        above-costs = x;
+      }
+
+  pub four-lowest : (i : ℕ) (upper top : Three) → i + 10 ≡ s .pairs → LowThree g r (s .a .0) (s .c .0) (suc b) upper
+      → TopTwo g r (s .a .0) (s .c .0) (up2 b) top
+      → FourthRow g r s b i lowest second third highest upper top t
+  four-lowest i upper top e x y =
+      record {
+        placed = w .placed;
+        entry-is = omega (arith, w .placed .pairs-are, four-pairs (g .rows) b (w .rows-are));
+        sums = w .sums;
+        upper-costs = x;
+        top-costs = y;
+      }
 
 -- what the stores of a strip write
 pub one-wrote : (t : List ℕ) (at x : ℕ) → at < length t → Wrote (λ i. x) at 1 t (set t at x)
@@ -295,61 +329,75 @@ unfolding sixAt
 six-wrote t v u at x y w o =
     threes-more (sixAt x y) at 3 t v u y (threes-first (sixAt x y) at t v x w refl refl refl) o refl refl refl
 
--- the five of the lowest row of five
-pub five-wrote : (t v : List ℕ) (at : ℕ) (x : Five) → at + 5 ≤ length t → Wrote (threeAt (x .three)) at 3 t v
-    → Wrote (fiveAt x) at 5 t (set (set v (at + 3) (x .fourth)) (at + 4) (x .whole))
+-- the four and the five that begin at one line
+pub four-wrote : (t v : List ℕ) (at : ℕ) (x : Four) → at + 4 ≤ length t → Wrote (threeAt (x .three)) at 3 t v → Wrote (fourAt x) at 4 t (set v (at + 3) (x .whole))
+unfolding fourAt
+four-wrote t v at x h l =
+    wrote-more (fourAt x) at 3 t v (x .whole) (omega (arith, l .long)) refl (threes-first (fourAt x) at t v (x .three) l refl refl refl)
+
+four-same : (x : Four) (h : ℕ → ℕ) → x .three .first ≡ h 0 → x .three .second ≡ h 1 → x .three .third ≡ h 2 → x .whole ≡ h 3 → (i : ℕ) → i < 4 → fourAt x i ≡ h i
+unfolding fourAt
+four-same x h p q r s zero l = p
+four-same x h p q r s (suc zero) l = q
+four-same x h p q r s (suc (suc zero)) l = r
+four-same x h p q r s (suc (suc (suc zero))) l = s
+four-same x h p q r s (suc (suc (suc (suc i)))) l = absurd (omega arith)
+
+fours-first : (h : ℕ → ℕ) (at : ℕ) (t u : List ℕ) (x : Four) → Wrote (fourAt x) at 4 t u
+    → x .three .first ≡ h 0 → x .three .second ≡ h 1 → x .three .third ≡ h 2 → x .whole ≡ h 3
+    → Wrote h at 4 t u
+fours-first h at t u x w p q r s = record { long = w .long; made = λ i l. w .made i l ∙ four-same x h p q r s i l; kept = w .kept }
+
+pub five-wrote : (t v : List ℕ) (at : ℕ) (x : Five) → at + 5 ≤ length t → Wrote (fourAt (x .four)) at 4 t v → Wrote (fiveAt x) at 5 t (set v (at + 4) (x .whole))
 unfolding fiveAt
 five-wrote t v at x h l =
-    let three = threes-first (fiveAt x) at t v (x .three) l refl refl refl in
-    let four = wrote-more (fiveAt x) at 3 t v (x .fourth) (omega (arith, l .long)) refl three in
-    wrote-more (fiveAt x) at 4 t (set v (at + 3) (x .fourth)) (x .whole) (omega (arith, four .long)) refl four
+    wrote-more (fiveAt x) at 4 t v (x .whole) (omega (arith, l .long)) refl (fours-first (fiveAt x) at t v (x .four) l refl refl refl refl)
 
 -- the ten of four rows
-pub ten-wrote : (t v w u : List ℕ) (at : ℕ) (x : Ten) → at + 10 ≤ length t → Wrote (threeAt (x .lowest)) at 3 t v
-    → Wrote (threeAt (x .second)) (at + 4) 3 (set v (at + 3) (x .whole)) w → Wrote (threeAt (x .top)) (at + 7) 3 w u
-    → Wrote (tenAt x) at 10 t u
+pub ten-wrote : (t v w u : List ℕ) (at : ℕ) (x : Four) (y z : Three) → Wrote (fourAt x) at 4 t v → Wrote (threeAt y) (at + 4) 3 v w → Wrote (threeAt z) (at + 7) 3 w u
+    → Wrote (tenAt x y z) at 10 t u
 unfolding tenAt
-ten-wrote t v w u at x h l m n =
-    let three = threes-first (tenAt x) at t v (x .lowest) l refl refl refl in
-    let four = wrote-more (tenAt x) at 3 t v (x .whole) (omega (arith, l .long)) refl three in
-    let seven = threes-more (tenAt x) at 4 t (set v (at + 3) (x .whole)) w (x .second) four m refl refl refl in
-    threes-more (tenAt x) at 7 t w u (x .top) seven n refl refl refl
+ten-wrote t v w u at x y z l m n =
+    let seven = threes-more (tenAt x y z) at 4 t v w y (fours-first (tenAt x y z) at t v x l refl refl refl refl) m refl refl refl in
+    threes-more (tenAt x y z) at 7 t w u z seven n refl refl refl
 
 -- the i-th of five and ten numbers
-unfoldable pub fifteenAt : Five → Ten → ℕ → ℕ
-fifteenAt x y i =
+unfoldable pub fifteenAt : Five → Four → Three → Three → ℕ → ℕ
+fifteenAt x y z w i =
     getD
-    (x .three .first
-    ∷ x .three .second
-    ∷ x .three .third
-    ∷ x .fourth
+    (x .four .three .first
+    ∷ x .four .three .second
+    ∷ x .four .three .third
+    ∷ x .four .whole
     ∷ x .whole
-    ∷ y .lowest .first
-    ∷ y .lowest .second
-    ∷ y .lowest .third
+    ∷ y .three .first
+    ∷ y .three .second
+    ∷ y .three .third
     ∷ y .whole
-    ∷ y .second .first
-    ∷ y .second .second
-    ∷ y .second .third
-    ∷ y .top .first
-    ∷ y .top .second
-    ∷ y .top .third
+    ∷ z .first
+    ∷ z .second
+    ∷ z .third
+    ∷ w .first
+    ∷ w .second
+    ∷ w .third
     ∷ [])
     i
     0
 
-fifteen-low : (x : Five) (y : Ten) (i : ℕ) → i < 5 → fiveAt x i ≡ fifteenAt x y i
+fifteen-low : (x : Five) (y : Four) (z w : Three) (i : ℕ) → i < 5 → fiveAt x i ≡ fifteenAt x y z w i
 unfolding fiveAt fifteenAt
-fifteen-low x y zero h = refl
-fifteen-low x y (suc zero) h = refl
-fifteen-low x y (suc (suc zero)) h = refl
-fifteen-low x y (suc (suc (suc zero))) h = refl
-fifteen-low x y (suc (suc (suc (suc zero)))) h = refl
-fifteen-low x y (suc (suc (suc (suc (suc i))))) h = absurd (omega arith)
+fifteen-low x y z w zero h = refl
+fifteen-low x y z w (suc zero) h = refl
+fifteen-low x y z w (suc (suc zero)) h = refl
+fifteen-low x y z w (suc (suc (suc zero))) h = refl
+fifteen-low x y z w (suc (suc (suc (suc zero)))) h = refl
+fifteen-low x y z w (suc (suc (suc (suc (suc i))))) h = absurd (omega arith)
 
-fifteen-high : (x : Five) (y : Ten) (i : ℕ) → i < 10 → tenAt y i ≡ fifteenAt x y (5 + i)
+fifteen-high : (x : Five) (y : Four) (z w : Three) (i : ℕ) → i < 10 → tenAt y z w i ≡ fifteenAt x y z w (5 + i)
 unfolding tenAt fifteenAt
-fifteen-high x y i h = (let z : suc (up4 i) ≡ 5 + i = omega arith in ap (fifteenAt x y) z)
+fifteen-high x y z w i h = (let e : suc (up4 i) ≡ 5 + i = omega arith in ap (fifteenAt x y z w) e)
 
-pub fifteen-wrote : (t v u : List ℕ) (at : ℕ) (x : Five) (y : Ten) → Wrote (fiveAt x) at 5 t v → Wrote (tenAt y) (at + 5) 10 v u → Wrote (fifteenAt x y) at 15 t u
-fifteen-wrote t v u at x y w o = wrote-both (fiveAt x) (tenAt y) (fifteenAt x y) at 5 10 t v u w o (fifteen-low x y) (fifteen-high x y)
+pub fifteen-wrote : (t v u : List ℕ) (at : ℕ) (x : Five) (y : Four) (z w : Three) → Wrote (fiveAt x) at 5 t v → Wrote (tenAt y z w) (at + 5) 10 v u
+    → Wrote (fifteenAt x y z w) at 15 t u
+fifteen-wrote t v u at x y z w m n =
+    wrote-both (fiveAt x) (tenAt y z w) (fifteenAt x y z w) at 5 10 t v u m n (fifteen-low x y z w) (fifteen-high x y z w)

@@ -22,12 +22,16 @@
 --                           == the four rows from the y line b on have these sums
 --   FourRows g r s b lowest second third highest t
 --                           == the same of the four highest rows of the strip
---   TopFour g r a c b x     == x has the costs of the ten pieces of the four rows from the y line b on
---   FiveRows g r s lowest second third fourth highest above t
---                           == the strip has five rows with these sums, and `above` the costs of the pieces of the four highest
+--   FourthRow g r s b i lowest second third highest upper top t
+--                           == the same of four rows of the strip, and `upper` has the costs of the pieces that begin at the line above b,
+--                              `top` those of the pieces of the two highest; the pieces that begin at b stand from the i-th of the strip on
+--   LowFour g r a c b x     == x has the costs of the pieces of one to four rows that begin at the y line b
+--   FifthRow g r s lowest second third fourth highest middle upper top t
+--                           == the strip has five rows with these sums; `middle`, `upper` and `top` have the costs of the pieces that begin
+--                              at the second line, at the third, and of the two highest rows
 --   LowFive g r a c x       == x has the costs of the five pieces that begin at the lowest line
---   threeAt x i, fiveAt x i, tenAt x i
---                           == the i-th of three, of five and of ten numbers
+--   threeAt x i, fourAt x i, fiveAt x i, tenAt x y z i
+--                           == the i-th of three, four and five numbers, and of four and three and three
 use Prim.Native.Nat.{ℕ, suc, _+_, _*_, _≤_, _<_, _^_, min}
 use mathlib.Core.Path.{_≡_}
 use mathlib.Core.List.{List, [], _∷_}
@@ -43,7 +47,7 @@ use Rattle.table.specs.Fill.{Reached}
 use Rattle.shallow.specs.declared.cuts.Strip.{Strip}
 use Rattle.shallow.specs.declared.cuts.Three.{Three}
 use Rattle.shallow.specs.declared.rows.Five.{Five}
-use Rattle.shallow.specs.declared.rows.Ten.{Ten}
+use Rattle.shallow.specs.declared.rows.Four.{Four}
 use Rattle.shallow.specs.declared.sums.Sums.{Sums}
 use Rattle.shallow.specs.Sums.{Whole}
 
@@ -148,43 +152,52 @@ pub record FourRows (g : Grid) (r : Rule) (s : Strip) (b : ℕ) (lowest second t
   pub rows-are : g .rows ≡ up4 b
   pub sums : FourSums g r (s .a .0) (s .c .0) b lowest second third highest
 
-pub record TopFour (g : Grid) (r : Rule) (a c b : ℕ) (x : Ten) : Type 0 where
-  pub lowest-are : LowThree g r a c b (x .lowest)
-  pub whole-is : x .whole ≡ cost Straight g r (box a c b (up4 b))
-  pub second-are : LowThree g r a c (suc b) (x .second)
-  pub top-are : TopTwo g r a c (up2 b) (x .top)
+pub record FourthRow (g : Grid) (r : Rule) (s : Strip) (b i : ℕ) (lowest second third highest : Sums) (upper top : Three) (t : List ℕ) : Type 0 where
+  pub placed : Placed g r s t
+  pub entry-is : i ≡ pairNo (g .rows) b (suc b)
+  pub sums : FourSums g r (s .a .0) (s .c .0) b lowest second third highest
+  pub upper-costs : LowThree g r (s .a .0) (s .c .0) (suc b) upper
+  pub top-costs : TopTwo g r (s .a .0) (s .c .0) (up2 b) top
 
-pub record FiveRows (g : Grid) (r : Rule) (s : Strip) (lowest second third fourth highest : Sums) (above : Ten) (t : List ℕ) : Type 0 where
+pub record LowFour (g : Grid) (r : Rule) (a c b : ℕ) (x : Four) : Type 0 where
+  pub three-are : LowThree g r a c b (x .three)
+  pub whole-is : x .whole ≡ cost Straight g r (box a c b (up4 b))
+
+pub record FifthRow (g : Grid) (r : Rule) (s : Strip) (lowest second third fourth highest : Sums) (middle : Four) (upper top : Three) (t : List ℕ) : Type 0 where
   pub placed : Placed g r s t
   pub rows-are : g .rows ≡ 5
   pub lowest-sums : Whole g r (s .a .0) (s .c .0) 0 1 lowest
   pub upper-sums : FourSums g r (s .a .0) (s .c .0) 1 second third fourth highest
-  pub above-costs : TopFour g r (s .a .0) (s .c .0) 1 above
+  pub middle-costs : LowFour g r (s .a .0) (s .c .0) 1 middle
+  pub upper-costs : LowThree g r (s .a .0) (s .c .0) 2 upper
+  pub top-costs : TopTwo g r (s .a .0) (s .c .0) 3 top
 
 pub record LowFive (g : Grid) (r : Rule) (a c : ℕ) (x : Five) : Type 0 where
-  pub three-are : LowThree g r a c 0 (x .three)
-  pub fourth-is : x .fourth ≡ cost Straight g r (box a c 0 4)
+  pub four-are : LowFour g r a c 0 (x .four)
   pub whole-is : x .whole ≡ cost Straight g r (box a c 0 5)
 
 unfoldable pub threeAt : Three → ℕ → ℕ
 threeAt x i = getD (x .first ∷ x .second ∷ x .third ∷ []) i 0
 
-unfoldable pub fiveAt : Five → ℕ → ℕ
-fiveAt x i = getD (x .three .first ∷ x .three .second ∷ x .three .third ∷ x .fourth ∷ x .whole ∷ []) i 0
+unfoldable pub fourAt : Four → ℕ → ℕ
+fourAt x i = getD (x .three .first ∷ x .three .second ∷ x .three .third ∷ x .whole ∷ []) i 0
 
-unfoldable pub tenAt : Ten → ℕ → ℕ
-tenAt x i =
+unfoldable pub fiveAt : Five → ℕ → ℕ
+fiveAt x i = getD (x .four .three .first ∷ x .four .three .second ∷ x .four .three .third ∷ x .four .whole ∷ x .whole ∷ []) i 0
+
+unfoldable pub tenAt : Four → Three → Three → ℕ → ℕ
+tenAt x y z i =
     getD
-    (x .lowest .first
-    ∷ x .lowest .second
-    ∷ x .lowest .third
+    (x .three .first
+    ∷ x .three .second
+    ∷ x .three .third
     ∷ x .whole
-    ∷ x .second .first
-    ∷ x .second .second
-    ∷ x .second .third
-    ∷ x .top .first
-    ∷ x .top .second
-    ∷ x .top .third
+    ∷ y .first
+    ∷ y .second
+    ∷ y .third
+    ∷ z .first
+    ∷ z .second
+    ∷ z .third
     ∷ [])
     i
     0

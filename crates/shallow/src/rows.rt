@@ -21,21 +21,17 @@ ghost use Rattle.table.specs.Run.{Wrote};
 ghost use Rattle.table.specs.Fill.{Ready, Reached, Beyond};
 ghost use Rattle.rule.specs.declared.Rule.{Rule};
 ghost use Rattle.shallow.specs.Sums.{Whole};
-ghost use Rattle.shallow.specs.Rows.{OneRow, TwoRows, ThreeRows, FourSums, FourRows, FiveRows, TopTwo, LowThree, LowFive, WholeFour, WholeFive, TopFour, Addable, leastOf, up4, up5, threeAt, fiveAt, tenAt};
+ghost use Rattle.shallow.specs.Rows.{OneRow, TwoRows, ThreeRows, FourthRow, FifthRow, TopTwo, LowThree, LowFour, LowFive, FourSums, WholeFour, WholeFive, Addable, leastOf, up4, up5, threeAt, fourAt, fiveAt, tenAt};
 
-// The costs of the ten pieces of four rows, in the order of entries: of those that begin at the lowest line the three lower ones and the
-// whole, then those that begin at the line above, then those of the two highest rows.
-pub struct Ten {
-    pub lowest: Three,
+// The costs of the four pieces of one to four rows that begin at one line, in the order of entries.
+pub struct Four {
+    pub three: Three,
     pub whole: u32,
-    pub second: Three,
-    pub top: Three,
 }
 
-// The costs of the five pieces that begin at the lowest line of five rows, in the order of entries.
+// And of the five pieces of one to five rows.
 pub struct Five {
-    pub three: Three,
-    pub fourth: u32,
+    pub four: Four,
     pub whole: u32,
 }
 
@@ -159,83 +155,41 @@ fn four_sums(lowest: Sums, second: Sums, third: Sums, highest: Sums) -> Sums
     sums::stacked(three, highest)
 }
 
-// The costs of the ten pieces of the four highest rows of a strip: they stand last in it.
-fn highest_four(
+// What a row below three rows adds, whose costs are known: the costs of the four pieces that begin at its low line. They stand from the
+// i-th of the strip on. `upper` are the costs of the pieces that begin at the line above, `top` those of the two rows above that.
+fn fourth_row(
     table: &[u32],
     strip: Strip,
+    i: usize,
     rule: Rule,
     lowest: Sums,
     second: Sums,
     third: Sums,
     highest: Sums,
-) -> Ten
-    requires { ⌜ ((g : Grid) × (b : ℕ) × FourRows g rule strip b lowest second third highest (now table)) ⌝ }
-    ensures { λ x. ⌜ ((g : Grid) (b : ℕ) → FourRows g rule strip b lowest second third highest (now (table .entry)) → TopFour g rule (strip .a .0) (strip .c .0) b x) ⌝ }
+    upper: Three,
+    top: Three,
+) -> Four
+    requires { ⌜ ((g : Grid) × (b : ℕ) × FourthRow g rule strip b i lowest second third highest upper top (now table)) ⌝ }
+    ensures { λ x. ⌜ ((g : Grid) (b : ℕ) → FourthRow g rule strip b i lowest second third highest upper top (now (table .entry)) → LowFour g rule (strip .a .0) (strip .c .0) b x) ⌝ }
 {
-    let pairs = strip.pairs;
-    let top = two_rows(table, strip, rule, third, highest);
-    let upper = third_row(table, strip, pairs - 6, rule, second, third, highest, top);
     let over = Three {
         first: upper.first,
         second: upper.second,
         third: top.first,
     };
-    let lower = third_row(table, strip, pairs - 10, rule, lowest, second, third, over);
+    let three = third_row(table, strip, i, rule, lowest, second, third, over);
     let left = Three {
         first: upper.third,
         second: top.second,
         third: top.third,
     };
     let all = four_sums(lowest, second, third, highest);
-    let whole = four_rows(table, strip, pairs - 7, rule, all, lower, left);
-    Ten {
-        lowest: lower,
-        whole,
-        second: upper,
-        top,
-    }
-}
-
-// The same in a strip of four rows, of which these are all. What has two callers the compiler does not put in place, and a strip then takes
-// half as long again: so each count of rows has one of its own.
-fn all_four(
-    table: &[u32],
-    strip: Strip,
-    rule: Rule,
-    lowest: Sums,
-    second: Sums,
-    third: Sums,
-    highest: Sums,
-) -> Ten
-    requires { ⌜ ((g : Grid) × (b : ℕ) × FourRows g rule strip b lowest second third highest (now table)) ⌝ }
-    ensures { λ x. ⌜ ((g : Grid) (b : ℕ) → FourRows g rule strip b lowest second third highest (now (table .entry)) → TopFour g rule (strip .a .0) (strip .c .0) b x) ⌝ }
-{
-    let pairs = strip.pairs;
-    let top = two_rows(table, strip, rule, third, highest);
-    let upper = third_row(table, strip, pairs - 6, rule, second, third, highest, top);
-    let over = Three {
-        first: upper.first,
-        second: upper.second,
-        third: top.first,
-    };
-    let lower = third_row(table, strip, pairs - 10, rule, lowest, second, third, over);
-    let left = Three {
-        first: upper.third,
-        second: top.second,
-        third: top.third,
-    };
-    let all = four_sums(lowest, second, third, highest);
-    let whole = four_rows(table, strip, pairs - 7, rule, all, lower, left);
-    Ten {
-        lowest: lower,
-        whole,
-        second: upper,
-        top,
-    }
+    let whole = four_rows(table, strip, i + 3, rule, all, three, left);
+    Four { three, whole }
 }
 
 // What a fifth row below the four highest adds, whose costs are known: the costs of the five pieces that begin at the lowest line. They
-// stand first in the strip.
+// stand first in the strip. `middle` are the costs of the pieces that begin at the line above, `upper` and `top` as before.
 fn fifth_row(
     table: &[u32],
     strip: Strip,
@@ -245,46 +199,49 @@ fn fifth_row(
     third: Sums,
     fourth: Sums,
     highest: Sums,
-    above: Ten,
+    middle: Four,
+    upper: Three,
+    top: Three,
 ) -> Five
-    requires { ⌜ ((g : Grid) × FiveRows g rule strip lowest second third fourth highest above (now table)) ⌝ }
-    ensures { λ x. ⌜ ((g : Grid) → FiveRows g rule strip lowest second third fourth highest above (now (table .entry)) → LowFive g rule (strip .a .0) (strip .c .0) x) ⌝ }
+    requires { ⌜ ((g : Grid) × FifthRow g rule strip lowest second third fourth highest middle upper top (now table)) ⌝ }
+    ensures { λ x. ⌜ ((g : Grid) → FifthRow g rule strip lowest second third fourth highest middle upper top (now (table .entry)) → LowFive g rule (strip .a .0) (strip .c .0) x) ⌝ }
 {
     let over = Three {
-        first: above.lowest.first,
-        second: above.lowest.second,
-        third: above.second.first,
+        first: upper.first,
+        second: upper.second,
+        third: top.first,
     };
-    let three = third_row(table, strip, 0, rule, lowest, second, third, over);
+    let four = fourth_row(
+        table,
+        strip,
+        0,
+        rule,
+        lowest,
+        second,
+        third,
+        fourth,
+        middle.three,
+        over,
+    );
     let left = Three {
-        first: above.lowest.third,
-        second: above.second.second,
-        third: above.top.first,
+        first: middle.whole,
+        second: upper.third,
+        third: top.second,
     };
-    let four = four_sums(lowest, second, third, fourth);
-    let low = four_rows(table, strip, 3, rule, four, three, left);
-    let rest = Three {
-        first: above.whole,
-        second: above.second.third,
-        third: above.top.second,
-    };
-    let all = sums::stacked(four, highest);
+    let lower = four_sums(lowest, second, third, fourth);
+    let all = sums::stacked(lower, highest);
     let whole = five_rows(
         table,
         strip,
         4,
         rule,
         all,
-        three,
-        low,
-        rest,
-        above.top.third,
+        four.three,
+        four.whole,
+        left,
+        top.third,
     );
-    Five {
-        three,
-        fourth: low,
-        whole,
-    }
+    Five { four, whole }
 }
 
 // Puts three numbers side by side.
@@ -297,25 +254,32 @@ fn store(table: &mut [u32], at: usize, three: Three)
     table[at + 2] = three.third;
 }
 
+// Puts four numbers side by side.
+fn store_four(table: &mut [u32], at: usize, four: Four)
+    requires { ⌜ at + 4 ≤ length (now table) ⌝ }
+    ensures { λ _. ⌜ Wrote (fourAt four) at 4 (now (table .entry)) (now (table .exit)) ⌝ }
+{
+    store(table, at, four.three);
+    table[at + 3] = four.whole;
+}
+
+// Puts the costs of the ten pieces of four rows side by side, those that begin at the lowest line first.
+fn store_ten(table: &mut [u32], at: usize, low: Four, upper: Three, top: Three)
+    requires { ⌜ at + 10 ≤ length (now table) ⌝ }
+    ensures { λ _. ⌜ Wrote (tenAt low upper top) at 10 (now (table .entry)) (now (table .exit)) ⌝ }
+{
+    store_four(table, at, low);
+    store(table, at + 4, upper);
+    store(table, at + 7, top);
+}
+
 // Puts five numbers side by side.
 fn store_five(table: &mut [u32], at: usize, five: Five)
     requires { ⌜ at + 5 ≤ length (now table) ⌝ }
     ensures { λ _. ⌜ Wrote (fiveAt five) at 5 (now (table .entry)) (now (table .exit)) ⌝ }
 {
-    store(table, at, five.three);
-    table[at + 3] = five.fourth;
+    store_four(table, at, five.four);
     table[at + 4] = five.whole;
-}
-
-// Puts ten numbers side by side.
-fn store_ten(table: &mut [u32], at: usize, ten: Ten)
-    requires { ⌜ at + 10 ≤ length (now table) ⌝ }
-    ensures { λ _. ⌜ Wrote (tenAt ten) at 10 (now (table .entry)) (now (table .exit)) ⌝ }
-{
-    store(table, at, ten.lowest);
-    table[at + 3] = ten.whole;
-    store(table, at + 4, ten.second);
-    store(table, at + 7, ten.top);
 }
 
 // Fills the strips that begin at the x line a, the narrowest first, where all that begin above it are filled, in a grid of one row of
@@ -492,8 +456,21 @@ pub fn fill_four(
         second = sums::grown(cells, rule, strip, step, 1, second);
         third = sums::grown(cells, rule, strip, step, 2, third);
         highest = sums::grown(cells, rule, strip, step, 3, highest);
-        let costs = all_four(table, strip, rule, lowest, second, third, highest);
-        store_ten(table, at, costs);
+        let top = two_rows(table, strip, rule, third, highest);
+        let upper = third_row(table, strip, 4, rule, second, third, highest, top);
+        let low = fourth_row(
+            table,
+            strip,
+            0,
+            rule,
+            lowest,
+            second,
+            third,
+            highest,
+            upper,
+            top,
+        );
+        store_ten(table, at, low, upper, top);
         at += 10;
         c += 1;
     }
@@ -542,8 +519,21 @@ pub fn fill_five(
         third = sums::grown(cells, rule, strip, step, 2, third);
         fourth = sums::grown(cells, rule, strip, step, 3, fourth);
         highest = sums::grown(cells, rule, strip, step, 4, highest);
-        let above = highest_four(table, strip, rule, second, third, fourth, highest);
-        let costs = fifth_row(
+        let top = two_rows(table, strip, rule, fourth, highest);
+        let upper = third_row(table, strip, 9, rule, third, fourth, highest, top);
+        let middle = fourth_row(
+            table,
+            strip,
+            5,
+            rule,
+            second,
+            third,
+            fourth,
+            highest,
+            upper,
+            top,
+        );
+        let low = fifth_row(
             table,
             strip,
             rule,
@@ -552,10 +542,12 @@ pub fn fill_five(
             third,
             fourth,
             highest,
-            above,
+            middle,
+            upper,
+            top,
         );
-        store_five(table, at, costs);
-        store_ten(table, at + 5, above);
+        store_five(table, at, low);
+        store_ten(table, at + 5, middle, upper, top);
         at += 15;
         c += 1;
     }

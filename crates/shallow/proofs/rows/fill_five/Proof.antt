@@ -8,8 +8,8 @@ use Rattle.table.specs.Entry.{pairsBelow, pairCount}
 use Rattle.table.proofs.Entry.{below-most}
 use Rattle.shallow.specs.declared.cuts.Strip.{Strip}
 use Rattle.shallow.specs.Sums.{Summed}
-use Rattle.shallow.specs.Rows.{FourRows, FiveRows, TopFour}
-use Rattle.shallow.proofs.Settling.{pairs-five, fifteen-wrote}
+use Rattle.shallow.specs.Rows.{TopTwo, LowThree, FourRows, LowFour, FifthRow}
+use Rattle.shallow.proofs.Settling.{pairs-five, four-top, four-upper, four-lowest, fifteen-wrote}
 use Rattle.shallow.proofs.Filling.{Strips, Turn, asks-empty, asks-span, asks-grown, columns-few, row-empty, row-next, turn-first, turn-start, turn-more, turn-end, turn-room, turn-four, turn-five, five-right}
 use borrow.Author.Needs.{needs}
 use Rattle.shallow.proofs.rows.fill_five.Statement.{statement}
@@ -80,13 +80,13 @@ turn c =
 abbrev spans : tie.After-grown5 Inv-loop μ-loop → tie.After-span2 Inv-loop μ-loop
 spans c = c .before .before .before .before .before
 
-top-given : (c : tie.After-grown5 Inv-loop μ-loop)
+rows-given : (c : tie.After-grown5 Inv-loop μ-loop)
     → FourRows (grid (entry (head (spans c)))) (entry (head (spans c)) .args .rule) (strip (spans c)) 1 (c .before .before .before .grown2 .result)
     (c .before .before .grown3 .result)
     (c .before .grown4 .result)
     (c .grown5 .result)
     (head (spans c) .loop .table)
-top-given c =
+rows-given c =
     let i = head (spans c) .loop .inv in
     turn-four _ _ _ _ _ _ _ _ _ _ 1 (turn (spans c)) _ _ _ _ _ _ _ _
     (i .2)
@@ -98,31 +98,55 @@ top-given c =
     (i .5)
     (c .grown5 .ensures)
 
--- and their pieces have their costs
-abbrev grown : tie.After-highest-four Inv-loop μ-loop → tie.After-grown5 Inv-loop μ-loop
+-- and their pieces have their costs: of the two highest, with the one below, and of all four
+abbrev grown : tie.After-two-rows Inv-loop μ-loop → tie.After-grown5 Inv-loop μ-loop
 grown c = c .before .before
 
-top-costs : (c : tie.After-highest-four Inv-loop μ-loop)
-    → TopFour (grid (entry (head (spans (grown c))))) (entry (head (spans (grown c))) .args .rule) (entry (head (spans (grown c))) .args .a .0) (head (spans (grown c)) .loop .c) 1
-    (c .highest-four .result)
-top-costs c = c .highest-four .ensures (grid (entry (head (spans (grown c))))) 1 (top-given (grown c))
+abbrev Grid-at : tie.After-two-rows Inv-loop μ-loop → Grid
+Grid-at c = grid (entry (head (spans (grown c))))
+
+top-costs : (c : tie.After-two-rows Inv-loop μ-loop)
+    → (let l = head (spans (grown c)) in TopTwo (Grid-at c) (entry l .args .rule) (entry l .args .a .0) (l .loop .c) 3 (c .two-rows .result))
+top-costs c = c .two-rows .ensures (Grid-at c) 3 (four-top _ _ _ _ _ _ _ _ _ (rows-given (grown c)))
+
+abbrev top : tie.After-third-row Inv-loop μ-loop → tie.After-two-rows Inv-loop μ-loop
+top c = c .before .before
+
+upper-costs : (c : tie.After-third-row Inv-loop μ-loop)
+    → (let l = head (spans (grown (top c))) in LowThree (Grid-at (top c)) (entry l .args .rule) (entry l .args .a .0) (l .loop .c) 2 (c .third-row .result))
+upper-costs c = c .third-row .ensures (Grid-at (top c)) 2 (four-upper _ _ _ _ _ _ _ _ _ (rows-given (grown (top c))) _ _ refl (top-costs (top c)))
+
+abbrev upper : tie.After-fourth-row Inv-loop μ-loop → tie.After-third-row Inv-loop μ-loop
+upper c = c .before .before
+
+four-costs : (c : tie.After-fourth-row Inv-loop μ-loop)
+    → (let l = head (spans (grown (top (upper c)))) in
+    LowFour (Grid-at (top (upper c))) (entry l .args .rule) (entry l .args .a .0) (l .loop .c) 1 (c .fourth-row .result))
+four-costs c =
+    c .fourth-row .ensures (Grid-at (top (upper c))) 1
+    (four-lowest _ _ _ _ _ _ _ _ _ (rows-given (grown (top (upper c)))) _ _ _ refl (upper-costs (upper c)) (top-costs (top (upper c))))
 
 -- and so has the lowest
-all-given : (c : tie.After-highest-four Inv-loop μ-loop)
-    → FiveRows (grid (entry (head (spans (grown c))))) (entry (head (spans (grown c))) .args .rule) (strip (spans (grown c)))
-    (grown c .before .before .before .before .grown .result)
-    (grown c .before .before .before .grown2 .result)
-    (grown c .before .before .grown3 .result)
-    (grown c .before .grown4 .result)
-    (grown c .grown5 .result)
-    (c .highest-four .result)
-    (head (spans (grown c)) .loop .table)
+all-given : (c : tie.After-fourth-row Inv-loop μ-loop)
+    → (let n = grown (top (upper c)) in
+    FifthRow (Grid-at (top (upper c))) (entry (head (spans n)) .args .rule) (strip (spans n)) (n .before .before .before .before .grown .result)
+    (n .before .before .before .grown2 .result)
+    (n .before .before .grown3 .result)
+    (n .before .grown4 .result)
+    (n .grown5 .result)
+    (c .fourth-row .result)
+    (upper c .third-row .result)
+    (top (upper c) .two-rows .result)
+    (head (spans n) .loop .table))
 all-given c =
-    turn-five _ _ _ _ _ _ _ _ _ _ (turn (spans (grown c))) _ _ _ _ _ _ _
-    (head (spans (grown c)) .loop .inv .1)
-    (grown c .before .before .before .before .grown .ensures)
-    (top-given (grown c))
-    (top-costs c)
+    let n = grown (top (upper c)) in
+    turn-five _ _ _ _ _ _ _ _ _ _ (turn (spans n)) _ _ _ _ _ _ _ _ _
+    (head (spans n) .loop .inv .1)
+    (n .before .before .before .before .grown .ensures)
+    (rows-given n)
+    (four-costs c)
+    (upper-costs (upper c))
+    (top-costs (top (upper c)))
 
 -- its entries are in the table
 room : (c : tie.In-loop Inv-loop μ-loop) → (c .before .loop .at + pairCount 5 ≤ length (c .before .loop .table)) × (c .before .loop .at ≤ 54000)
@@ -209,60 +233,82 @@ grown-requires-5 c κs =
     let l = head n .loop in
     asks-grown _ _ _ _ _ _ _ (entry (head n) .pre .0) _ _ _ 4 _ (l .inv .0 .above) (m .loop-test .taken) (omega arith) (n .span2 .ensures .1) (l .inv .5)
 
-highest-four-requires : tie.Need-highest-four-requires Inv-loop μ-loop
-highest-four-requires c κs = (let n = c .before in (grid (entry (head (spans n))), 1, top-given n))
+two-rows-requires : tie.Need-two-rows-requires Inv-loop μ-loop
+two-rows-requires c κs = (let n = c .before in (grid (entry (head (spans n))), 3, four-top _ _ _ _ _ _ _ _ _ (rows-given n)))
+
+third-row-requires : tie.Need-third-row-requires Inv-loop μ-loop
+third-row-requires c κs =
+    let x = c .before in
+    (Grid-at x, 2, four-upper _ _ _ _ _ _ _ _ _ (rows-given (grown x)) _ _ refl (top-costs x))
+
+fourth-row-requires : tie.Need-fourth-row-requires Inv-loop μ-loop
+fourth-row-requires c κs =
+    let y = c .before in
+    let x = top y in
+    (Grid-at x, 1, four-lowest _ _ _ _ _ _ _ _ _ (rows-given (grown x)) _ _ _ refl (upper-costs y) (top-costs x))
 
 fifth-row-requires : tie.Need-fifth-row-requires Inv-loop μ-loop
-fifth-row-requires c κs = (let x = c .before in (grid (entry (head (spans (grown x)))), all-given x))
+fifth-row-requires c κs = (let z = c .before in (Grid-at (top (upper z)), all-given z))
 
 store-five-requires : tie.Need-store-five-requires Inv-loop μ-loop
 store-five-requires c κs =
-    let x = c .before .before .before in
+    let x = top (upper (c .before .before .before)) in
     omega (arith, room (spans (grown x) .before .before), pairs-five 5 refl)
 
--- the highest rows of a turn, from where the lowest is stored, and from its end
-abbrev above : tie.After-store-five Inv-loop μ-loop → tie.After-highest-four Inv-loop μ-loop
+-- the four highest rows of a turn, from where the lowest is stored, and the turn
+abbrev above : tie.After-store-five Inv-loop μ-loop → tie.After-fourth-row Inv-loop μ-loop
 above e = e .before .before .before .before
 
+abbrev turned : tie.After-store-five Inv-loop μ-loop → tie.In-loop Inv-loop μ-loop
+turned e = spans (grown (top (upper (above e)))) .before .before
+
+add-store-ten : tie.Need-add-store-ten Inv-loop μ-loop
+add-store-ten c = omega (arith, room (turned (c .before .before .before)))
+
+store-ten-requires : tie.Need-store-ten-requires Inv-loop μ-loop
+store-ten-requires c κs = (let e = c .before .before .before in omega (arith, room (turned e), pairs-five 5 refl, e .store-five .ensures .long))
+
+-- the turn that ends here
 abbrev low : tie.After-store-ten Inv-loop μ-loop → tie.After-store-five Inv-loop μ-loop
 low e = e .before .before .before .before
 
-add-store-ten : tie.Need-add-store-ten Inv-loop μ-loop
-add-store-ten c = (let x = above (c .before .before .before) in omega (arith, room (spans (grown x) .before .before)))
-
-store-ten-requires : tie.Need-store-ten-requires Inv-loop μ-loop
-store-ten-requires c κs =
-    let e = c .before .before .before in
-    omega (arith, room (spans (grown (above e)) .before .before), pairs-five 5 refl, e .store-five .ensures .long)
+abbrev inside : tie.After-store-ten Inv-loop μ-loop → tie.In-loop Inv-loop μ-loop
+inside e = turned (low e)
 
 add-at : tie.Need-add-at Inv-loop μ-loop
-add-at c = (let x = above (low (c .before .before)) in omega (arith, room (spans (grown x) .before .before)))
+add-at c = (let m = inside (c .before .before) in omega (arith, room m))
 
 add-c-2 : tie.Need-add-c-2 Inv-loop μ-loop
-add-c-2 c =
-    let m = spans (grown (above (low (c .before .before)))) .before .before in
-    omega (arith, m .loop-test .taken, columns-few _ _ _ _ _ _ _ (entry (m .before) .pre .0))
+add-c-2 c = (let m = inside (c .before .before) in omega (arith, m .loop-test .taken, columns-few _ _ _ _ _ _ _ (entry (m .before) .pre .0)))
 
 loop-less : tie.Need-loop-less Inv-loop μ-loop
-loop-less c = (let m = spans (grown (above (low (c .before .before)))) .before .before in omega (arith, m .loop-test .taken))
+loop-less c = (let m = inside (c .before .before) in omega (arith, m .loop-test .taken))
 
 loop-again : tie.Need-loop-again Inv-loop μ-loop
 loop-again c =
     let e₂ = c .before .before in
     let e = low e₂ in
-    let y = e .before .before in
-    let x = above e in
-    let m = spans (grown x) .before .before in
+    let v = e .before .before in
+    let z = above e in
+    let y = upper z in
+    let x = top y in
+    let m = inside e₂ in
     let s = entry (m .before) in
-    let w = all-given x in (
+    let w = all-given z in
+    let u = w .upper-sums in (
       turn-more _ _ _ _ _ _ _ (s .pre .0) _ _ _ _ (m .before .loop .inv .0) _ _ 15 (m .loop-test .taken) (sym (pairs-five 5 refl))
-          (fifteen-wrote _ _ _ _ (y .fifth-row .result) (x .highest-four .result) (e .store-five .ensures) (e₂ .store-ten .ensures))
-          (five-right (grid s) _ _ _ (y .fifth-row .result) (x .highest-four .result) (y .fifth-row .ensures (grid s) w) (top-costs x)),
+          (fifteen-wrote _ _ _ _ (v .fifth-row .result) (z .fourth-row .result) (y .third-row .result) (x .two-rows .result) (e .store-five .ensures)
+          (e₂ .store-ten .ensures))
+          (five-right (grid s) _ _ _ (v .fifth-row .result) (z .fourth-row .result) (y .third-row .result) (x .two-rows .result)
+          (v .fifth-row .ensures (grid s) w)
+          (four-costs z)
+          (upper-costs y)
+          (top-costs x)),
       row-next _ _ _ _ _ _ _ (w .lowest-sums),
-      row-next _ _ _ _ _ _ _ (w .upper-sums .lowest-sums),
-      row-next _ _ _ _ _ _ _ (w .upper-sums .second-sums),
-      row-next _ _ _ _ _ _ _ (w .upper-sums .third-sums),
-      row-next _ _ _ _ _ _ _ (w .upper-sums .highest-sums),
+      row-next _ _ _ _ _ _ _ (u .lowest-sums),
+      row-next _ _ _ _ _ _ _ (u .second-sums),
+      row-next _ _ _ _ _ _ _ (u .third-sums),
+      row-next _ _ _ _ _ _ _ (u .highest-sums),
     )
 
 same-length : tie.Need-same-length Inv-loop μ-loop
@@ -293,7 +339,9 @@ fill-five-spec =
     grown-requires-3
     grown-requires-4
     grown-requires-5
-    highest-four-requires
+    two-rows-requires
+    third-row-requires
+    fourth-row-requires
     fifth-row-requires
     store-five-requires
     add-store-ten

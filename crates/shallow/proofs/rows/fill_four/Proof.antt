@@ -8,8 +8,8 @@ use Rattle.table.specs.Entry.{pairsBelow, pairCount}
 use Rattle.table.proofs.Entry.{below-most}
 use Rattle.shallow.specs.declared.cuts.Strip.{Strip}
 use Rattle.shallow.specs.Sums.{Summed}
-use Rattle.shallow.specs.Rows.{FourRows}
-use Rattle.shallow.proofs.Settling.{pairs-four}
+use Rattle.shallow.specs.Rows.{TopTwo, LowThree, FourRows, LowFour}
+use Rattle.shallow.proofs.Settling.{pairs-four, four-top, four-upper, four-lowest}
 use Rattle.shallow.proofs.Filling.{Strips, Turn, asks-empty, asks-span, asks-grown, columns-few, row-empty, row-next, turn-first, turn-start, turn-more, turn-end, turn-room, turn-four, four-right}
 use borrow.Author.Needs.{needs}
 use Rattle.shallow.proofs.rows.fill_four.Statement.{statement}
@@ -75,7 +75,7 @@ turn c =
       step-is = c .span2 .ensures .0;
     }
 
--- the rows have grown by a column
+-- the four highest rows have grown by a column
 abbrev spans : tie.After-grown4 Inv-loop μ-loop → tie.After-span2 Inv-loop μ-loop
 spans c = c .before .before .before .before
 
@@ -96,6 +96,34 @@ rows-given c =
     (c .before .grown3 .ensures)
     (i .4)
     (c .grown4 .ensures)
+
+-- and their pieces have their costs: of the two highest, with the one below, and of all four
+abbrev grown : tie.After-two-rows Inv-loop μ-loop → tie.After-grown4 Inv-loop μ-loop
+grown c = c .before .before
+
+abbrev Grid-at : tie.After-two-rows Inv-loop μ-loop → Grid
+Grid-at c = grid (entry (head (spans (grown c))))
+
+top-costs : (c : tie.After-two-rows Inv-loop μ-loop)
+    → (let l = head (spans (grown c)) in TopTwo (Grid-at c) (entry l .args .rule) (entry l .args .a .0) (l .loop .c) 2 (c .two-rows .result))
+top-costs c = c .two-rows .ensures (Grid-at c) 2 (four-top _ _ _ _ _ _ _ _ _ (rows-given (grown c)))
+
+abbrev top : tie.After-third-row Inv-loop μ-loop → tie.After-two-rows Inv-loop μ-loop
+top c = c .before .before
+
+upper-costs : (c : tie.After-third-row Inv-loop μ-loop)
+    → (let l = head (spans (grown (top c))) in LowThree (Grid-at (top c)) (entry l .args .rule) (entry l .args .a .0) (l .loop .c) 1 (c .third-row .result))
+upper-costs c = c .third-row .ensures (Grid-at (top c)) 1 (four-upper _ _ _ _ _ _ _ _ _ (rows-given (grown (top c))) _ _ refl (top-costs (top c)))
+
+abbrev upper : tie.After-fourth-row Inv-loop μ-loop → tie.After-third-row Inv-loop μ-loop
+upper c = c .before .before
+
+four-costs : (c : tie.After-fourth-row Inv-loop μ-loop)
+    → (let l = head (spans (grown (top (upper c)))) in
+    LowFour (Grid-at (top (upper c))) (entry l .args .rule) (entry l .args .a .0) (l .loop .c) 0 (c .fourth-row .result))
+four-costs c =
+    c .fourth-row .ensures (Grid-at (top (upper c))) 0
+    (four-lowest _ _ _ _ _ _ _ _ _ (rows-given (grown (top (upper c)))) _ _ _ refl (upper-costs (upper c)) (top-costs (top (upper c))))
 
 -- its entries are in the table
 room : (c : tie.In-loop Inv-loop μ-loop) → (c .before .loop .at + pairCount 4 ≤ length (c .before .loop .table)) × (c .before .loop .at ≤ 54000)
@@ -171,41 +199,53 @@ grown-requires-4 c κs =
     let l = head n .loop in
     asks-grown _ _ _ _ _ _ _ (entry (head n) .pre .0) _ _ _ 3 _ (l .inv .0 .above) (m .loop-test .taken) (omega arith) (n .span2 .ensures .1) (l .inv .4)
 
-all-four-requires : tie.Need-all-four-requires Inv-loop μ-loop
-all-four-requires c κs = (let n = c .before in (grid (entry (head (spans n))), 0, rows-given n))
+two-rows-requires : tie.Need-two-rows-requires Inv-loop μ-loop
+two-rows-requires c κs = (let n = c .before in (grid (entry (head (spans n))), 2, four-top _ _ _ _ _ _ _ _ _ (rows-given n)))
+
+third-row-requires : tie.Need-third-row-requires Inv-loop μ-loop
+third-row-requires c κs =
+    let x = c .before in
+    (Grid-at x, 1, four-upper _ _ _ _ _ _ _ _ _ (rows-given (grown x)) _ _ refl (top-costs x))
+
+fourth-row-requires : tie.Need-fourth-row-requires Inv-loop μ-loop
+fourth-row-requires c κs =
+    let y = c .before in
+    let x = top y in
+    (Grid-at x, 0, four-lowest _ _ _ _ _ _ _ _ _ (rows-given (grown x)) _ _ _ refl (upper-costs y) (top-costs x))
 
 store-ten-requires : tie.Need-store-ten-requires Inv-loop μ-loop
-store-ten-requires c κs = (let n = spans (c .before .before .before) in omega (arith, room (n .before .before), pairs-four 4 refl))
+store-ten-requires c κs =
+    let x = top (upper (c .before)) in
+    omega (arith, room (spans (grown x) .before .before), pairs-four 4 refl)
 
--- a turn's rows, from its end
-abbrev grown : tie.After-store-ten Inv-loop μ-loop → tie.After-grown4 Inv-loop μ-loop
-grown e = e .before .before .before .before
+-- the turn that ends here
+abbrev inside : tie.After-store-ten Inv-loop μ-loop → tie.In-loop Inv-loop μ-loop
+inside e = spans (grown (top (upper (e .before .before)))) .before .before
 
 add-at : tie.Need-add-at Inv-loop μ-loop
-add-at c = (let n = spans (grown (c .before .before)) in omega (arith, room (n .before .before)))
+add-at c = (let m = inside (c .before .before) in omega (arith, room m))
 
 add-c-2 : tie.Need-add-c-2 Inv-loop μ-loop
-add-c-2 c =
-    let m = spans (grown (c .before .before)) .before .before in
-    omega (arith, m .loop-test .taken, columns-few _ _ _ _ _ _ _ (entry (m .before) .pre .0))
+add-c-2 c = (let m = inside (c .before .before) in omega (arith, m .loop-test .taken, columns-few _ _ _ _ _ _ _ (entry (m .before) .pre .0)))
 
 loop-less : tie.Need-loop-less Inv-loop μ-loop
-loop-less c = (let m = spans (grown (c .before .before)) .before .before in omega (arith, m .loop-test .taken))
+loop-less c = (let m = inside (c .before .before) in omega (arith, m .loop-test .taken))
 
 loop-again : tie.Need-loop-again Inv-loop μ-loop
 loop-again c =
     let e = c .before .before in
-    let x = e .before .before in
-    let n = grown e in
-    let m = spans n .before .before in
+    let z = e .before .before in
+    let y = upper z in
+    let x = top y in
+    let m = inside e in
     let s = entry (m .before) in
-    let w = rows-given n in (
+    let w = rows-given (grown x) .sums in (
       turn-more _ _ _ _ _ _ _ (s .pre .0) _ _ _ _ (m .before .loop .inv .0) _ _ 10 (m .loop-test .taken) (sym (pairs-four 4 refl)) (e .store-ten .ensures)
-          (four-right (grid s) _ _ _ (x .all-four .result) (x .all-four .ensures (grid s) 0 w)),
-      row-next _ _ _ _ _ _ _ (w .sums .lowest-sums),
-      row-next _ _ _ _ _ _ _ (w .sums .second-sums),
-      row-next _ _ _ _ _ _ _ (w .sums .third-sums),
-      row-next _ _ _ _ _ _ _ (w .sums .highest-sums),
+          (four-right (grid s) _ _ _ (z .fourth-row .result) (y .third-row .result) (x .two-rows .result) (four-costs z) (upper-costs y) (top-costs x)),
+      row-next _ _ _ _ _ _ _ (w .lowest-sums),
+      row-next _ _ _ _ _ _ _ (w .second-sums),
+      row-next _ _ _ _ _ _ _ (w .third-sums),
+      row-next _ _ _ _ _ _ _ (w .highest-sums),
     )
 
 same-length : tie.Need-same-length Inv-loop μ-loop
@@ -234,7 +274,9 @@ fill-four-spec =
     grown-requires-2
     grown-requires-3
     grown-requires-4
-    all-four-requires
+    two-rows-requires
+    third-row-requires
+    fourth-row-requires
     store-ten-requires
     add-at
     add-c-2

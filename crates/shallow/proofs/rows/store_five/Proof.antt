@@ -1,13 +1,11 @@
 -- `shallow::rows::store_five` meets its contract. Assumes nothing.
-use native.Mathlib.Omega.{arith}
-use lib.ListN.{length-set}
 use Rattle.shallow.proofs.Settling.{five-wrote}
 use borrow.Author.Needs.{needs}
 use Rattle.shallow.proofs.rows.store_five.Statement.{statement}
 use Rattle.shallow.proofs.rows.store_five.Tie as tie
 
-store-requires : tie.Need-store-requires
-store-requires c κs = search needs
+store-four-requires : tie.Need-store-four-requires
+store-four-requires c κs = search needs
 
 add-table : tie.Need-add-table
 add-table c = search needs
@@ -18,17 +16,6 @@ mul-table c = search needs
 slice-write-table : tie.Need-slice-write-table
 slice-write-table c = search needs
 
-add-table-2 : tie.Need-add-table-2
-add-table-2 c = search needs
-
-mul-table-2 : tie.Need-mul-table-2
-mul-table-2 c = search needs
-
-slice-write-table-2 : tie.Need-slice-write-table-2
-slice-write-table-2 c =
-    let e = c .before .before in
-    simp length-set (omega (arith, e .before .before .before .pre, e .store .ensures .long))
-
 same-length : tie.Need-same-length
 same-length c = search needs
 
@@ -36,18 +23,7 @@ returns : tie.Need-returns
 returns c =
     let e = c .before .before in
     let s = e .before .before .before in
-    five-wrote (s .args .table .now) _ (s .args .at) (s .args .five) (s .pre) (e .store .ensures)
+    five-wrote (s .args .table .now) _ (s .args .at) (s .args .five) (s .pre) (e .store-four .ensures)
 
 pub store-five-spec : {M : Type 1} → statement M
-store-five-spec =
-    tie.close
-    (tie.spec
-    store-requires
-    add-table
-    mul-table
-    slice-write-table
-    add-table-2
-    mul-table-2
-    slice-write-table-2
-    same-length
-    returns)
+store-five-spec = tie.close (tie.spec store-four-requires add-table mul-table slice-write-table same-length returns)
