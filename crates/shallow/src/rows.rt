@@ -95,7 +95,8 @@ fn third_row(
     }
 }
 
-// The least of `best` and of three horizontal cuts, of which `below` has the costs of the lower parts and `above` those of the upper ones.
+// The least of `best` and of three horizontal cuts, of which `below` has the costs of the lower parts and `above` those of the upper
+// ones.
 fn three_cuts(best: u32, below: Three, above: Three) -> u32
     requires { ⌜ Addable below above ⌝ }
     ensures { λ r. ⌜ r ≡ leastOf best below above ⌝ }
@@ -124,7 +125,8 @@ fn four_rows(
     sums::settled(all, rule, strip.width, cut)
 }
 
-// The same of one that has five rows: `low` is the cost of the piece of four rows that begins at its low line, `high` that of its highest row.
+// The same of one that has five rows: `low` is the cost of the piece of four rows that begins at its low line, `high` that of its
+// highest row.
 fn five_rows(
     table: &[u32],
     strip: Strip,

@@ -1,7 +1,5 @@
 -- `shallow::rows::four_rows` meets its contract. Assumes nothing.
-use mathlib.Core.Path.{sym, subst}
 use native.Mathlib.Omega.{arith}
-use Rattle.table.specs.Run.{Lowest}
 use Rattle.table.proofs.Entry.{pair-below}
 use Rattle.shallow.specs.Rows.{up4}
 use Rattle.shallow.proofs.Settling.{placed-cuttable, whole-ready, threes-fit, across-three, piece-cost}
