@@ -17,10 +17,17 @@
 --   settled-behind, settled-mixed        : what is known of a piece that was settled, and of one that was not
 --   full-one                             : a full piece is one shot
 --   ask-mixed                            : what the emission of a mixed piece asks
+-- A mixed piece, turn by turn: of each rest the low part is written, and the high part is the next rest
+--   Begun, Left, Going                   : the shots so far and those of the rest are the piece's; the rest is mixed too, and there is room for
+--                                          it; so it is where there is more, and else all is written
+--   begun-none, begun-more, begun-end    : nothing is written yet; the low part of the rest is; and its high part is
+--   going-first, going-more, going-end   : before the first turn; after one with a mixed high part; after the last
+--   part-fewer, left-fewer, left-none    : the rest and its parts have fewer cells, until there is none
 --   count-cells, count-few, slivers-few  : how many shots, and how long their slivers, at most
 use Prim.Native.Nat.{ℕ, suc, _+_, _*_, _≤_, _<_}
+use mathlib.Core.Bool.{Bool, true, false, cond, true≢false}
 use mathlib.Core.Path.{_≡_, refl, ap, ap₂, sym, _∙_, subst}
-use mathlib.Core.List.{List, [], _∷_, _++_, append-nil}
+use mathlib.Core.List.{List, [], _∷_, _++_, append-nil, append-assoc}
 use native.Mathlib.Omega.{arith}
 use lib.ListN.{length, getD, set, length-append}
 use lib.Seq.{sets}
@@ -419,3 +426,83 @@ ask-mixed t cs xs ys room plan at p e q k d h m = record {
   emittable = record { grid = e .grid; rule = e .rule; walk = e .walk; known = k; fits = omega arith };
   mixed = m;
 }
+
+-- A mixed piece, turn by turn
+
+-- the shots done are written from the index at on, and those of the mixed piece q are left of those of p
+pub record Begun (g : Grid) (r : Rule) (u v : List ℕ) (at n : ℕ) (p q : Piece) : Type 0 where
+  pub done : List Piece
+  pub written : Written g u v at done n
+  pub both : shots Straight g r p ≡ done ++ shots Straight g r q
+  pub mixed : kind g q ≡ mixed
+
+pub begun-none : (g : Grid) (r : Rule) (u : List ℕ) (at : ℕ) (p : Piece) → kind g p ≡ mixed → Begun g r u u at at p p
+begun-none g r u at p m = record { done = []; written = written-none g u at; both = refl; mixed = m }
+
+module _ (g : Grid) (r : Rule) (u v : List ℕ) (at n : ℕ) (p q : Piece) where
+  pub begun-more : Begun g r u v at n p q → (plan : Plan) (l h : Numbered) → Halves Straight g r plan q l h → (w : List ℕ) (i : ℕ)
+      → Written g v w n (shots Straight g r (meant (l .piece))) i
+      → kind g (meant (h .piece)) ≡ mixed
+      → Begun g r u w at i p (meant (h .piece))
+  begun-more b plan l h z w i a m =
+      let low = shots Straight g r (meant (l .piece)) in
+      let high = shots Straight g r (meant (h .piece)) in
+      record {
+        done = b .done ++ low;
+        written = written-join g u v w at (b .done) low n i (b .written) a;
+        both = b .both ∙ ap (λ (x : List Piece). b .done ++ x) (z .both) ∙ sym (append-assoc (b .done) low high);
+        mixed = m;
+      }
+
+  pub begun-end : Begun g r u v at n p q → (plan : Plan) (l h : Numbered) → Halves Straight g r plan q l h → (w x : List ℕ) (i k : ℕ)
+      → Written g v w n (shots Straight g r (meant (l .piece))) i
+      → Written g w x i (shots Straight g r (meant (h .piece))) k
+      → Written g u x at (shots Straight g r p) k
+  begun-end b plan l h z w x i k a c =
+      let low = shots Straight g r (meant (l .piece)) in
+      let high = shots Straight g r (meant (h .piece)) in
+      written-as g u x at k (b .both ∙ ap (λ (y : List Piece). b .done ++ y) (z .both))
+      (written-join g u v x at (b .done) (low ++ high) n k (b .written) (written-join g v w x n low high i k a c))
+
+-- the piece q is left of p, and from the index n on there is room for it
+pub record Left (t cs xs ys : List ℕ) (plan : Plan) (u : List ℕ) (at : ℕ) (p : Numbered) (v : List ℕ) (n : ℕ) (q : Numbered) : Type 0 where
+  pub asked : EmittableMixed t cs xs ys (length v) plan n q
+  pub most : cells (meant (q .piece)) ≤ cells (meant (p .piece))
+  pub begun : (g : Grid) (r : Rule) → Walk Straight g r t cs xs ys plan → kind g (meant (p .piece)) ≡ mixed
+      → Begun g r u v at n (meant (p .piece)) (meant (q .piece))
+
+-- before and after each turn
+pub record Going (t cs xs ys : List ℕ) (plan : Plan) (u : List ℕ) (at : ℕ) (p : Numbered) (v : List ℕ) (n : ℕ) (q : Numbered) (more : Bool)
+    : Type 0 where
+  pub kept : length v ≡ length u
+  pub left : more ≡ true → Left t cs xs ys plan u at p v n q
+  pub all : more ≡ false → (g : Grid) (r : Rule) → Walk Straight g r t cs xs ys plan → kind g (meant (p .piece)) ≡ mixed
+      → Written g u v at (shots Straight g r (meant (p .piece))) n
+
+module _ (t cs xs ys : List ℕ) (plan : Plan) (u : List ℕ) (at : ℕ) (p : Numbered) where
+  pub going-first : EmittableMixed t cs xs ys (length u) plan at p → Going t cs xs ys plan u at p u at p true
+  going-first a = record {
+    kept = refl;
+    left = λ e. record { asked = a; most = omega arith; begun = λ g r w m. begun-none g r u at (meant (p .piece)) m };
+    all = λ e. absurd (true≢false e);
+  }
+
+  pub going-more : (v : List ℕ) (n : ℕ) (q : Numbered) (more : Bool) → more ≡ true → length v ≡ length u → Left t cs xs ys plan u at p v n q
+      → Going t cs xs ys plan u at p v n q more
+  going-more v n q more m k l = record { kept = k; left = λ e. l; all = λ e. absurd (true≢false (sym m ∙ e)) }
+
+  pub going-end : (v : List ℕ) (n : ℕ) (q : Numbered) → length v ≡ length u
+      → ((g : Grid) (r : Rule) → Walk Straight g r t cs xs ys plan → kind g (meant (p .piece)) ≡ mixed
+      → Written g u v at (shots Straight g r (meant (p .piece))) n)
+      → Going t cs xs ys plan u at p v n q false
+  going-end v n q k a = record { kept = k; left = λ e. absurd (true≢false (sym e)); all = λ e. a }
+
+module _ (plan : Plan) (q : Piece) (h : Numbered) (z : Smaller plan q h) where
+  pub part-fewer : {n m : ℕ} → cells q ≤ m → m ≡ n → cells (meant (h .piece)) < n
+  part-fewer l e = omega (arith, z .less)
+
+  pub left-fewer : (more : Bool) → more ≡ true → cond more (suc (cells (meant (h .piece)))) 0 < cond more (suc (cells q)) 0
+  left-fewer more e = subst (λ b. cond b (suc (cells (meant (h .piece)))) 0 < cond b (suc (cells q)) 0) (sym e) (omega (arith, z .less))
+
+pub left-none : (n : ℕ) (more : Bool) → more ≡ true → 0 < cond more (suc n) 0
+left-none n more e = subst (λ b. 0 < cond b (suc n) 0) (sym e) (omega arith)

@@ -80,7 +80,8 @@ fn settle(
 }
 
 // Writes the shots of a mixed piece from the index at on, those of the low part of its cut before those of the high part; hands back the
-// index behind them. A part that needs no cut is settled where it arises: only a mixed one is a call.
+// index behind them. A part that needs no cut is settled where it arises: only a mixed low part is a call, and with a mixed high part it goes
+// on from the top.
 fn emit_mixed(
     costs: &[u32],
     cells: &[u8],
@@ -94,19 +95,30 @@ fn emit_mixed(
     requires { ⌜ EmittableMixed (now costs) (now cells) (now xs) (now ys) (length (now list)) plan at p ⌝ }
     ensures { λ n. ⌜ ((g : Grid) (r : Rule) → Walk Straight g r (now (costs .entry)) (now (cells .entry)) (now (xs .entry)) (now (ys .entry)) plan → kind g (meant (p .piece)) ≡ mixed → Written g (now (list .entry)) (now (list .exit)) at (shots Straight g r (meant (p .piece))) n) ⌝ }
 {
-    let parts = halves(costs, plan, p);
-    let low = parts.low;
-    let high = parts.high;
-    let first = settle(costs, cells, xs, ys, list, at, low);
-    let next = match first {
-        Settled::Behind(n) => n,
-        Settled::Mixed => emit_mixed(costs, cells, xs, ys, list, plan, at, low),
-    };
-    let second = settle(costs, cells, xs, ys, list, next, high);
-    match second {
-        Settled::Behind(m) => m,
-        Settled::Mixed => emit_mixed(costs, cells, xs, ys, list, plan, next, high),
+    let mut next = at;
+    let mut rest = p;
+    let mut more = true;
+    while more {
+        let parts = halves(costs, plan, rest);
+        let low = parts.low;
+        let high = parts.high;
+        let first = settle(costs, cells, xs, ys, list, next, low);
+        next = match first {
+            Settled::Behind(n) => n,
+            Settled::Mixed => emit_mixed(costs, cells, xs, ys, list, plan, next, low),
+        };
+        let second = settle(costs, cells, xs, ys, list, next, high);
+        match second {
+            Settled::Behind(m) => {
+                next = m;
+                more = false;
+            }
+            Settled::Mixed => {
+                rest = high;
+            }
+        }
     }
+    next
 }
 
 // Writes the shots of a piece from the index at on, those of the low part of a cut before those of the high part; hands back the index
