@@ -3,6 +3,7 @@
 --   few-cuts        == a piece of at most two columns or rows of cells has the same cuts in both modes
 --   few-shots       == so it has the same shots ..
 --   few-cost        == .. and costs the same
+--   few-gridded     == a grid of at most two columns or rows of cells gives the same in both modes: answer, table and list
 --   few-same        == of a figure with at most three lines in a direction the outcome is the same in both modes: answer, table and list
 use Prim.Native.Nat.{ℕ, zero, suc, _+_, _*_, _-_, _≤_, _<_}
 use mathlib.Core.Path.{_≡_, refl, sym, _∙_, ap, ap₂}
@@ -164,7 +165,7 @@ module _ (g : Grid) (r : Rule) where
     unfolding delivered frameCost frameSliver frameNumbers given
     few-delivered table list = ap (λ l. given l table list) few-frame
 
-    few-gridded : (table list : List ℕ) → gridded Pinwheel g r table list ≡ gridded Straight g r table list
+    pub few-gridded : (table list : List ℕ) → gridded Pinwheel g r table list ≡ gridded Straight g r table list
     unfolding gridded
     few-gridded table list =
         ap (λ o. cond (ltb (length table) (entryCount (g .columns) (g .rows))) (refused 6 table list) o)

@@ -3,17 +3,14 @@
 --   few-figure     : a figure of fewer than eight corners has at most three x lines
 --   few-outcome    : so its outcome is the same in both modes, also where it is refused
 --   few-laid       : a grid has as few columns and rows as memory says
---   few-ruled      : so what such a grid gives is the same in both modes
 use Prim.Native.Nat.{ℕ, zero, suc, _≤_, _<_}
 use mathlib.Core.Path.{_≡_, refl, sym, _∙_, ap}
 use mathlib.Core.Bool.{Bool, true, false, cond}
 use mathlib.Core.Logic.{_⊎_, inl, inr}
-use mathlib.Core.List.{List}
 use native.Mathlib.Omega.{arith}
 use lib.Dec.{eqb}
 use lib.ListN.{length}
 use borrow.Author.Tests.{eqb-true, ne-eqb}
-use Rattle.rule.specs.declared.Rule.{Rule}
 use Rattle.rule.specs.Rules.{inRange}
 use Rattle.figure.specs.declared.Axis.the-variants.{X}
 use Rattle.figure.specs.Figure.{Figure, fault}
@@ -30,7 +27,6 @@ use Rattle.demands.specs.Promise.{Asked, drawn, ruleOf, refused, gridded, ruled
 use Rattle.demands.proofs.Outcome.{in-mode}
 use Rattle.demands.proofs.Few.{few-same}
 use Rattle.fracture.specs.Delivery.{Laid}
-use Rattle.fracture.proofs.Settled.{ruled-outcome}
 
 accepted-right : (f : Figure) → refusal f ≡ 0 → Right f
 unfolding refusal
@@ -60,10 +56,3 @@ few-outcome ask h = go (eqb (refusal (ask .figure)) 0) refl
 pub few-laid : (g : Grid) (m : Memory) → Laid g m → (m .columns ≤ 2) ⊎ (m .rows ≤ 2) → (g .columns ≤ 2) ⊎ (g .rows ≤ 2)
 few-laid g m w (inl h) = inl (omega (arith, w .columns))
 few-laid g m w (inr h) = inr (omega (arith, w .rows))
-
-pub few-ruled : (f : Figure) (r : Rule) (table list : List ℕ) → inRange (r .threshold) (r .weight) ≡ true → (grid f .columns ≤ 2) ⊎ (grid f .rows ≤ 2)
-    → ruled Straight f r table list ≡ ruled Pinwheel f r table list
-unfolding drawn
-few-ruled f r table list h k =
-    let ask : Asked = record { mode = Pinwheel; figure = f; threshold = r .threshold; weight = r .weight; table = table; list = list } in
-    ruled-outcome (in-mode Straight ask) h ∙ sym (few-same ask k) ∙ sym (ruled-outcome ask h)

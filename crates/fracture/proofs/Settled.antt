@@ -5,7 +5,6 @@
 --   answered            : the refusal of a figure is the number of its drawing's answer
 --   laid-drawing        : the grid of an accepted drawing lies in memory as the fracture of a grid expects it
 --   told-grid           : what its grid gives is what the figure gives
---   ruled-outcome       : what a rule in range gives is the outcome
 --   rule-range, rule-outcome     : the rule that was made of two numbers is in range, and what it gives is the outcome of the two numbers
 --   preset-range, preset-outcome, preset-known : the same of the default preset, which is known
 --   ahead-figure, ahead-cuts     : what is told ahead, of a figure that is refused and of one that is not
@@ -126,7 +125,7 @@ module _ (ask : Asked) where
       go false q = (ap (λ (x : Told). x .number) q, refl)
 
   -- what a rule in range gives is the outcome
-  pub ruled-outcome : inRange (ask .threshold) (ask .weight) ≡ true → ruled (ask .mode) (ask .figure) (ruleOf ask) (ask .table) (ask .list) ≡ outcome ask
+  ruled-outcome : inRange (ask .threshold) (ask .weight) ≡ true → ruled (ask .mode) (ask .figure) (ruleOf ask) (ask .table) (ask .list) ≡ outcome ask
   unfolding outcome
   ruled-outcome e =
       sym

@@ -26,8 +26,6 @@ ghost use Rattle.rule.specs.declared.Rule.{Rule};
 ghost use Rattle.rule.specs.Rules.{inRange};
 ghost use Rattle.figure.specs.Figure.{figure};
 ghost use Rattle.outline.specs.Grid.{Grid, memory};
-ghost use Rattle.outline.specs.Inside.{grid};
-ghost use Rattle.outline.specs.Promise.{refusal};
 ghost use Rattle.piece.specs.declared.Mode.the-variants.{Pinwheel};
 ghost use Rattle.piece.specs.Meant.{meant};
 ghost use Rattle.piece.specs.Cuts.{shots};
@@ -190,11 +188,9 @@ fn turns_of(columns: usize, rows: usize) -> Turns
     Turns::Few
 }
 
-// The fracture of the grid of a figure, by its size. Where there is no pinwheel the straight call gives the same. The two sizes that take the
+// The fracture of the grid of a figure, by its size. Where there is no pinwheel straight cuts give the same. The two sizes that take the
 // large store are two calls: what has two callers the compiler does not put in place, and the store would else be in the frame of every call.
 fn fracture_sized(
-    corners: &[u16],
-    lengths: &[u16],
     columns: usize,
     rows: usize,
     xs: &[u16; MOST_LINES],
@@ -204,13 +200,12 @@ fn fracture_sized(
     table: &mut [u32],
     list: &mut [u16],
 ) -> Fractured
-    requires { ⌜ inRange (rule .threshold) (rule .weight) ≡ true ⌝ }
-    requires { ⌜ (refusal (figure (now corners) (now lengths)) ≡ 0) × Laid (grid (figure (now corners) (now lengths))) (memory columns rows (now xs) (now ys) (now cells)) ⌝ }
-    ensures { λ a. ⌜ told a (now (table .exit)) (now (list .exit)) ≡ ruled Pinwheel (figure (now (corners .entry)) (now (lengths .entry))) rule (now (table .entry)) (now (list .entry)) ⌝ }
+    requires { ⌜ Fillable (memory columns rows (now xs) (now ys) (now cells)) rule ⌝ }
+    ensures { λ a. ⌜ ((g : Grid) → Laid g (memory columns rows (now (xs .entry)) (now (ys .entry)) (now (cells .entry))) → told a (now (table .exit)) (now (list .exit)) ≡ gridded Pinwheel g rule (now (table .entry)) (now (list .entry))) ⌝ }
 {
     let turns = turns_of(columns, rows);
     match turns {
-        Turns::None => crate::fracture_by(corners, lengths, rule, table, list),
+        Turns::None => crate::fracture_grid(columns, rows, xs, ys, cells, rule, table, list),
         Turns::Few => fracture_few(columns, rows, xs, ys, cells, rule, table, list),
         Turns::Wide => fracture_grid(columns, rows, xs, ys, cells, rule, table, list),
         Turns::High => fracture_grid(columns, rows, xs, ys, cells, rule, table, list),
@@ -238,18 +233,7 @@ pub fn fracture_by(
         Answer::Accepted => {
             let columns = drawing.columns;
             let rows = drawing.rows;
-            fracture_sized(
-                corners,
-                lengths,
-                columns,
-                rows,
-                &xs,
-                &ys,
-                &cells,
-                rule,
-                table,
-                list,
-            )
+            fracture_sized(columns, rows, &xs, &ys, &cells, rule, table, list)
         }
         Answer::Refused(why) => Fractured::Refused(why, 0),
     }

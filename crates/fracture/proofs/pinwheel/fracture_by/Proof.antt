@@ -1,13 +1,14 @@
 -- `fracture::pinwheel::fracture_by` meets its contract. Assumes nothing.
 use mathlib.Core.Path.{_≡_, sym, _∙_}
 use borrow.Author.Needs.{needs}
+use Rattle.rule.proofs.Rules.{range-true}
 use Rattle.figure.specs.Figure.{figure}
 use Rattle.outline.specs.Promise.{refusal, sheet}
 use Rattle.outline.proofs.Memory.{drawing-lengths}
 use Rattle.piece.specs.declared.Mode.the-variants.{Pinwheel}
 use Rattle.demands.specs.Demands.{Words}
 use Rattle.demands.proofs.Demands.{words-typed}
-use Rattle.fracture.proofs.Settled.{answered, told-figure, laid-drawing}
+use Rattle.fracture.proofs.Settled.{answered, told-figure, laid-drawing, told-grid}
 use Rattle.fracture.proofs.pinwheel.fracture_by.Statement.{statement}
 use Rattle.fracture.proofs.pinwheel.fracture_by.Tie as tie
 
@@ -40,7 +41,11 @@ fracture-sized-requires c κs =
     let t = c .before .before .before .before .before in
     let d = t .before .before in
     let s = d .before .before .before .before .before .before .before .before in
-    (s .pre, (accepted t, laid-drawing _ (sheet _ _ _ _) (d .draw .ensures) (accepted t)))
+    record {
+      grid = _;
+      laid = laid-drawing _ (sheet _ _ _ _) (d .draw .ensures) (accepted t);
+      weight = range-true _ _ (s .pre) .1;
+    }
 
 enum-known-answer : tie.Need-enum-known-answer
 enum-known-answer c = search needs
@@ -57,7 +62,12 @@ returns c =
     let f = c .before .before .before .before in
     let t = f .before .before .before .before .before .before in
     let d = t .before .before in
-    (f .fracture-sized .ensures, typed d)
+    let s = d .before .before .before .before .before .before .before .before in
+    let h = accepted t in (
+      f .fracture-sized .ensures _ (laid-drawing _ (sheet _ _ _ _) (d .draw .ensures) h)
+          ∙ told-grid Pinwheel (figure (s .args .corners .now) (s .args .lengths .now)) (s .args .rule) (s .args .table .now) (s .args .list .now) h,
+      typed d,
+    )
 
 returns-2 : tie.Need-returns-2
 unfolding sheet
