@@ -32,7 +32,7 @@
  *     pw_gdsii_read and pw_gdsii_fracture is where the record that is cut short starts; offset beside
  *     PW_TEXT is where the first line at fault starts, the length of the text where lines are lacking.
  *   - On success offset is 0.
- *   - A call takes stack and no other memory: up to 30 kB where it fractures, up to 150 kB where it
+ *   - A call takes stack and no other memory: up to 80 kB where it fractures, up to 150 kB where it
  *     fractures by pinwheels, a few kB else (measured: bindings/c/stack.c).
  *
  * All places are whole nanometres, 0 to 65535, but for those in a GDSII element, which are signed and of

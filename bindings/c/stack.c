@@ -7,7 +7,7 @@
 #include <string.h>
 #include <sys/mman.h>
 
-enum { ROOM = 1024 * 1024, PAINT = 0xA5, FRACTURE = 30 * 1000, PINWHEEL = 150 * 1000, ELSE = 8 * 1000 };
+enum { ROOM = 1024 * 1024, PAINT = 0xA5, FRACTURE = 80 * 1000, PINWHEEL = 150 * 1000, ELSE = 8 * 1000 };
 
 static uint32_t table[PW_TABLE_ENTRIES];
 static uint16_t list[PW_DIVIDED_NUMBERS];

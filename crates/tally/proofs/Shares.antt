@@ -97,7 +97,7 @@ module _ (t : List ℕ) (at c b p l r : ℕ) (long : length t ≡ 2560) (h : at 
   pub put-five : Put (five c b p l r) at t (set (set (set (set (set t at c) (512 + at) b) (1024 + at) p) (1536 + at) l) (2048 + at) r)
   put-five = record { long = simp length-set; made = made; kept = kept }
 
-five-same : (c b p l r c′ b′ p′ l′ r′ n : ℕ) → c ≡ c′ → b ≡ b′ → p ≡ p′ → l ≡ l′ → r ≡ r′ → five c b p l r n ≡ five c′ b′ p′ l′ r′ n
+pub five-same : (c b p l r c′ b′ p′ l′ r′ n : ℕ) → c ≡ c′ → b ≡ b′ → p ≡ p′ → l ≡ l′ → r ≡ r′ → five c b p l r n ≡ five c′ b′ p′ l′ r′ n
 five-same c b p l r c′ b′ p′ l′ r′ n ec eb ep el er =
     ap (λ x. five x b p l r n) ec
     ∙ ap (λ x. five c′ x p l r n) eb
@@ -105,7 +105,7 @@ five-same c b p l r c′ b′ p′ l′ r′ n ec eb ep el er =
     ∙ ap (λ x. five c′ b′ p′ x r n) el
     ∙ ap (λ x. five c′ b′ p′ l′ x n) er
 
-five-none : (n : ℕ) → n < 5 → five 0 0 0 0 0 n ≡ 0
+pub five-none : (n : ℕ) → n < 5 → five 0 0 0 0 0 n ≡ 0
 unfolding five
 five-none zero h = refl
 five-none (suc zero) h = refl
@@ -187,13 +187,13 @@ module _ (g : Grid) (xs ys cs : List ℕ) (laid : Laid g xs ys cs) where
   alone i j k l m n len hi hj hk hl em en e =
       stretch i j k l m n len hi hj hk hl em en ∙ ap (λ b. only (g .inside i j && not b) len) e
 
-  width-at : (i : ℕ) → i < g .columns → getD xs (i + 1) 0 - getD xs i 0 ≡ width g i (suc i)
+  pub width-at : (i : ℕ) → i < g .columns → getD xs (i + 1) 0 - getD xs i 0 ≡ width g i (suc i)
   unfolding width
   width-at i h =
       let e : i + 1 ≡ suc i = omega arith in
       ap₂ _-_ (ap (λ n. getD xs n 0) e ∙ laid .drawn .x-at (suc i) h) (laid .drawn .x-at i (omega arith))
 
-  height-at : (j : ℕ) → j < g .rows → getD ys (j + 1) 0 - getD ys j 0 ≡ height g j (suc j)
+  pub height-at : (j : ℕ) → j < g .rows → getD ys (j + 1) 0 - getD ys j 0 ≡ height g j (suc j)
   unfolding height
   height-at j h =
       let e : j + 1 ≡ suc j = omega arith in
@@ -228,7 +228,7 @@ module _ (g : Grid) (xs ys cs : List ℕ) (laid : Laid g xs ys cs) where
       stretch i j (suc i) j (16 * i + j) (16 * i + j + 16) len (omega arith) (omega arith) (omega arith) (omega arith) refl (omega arith)
 
   -- the shares by the lists are those of the grid
-  share-are : (r i j : ℕ) → i < g .columns → j < g .rows → shareOf xs ys cs i j r ≡ share g r i j
+  pub share-are : (r i j : ℕ) → i < g .columns → j < g .rows → shareOf xs ys cs i j r ≡ share g r i j
   unfolding shareOf share
   share-are r i j hi hj =
       let i15 : i < 15 = omega (arith, laid .sound .columns-most) in

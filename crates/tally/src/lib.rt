@@ -14,14 +14,14 @@ pub const SUMS: usize = 1024;
 
 // The shares of cells stand in five runs: whether a cell is inside, and its exposed bottom, top, left and right side. In each run the cell
 // (i, j) has its number at ROW * j + i, so that there are as many numbers as lanes from each cell of a row on.
-const ROW: usize = 32;
+pub const ROW: usize = 32;
 
-const CELL_BOTTOMS: usize = 512;
+pub const CELL_BOTTOMS: usize = 512;
 
-const CELL_TOPS: usize = 1024;
+pub const CELL_TOPS: usize = 1024;
 
-const CELL_LEFTS: usize = 1536;
+pub const CELL_LEFTS: usize = 1536;
 
-const CELL_RIGHTS: usize = 2048;
+pub const CELL_RIGHTS: usize = 2048;
 
 pub const SHARES: usize = 2560;

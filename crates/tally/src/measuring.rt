@@ -20,11 +20,11 @@ ghost use Rattle.tally.specs.Sums.{Widths};
 ghost use Rattle.tally.specs.Units.{lowNeighbour, five, shareOf, Measurable, Put, Laid, Row, UnitsTo, Units, Rising};
 
 // The number of the row beyond every frame.
-const BEYOND: usize = 15;
+pub const BEYOND: usize = 15;
 
 // Where the cell before the k-th of a row or column of cells stands, the k-th standing at `here`: a step before it. Before the first
 // there is none: a cell beyond the frame stands in for it.
-fn low_neighbour(k: usize, here: usize, step: usize, beyond: usize) -> usize
+pub fn low_neighbour(k: usize, here: usize, step: usize, beyond: usize) -> usize
     requires { ⌜ (here < 256) × ((beyond < 256) × (0 < k → step ≤ here)) ⌝ }
     ensures { λ r. ⌜ (r ≡ lowNeighbour k here step beyond) × (r < 256) ⌝ }
 {

@@ -1,0 +1,3 @@
+pub mod Dues
+pub mod Growth
+pub mod Measured
