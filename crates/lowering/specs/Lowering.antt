@@ -12,7 +12,7 @@
 --   Standing g r t cells best plan a c b d
 --                                 == and within the strip (a, c): its pieces up to (b, d) are lowered
 --   AtPiece g r t cells plan p v  == the same at the piece p with its entry, v being its least pinwheel
---   Priced g r plan p t u         == u is the list t with the cost by pinwheels at the entry of p
+--   Priced g r p t u              == u is the list t with the cost by pinwheels at the entry of p
 --   Lowerable, Standable, Weighed, Strippable, Beginnable, Startable
 --                                 == there are such a grid and such a rule: at a piece, at its first line, in a strip, at a strip, at its first
 --                                    line, and before anything is lowered
