@@ -5,21 +5,21 @@ ghost use Rattle.cif.specs.Steps.{StandsTold, LineTold, SpanTold, BoxTold};
 use crate::numeral::{Pair, two};
 
 // The four numbers of a box line, with the place past the line.
-#[derive(Drop)]
+#[derive(Clone, Copy)]
 pub enum Fields {
     Found(u32, u32, u32, u32, usize),
     Missing,
 }
 
 // The low and the high end of a shot in one direction, in whole nanometres.
-#[derive(Drop)]
+#[derive(Clone, Copy)]
 pub enum Span {
     Between(u16, u16),
     Nowhere,
 }
 
 // The shot whose box stands at a place, x low, y low, x high, y high, with the place past it.
-#[derive(Drop)]
+#[derive(Clone, Copy)]
 pub enum Boxed {
     Shot(u16, u16, u16, u16, usize),
     Wrong,

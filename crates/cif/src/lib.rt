@@ -1,4 +1,5 @@
 // A shot list as a CIF text for the viewers, one symbol in half nanometres, and back. Only this form is read, and one list has one text.
+#![tactic(auto)]
 ghost use Rattle.std.specs.Prelude.{◌≡◌};
 ghost use Rattle.cif.specs.Calls.{write_told, cif_written, read_told, ReadSays};
 
@@ -13,7 +14,7 @@ mod reading;
 mod writing;
 
 // How many bytes stand at the front of the buffer, or why none do: 21, the list is no shot list; 14, the buffer is too short.
-#[derive(Drop)]
+#[derive(Clone, Copy)]
 pub enum Written {
     Bytes(usize),
     Refused(Refusal),
@@ -21,7 +22,7 @@ pub enum Written {
 
 // How many shots stand at the front of the list, or why none do: 22 with the offset of the first line at fault; 14 with 0, the list is
 // too short.
-#[derive(Drop)]
+#[derive(Clone, Copy)]
 pub enum Listed {
     Shots(usize),
     Refused(Refusal, usize),

@@ -5,14 +5,14 @@ ghost use Rattle.cif.specs.Text.{decimal, field};
 ghost use Rattle.cif.specs.Steps.{Digit, DigitAt, NumeralTold, PairTold};
 
 // A number with the place past it.
-#[derive(Drop)]
+#[derive(Clone, Copy)]
 pub enum Numeral {
     Found(u32, usize),
     Missing,
 }
 
 // Two numbers with the place past them.
-#[derive(Drop)]
+#[derive(Clone, Copy)]
 pub enum Pair {
     Found(u32, u32, usize),
     Missing,

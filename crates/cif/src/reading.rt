@@ -6,21 +6,21 @@ ghost use Rattle.cif.specs.Steps.{BoxesTold, OpeningTold, ClosingTold, ScanTold,
 use crate::boxes::{Boxed, box_at, stands};
 
 // Where reading got to, or the line at fault.
-#[derive(Drop)]
+#[derive(Clone, Copy)]
 pub enum Past {
     At(usize),
     Wrong(usize),
 }
 
 // Boxes in a row: how many, and the place past them.
-#[derive(Drop)]
+#[derive(Clone, Copy)]
 pub struct Run {
     pub count: usize,
     pub next: usize,
 }
 
 // The number of shots of a text, or the first line at fault.
-#[derive(Drop)]
+#[derive(Clone, Copy)]
 pub enum Scanned {
     Shots(usize),
     Wrong(usize),

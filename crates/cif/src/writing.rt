@@ -8,14 +8,14 @@ ghost use Rattle.cif.specs.Steps.{MeasureTold, Reckoned, boxes_bytes};
 use crate::numeral::{put_spaced, size};
 
 // How many bytes the boxes have, or that they do not fit.
-#[derive(Drop)]
+#[derive(Clone, Copy)]
 pub enum Measured {
     Fits(usize),
     Short,
 }
 
 // The four numbers of a box line.
-#[derive(Drop)]
+#[derive(Clone, Copy)]
 pub struct Numbers {
     pub length: u32,
     pub width: u32,

@@ -1,5 +1,6 @@
 // The largest shot: the fracture of a figure for a writer that cannot expose beyond a side. The shots are those of the fracture without
 // it, each divided into parts that fit.
+#![tactic(auto)]
 ghost use Rattle.std.specs.Prelude.{◌≡◌, true, false, List, ℕ, ◌≤◌};
 ghost use Rattle.sum.specs.Sum.{sum_of, join};
 ghost use Rattle.rule.specs.Rules.{in_range, limit};
@@ -57,7 +58,7 @@ fn count_parts(shots: &[u16], n: usize, largest: u32) -> u32
 }
 
 // What a fracture reports before division: how many shots, their sliver length in nm, and how many cuts were weighed.
-#[derive(Drop)]
+#[derive(Clone, Copy)]
 struct Before {
     shots: u32,
     sliver: u32,

@@ -3,7 +3,7 @@ ghost use Rattle.std.specs.Prelude.{◌≡◌, ◌<◌, ◌≤◌, min};
 ghost use Rattle.division.specs.Steps.{side_of, edge, Solid, Parted};
 
 // Where a side begins, into how many parts it is divided, and how long they are; the first `longer` of them are 1 nm longer.
-#[derive(Drop)]
+#[derive(Clone, Copy)]
 pub struct Side {
     pub low: u32,
     pub count: u32,
@@ -12,7 +12,7 @@ pub struct Side {
 }
 
 // The two sides of a shot.
-#[derive(Drop)]
+#[derive(Clone, Copy)]
 pub struct Sides {
     pub x: Side,
     pub y: Side,

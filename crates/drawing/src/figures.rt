@@ -7,7 +7,7 @@ use job::{MOST_BYTES, MOST_OUTLINES};
 
 // How far packing has come: the bytes of the job, the figures begun, and of the figure at hand the line that it begins in, its rings and
 // corners, and those of its last ring.
-#[derive(Drop)]
+#[derive(Clone, Copy)]
 struct Drawn {
     bytes: usize,
     figures: u32,
@@ -18,7 +18,7 @@ struct Drawn {
 }
 
 // Packing goes on, or a line is bad.
-#[derive(Drop)]
+#[derive(Clone, Copy)]
 enum Taken {
     On(Drawn),
     Bad(usize, Expected),

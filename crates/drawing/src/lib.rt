@@ -3,6 +3,7 @@
 //   figure          a figure begins
 //   ring            a ring of it begins
 //   0 0             a corner of the ring
+#![tactic(auto)]
 mod figures;
 mod lines;
 mod listing;
@@ -37,7 +38,7 @@ use terminal::output::Output;
 //   Bytes         a figure with which the job has no more than 4,096 bytes
 //   Room          a job that the buffer has room for
 //   Known         a rule, figure, ring or corner, and no other word
-#[derive(Drop)]
+#[derive(Clone, Copy)]
 pub enum Expected {
     Rule,
     Numbers,
@@ -55,14 +56,14 @@ pub enum Expected {
 }
 
 // How many bytes the job has, at the front of the buffer; or the first bad line, numbered from 1, and what was expected there.
-#[derive(Drop)]
+#[derive(Clone, Copy)]
 pub enum Packed {
     Job(usize),
     Bad(usize, Expected),
 }
 
 // The output after a listing, and what the job says; or why it is refused and where, with nothing printed.
-#[derive(Drop)]
+#[derive(Clone, Copy)]
 pub struct Listed {
     pub out: Output,
     pub checked: Checked,

@@ -6,7 +6,7 @@ use crate::words::{Span, Word, is_none, next_word, number_at, word_at};
 use job::MOST_OUTLINES;
 
 // What a line says: nothing, a rule, that a figure or a ring begins, a corner; or what was expected of it.
-#[derive(Drop)]
+#[derive(Clone, Copy)]
 pub enum Says {
     Nothing,
     Rule(u32, u32),
@@ -17,7 +17,7 @@ pub enum Says {
 }
 
 // A line that was read: its number from 1, what it says, and the place where the next line begins.
-#[derive(Drop)]
+#[derive(Clone, Copy)]
 pub struct Line {
     pub line: usize,
     pub says: Says,

@@ -9,14 +9,14 @@ const BLANK: u8 = 1;
 const LETTER: u8 = 2;
 
 // Where a word stands: from a place up to another; nowhere where the two are the same.
-#[derive(Drop)]
+#[derive(Clone, Copy)]
 pub struct Span {
     pub from: usize,
     pub to: usize,
 }
 
 // The words that a line may begin with. Whatever does not begin with a letter is meant as a corner.
-#[derive(Drop)]
+#[derive(Clone, Copy)]
 pub enum Word {
     Nothing,
     Rule,

@@ -13,7 +13,7 @@ use crate::{Landed, Stretch};
 use figure::{Axis, edges};
 
 // Where a run ends, and where its stretches end up.
-#[derive(Drop)]
+#[derive(Clone, Copy)]
 pub struct Reach {
     pub to: u16,
     pub shot: usize,

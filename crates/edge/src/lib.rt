@@ -1,4 +1,5 @@
 // One edge of a figure and the shots that it ends up on.
+#![tactic(auto)]
 ghost use Rattle.std.specs.Prelude.{◌≡◌};
 ghost use Rattle.figure.specs.Figure.{figure};
 ghost use Rattle.outline.specs.Promise.{answer_no, refusal};
@@ -17,7 +18,7 @@ mod ending;
 mod numbered;
 
 // A stretch of 1 nm: at a place along an axis, from k to k + 1 along the other.
-#[derive(Drop)]
+#[derive(Clone, Copy)]
 pub struct Stretch {
     pub axis: Axis,
     pub at: u16,
@@ -25,14 +26,14 @@ pub struct Stretch {
 }
 
 // Where a stretch ends up: a shot's number from 1, 0 for none; and a side, 0 for none.
-#[derive(Drop)]
+#[derive(Clone, Copy)]
 pub struct Landed {
     pub shot: usize,
     pub side: u8,
 }
 
 // How many runs were written, or why there are none.
-#[derive(Drop)]
+#[derive(Clone, Copy)]
 pub enum Walked {
     Runs(usize),
     Refused(Refusal),

@@ -7,7 +7,7 @@ ghost use Rattle.edge.specs.Steps as step;
 use figure::{Axis, edges, rings};
 
 // Where an edge lies: at a place along the axis that it stands across, from low to high along the other.
-#[derive(Drop)]
+#[derive(Clone, Copy)]
 pub struct Span {
     pub axis: Axis,
     pub at: u16,

@@ -11,7 +11,7 @@ pub const EIGHT: usize = 8;
 
 // The pieces between the y lines low and high of a grid of so many rows, whose pairs of y lines are so many; `first` is the number of the
 // first pair whose low line is low. The strips are `width` columns wide.
-#[derive(Drop)]
+#[derive(Clone, Copy)]
 pub struct Level {
     pub rows: usize,
     pub pairs: usize,

@@ -15,7 +15,7 @@ use table::runs::LANES;
 use tally::{FLANKS, SUMS};
 
 // What a shot costs by the rule, in units of the weight: so much, and 1 for each nm of sliver; and below which extent it is one.
-#[derive(Drop)]
+#[derive(Clone, Copy)]
 pub struct Tariff {
     pub threshold: u16,
     pub price: u16,

@@ -1,4 +1,5 @@
 // Emission: the shots of a piece, written in list order.
+#![tactic(auto)]
 ghost use Rattle.std.specs.Prelude.{◌≡◌, ◌∷◌, [], ◌+◌, ◌≤◌, length, get_or};
 ghost use Rattle.std.proofs.lemmas.List.Edits.{sets};
 ghost use Rattle.recurrence.specs.Scheme.{mixed};
@@ -42,7 +43,7 @@ fn write_shot(
 }
 
 // What became of a piece that was not cut: its shots are written, one or none, up to this index; or it is mixed, and nothing is written.
-#[derive(Drop)]
+#[derive(Clone, Copy)]
 enum Settled {
     Behind(usize),
     Mixed,

@@ -7,7 +7,7 @@ use refusal::{Refusal, refusal_no};
 use terminal::errors::{say, say_number};
 
 // What can be wrong with an edge: it changes both coordinates, or neither, or the one that the edge before it changes.
-#[derive(Drop)]
+#[derive(Clone, Copy)]
 enum Fault {
     Slanted,
     Idle,
@@ -15,7 +15,7 @@ enum Fault {
 }
 
 // A corner of a ring.
-#[derive(Drop)]
+#[derive(Clone, Copy)]
 struct Corner {
     x: u16,
     y: u16,

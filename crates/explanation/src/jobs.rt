@@ -10,7 +10,7 @@ use rule::Rule;
 use terminal::errors::{say, say_number};
 
 // A number's limits.
-#[derive(Drop)]
+#[derive(Clone, Copy)]
 struct Limits {
     low: u32,
     high: u32,

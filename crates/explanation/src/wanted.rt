@@ -3,7 +3,7 @@ use figure::MOST_CORNERS;
 
 // Where in the outlines a number stands: in which outline of how many, in which ring of how many (0 before that is known), with how many
 // corners in the rings before it and in the ring itself, and which of its coordinates it is, x and y in turn.
-#[derive(Drop)]
+#[derive(Clone, Copy)]
 pub struct Spot {
     pub outline: u32,
     pub outlines: u32,
@@ -16,7 +16,7 @@ pub struct Spot {
 
 // What a number says: the rule and how many outlines there are; of an outline its corners, or 0, which announces rings, their number, and
 // the corners of each; then a coordinate; and nothing more.
-#[derive(Drop)]
+#[derive(Clone, Copy)]
 pub enum Wanted {
     Threshold,
     Weight,

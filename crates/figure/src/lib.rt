@@ -1,4 +1,6 @@
 // A figure: what depends on its corners alone.
+#![tactic(auto)]
+
 ghost use Rattle.std.specs.Prelude.{◌≡◌};
 ghost use Rattle.figure.specs.Figure.{figure, fault, shape_no};
 
@@ -8,11 +10,11 @@ pub mod edges;
 pub mod rings;
 
 // A place in whole nanometres.
-#[derive(Drop)]
+#[derive(Clone, Copy)]
 pub struct Place(pub u16);
 
 // A direction: places along x, or along y.
-#[derive(Drop)]
+#[derive(Clone, Copy)]
 pub enum Axis {
     X,
     Y,
@@ -31,7 +33,7 @@ pub const MOST_CORNERS: usize = 32;
 pub const MOST_PLACE: u32 = 65535;
 
 // What the corners alone say of a figure: it is right_angled, or the first of 2, 3, 4 whose condition holds.
-#[derive(Drop)]
+#[derive(Clone, Copy)]
 pub enum Shape {
     Right,
     Refused(Refusal),

@@ -21,7 +21,7 @@ use refusal::Refusal;
 use verdict::{Numbered, Plan};
 
 // Whether a list has room for the shots, and how many there are where it has not.
-#[derive(Drop)]
+#[derive(Clone, Copy)]
 pub enum Room {
     Enough,
     Short(usize),

@@ -1,4 +1,5 @@
 // From a figure to its shots: the fill, the delivery, and the calls; by pinwheels too in `pinwheel`.
+#![tactic(auto)]
 ghost use Rattle.std.specs.Prelude.{◌≡◌, true};
 ghost use Rattle.rule.specs.Rules.{in_range};
 ghost use Rattle.figure.specs.Figure.{figure};
@@ -29,7 +30,7 @@ pub const NUMBERS: usize = 900;
 
 // What a fracture answers: how many shots, their cost in thousandths of a shot, their sliver length in nm, and how many cuts were weighed;
 // or why there are none, and beside it how many shots there are where the list is too short for them, else 0.
-#[derive(Drop)]
+#[derive(Clone, Copy)]
 pub enum Fractured {
     Done {
         shots: u32,
@@ -41,7 +42,7 @@ pub enum Fractured {
 }
 
 // What is told of a figure ahead of its fracture: how many cuts it will weigh, or why it will be refused.
-#[derive(Drop)]
+#[derive(Clone, Copy)]
 pub enum Forecast {
     Cuts(u32),
     Refused(Refusal),

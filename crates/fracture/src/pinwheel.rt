@@ -30,7 +30,7 @@ use wheels::fill;
 const FEW: usize = 5;
 
 // The pinwheels of a grid: none, or those of few columns and rows, or of more columns, or of more rows.
-#[derive(Drop)]
+#[derive(Clone, Copy)]
 enum Turns {
     None,
     Few,

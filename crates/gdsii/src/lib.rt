@@ -1,5 +1,6 @@
 // Reading a boundary from GDSII: one element of the stream format, as a ring of corners at 0 with its shift, or fractured. The database
 // unit is taken as 1 nm.
+#![tactic(auto)]
 ghost use Rattle.std.specs.Prelude.{◌≡◌, [], ◌∷◌};
 ghost use Rattle.figure.specs.Figure.{figure};
 ghost use Rattle.outline.specs.Promise.{answer_no, refusal};
@@ -27,7 +28,7 @@ const QUALIFIED_PRESET: u32 = 0;
 
 // How many corners were handed back, and what was taken off their x and y; or why there are none, and beside 8 the offset of the record
 // cut short, else 0.
-#[derive(Drop)]
+#[derive(Clone, Copy)]
 pub enum Boundary {
     Corners {
         corners: u32,
@@ -39,7 +40,7 @@ pub enum Boundary {
 
 // What the fracture of an element answers, with the shift; or why there is none, beside 7 the shots needed, else 0, and the offset
 // likewise.
-#[derive(Drop)]
+#[derive(Clone, Copy)]
 pub enum Plate {
     Done {
         shots: u32,

@@ -7,21 +7,21 @@ ghost use Rattle.gdsii.specs.Steps.{past_told, scan_told};
 use refusal::Refusal;
 
 // Where reading got to, or the first fault: beside 8 the offset of the record cut short, else 0.
-#[derive(Drop)]
+#[derive(Clone, Copy)]
 pub enum Past {
     At(usize),
     Stopped(Refusal, usize),
 }
 
 // Points in a row: where the first one stands, and how many there are, eight bytes each.
-#[derive(Drop)]
+#[derive(Clone, Copy)]
 pub struct Run {
     pub first: usize,
     pub count: usize,
 }
 
 // The points of an element, or the first fault, likewise.
-#[derive(Drop)]
+#[derive(Clone, Copy)]
 pub enum Scanned {
     Points(Run),
     Stopped(Refusal, usize),

@@ -23,7 +23,7 @@ const FIGURE_BYTES: usize = 256;
 
 // How many bytes the new job has at the front of the buffer, and how many outlines, with the offset of each at the front of the index;
 // or why nothing was written, and beside a fault of the job the place of it.
-#[derive(Drop)]
+#[derive(Clone, Copy)]
 pub enum Changed {
     Job { bytes: usize, outlines: u32 },
     Refused(Refusal, usize),

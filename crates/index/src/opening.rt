@@ -9,7 +9,7 @@ use job::{MOST_BYTES, MOST_OUTLINES, read};
 use refusal::Refusal;
 
 // How many outlines the job has, with the offset of each at the front of the index; or why it is refused and where.
-#[derive(Drop)]
+#[derive(Clone, Copy)]
 pub enum Opened {
     Outlines(u32),
     Refused(Refusal, usize),

@@ -1,4 +1,5 @@
 // Job files: a rule and some figures as numbers of seven-bit groups. Reading, taking one figure apart, and writing.
+#![tactic(auto)]
 pub mod read;
 pub mod unpack;
 pub mod write;

@@ -15,14 +15,14 @@ use refusal::{Refusal, refusal_no};
 use rule::Rule;
 
 // Where reading got to, or the first fault.
-#[derive(Drop)]
+#[derive(Clone, Copy)]
 pub enum Past {
     At(Cursor),
     Fault(Refusal, usize),
 }
 
 // What a header says and where the figures begin, or the first fault.
-#[derive(Drop)]
+#[derive(Clone, Copy)]
 pub enum Head {
     Header {
         threshold: u32,
@@ -34,14 +34,14 @@ pub enum Head {
 }
 
 // Where a figure starts and ends, or the first fault on the way to it.
-#[derive(Drop)]
+#[derive(Clone, Copy)]
 pub enum Located {
     Part(usize, usize),
     Fault(Refusal, usize),
 }
 
 // What a job says, or why it is refused and where.
-#[derive(Drop)]
+#[derive(Clone, Copy)]
 pub enum Checked {
     Job {
         threshold: u32,

@@ -13,14 +13,14 @@ use number::{Cursor, Read};
 use refusal::Refusal;
 
 // Corners in all and rings, with both lists filled; or why the part is refused and where.
-#[derive(Drop)]
+#[derive(Clone, Copy)]
 pub enum Unpacked {
     Figure { corners: u32, rings: u32 },
     Refused(Refusal, usize),
 }
 
 // A ring that is stored: how many corners it has, and the place past its bytes.
-#[derive(Drop)]
+#[derive(Clone, Copy)]
 struct Stored {
     corners: u32,
     next: Cursor,

@@ -14,7 +14,7 @@ use refusal::Refusal;
 use rule::{Made, Rule};
 
 // How many bytes stand at the front of the buffer, or why none do.
-#[derive(Drop)]
+#[derive(Clone, Copy)]
 pub enum Written {
     Bytes(usize),
     Refused(Refusal),

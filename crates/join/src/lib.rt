@@ -1,5 +1,6 @@
 // Joining shots in pairs, for a writer that exposes an L in one flash. The table of shots is a lent slice of structs: the functions
 // that hold it are thin, and hand entries by value to those that decide.
+#![tactic(auto)]
 ghost use Rattle.std.specs.Prelude.{◌≡◌, ◌+◌, ◌*◌, ◌≤◌, ◌<◌, length};
 ghost use Rattle.join.specs.Join.{touches, can_join, as_shot, join_told, Promise};
 ghost use Rattle.join.specs.Steps.{entry_of, checked, to_join as toJoinOf, seek_from, nearer_of, settled, counted, answered, filled, set_partner, mate_of, paired, pairs_to, Fillable, Seekable, Within};
@@ -9,7 +10,7 @@ use shot::bad_shots;
 
 // A shot in the table, with its partner's number, or its own where it has none.
 #[repr(C)]
-#[derive(Drop)]
+#[derive(Clone, Copy)]
 pub struct Joined {
     pub x_low: u16,
     pub y_low: u16,
@@ -19,14 +20,14 @@ pub struct Joined {
 }
 
 // The number of flashes, or why the list is not joined.
-#[derive(Drop)]
+#[derive(Clone, Copy)]
 pub enum Pairing {
     Flashes(usize),
     Refused(Refusal),
 }
 
 // The number of shots to join, or why none is.
-#[derive(Drop)]
+#[derive(Clone, Copy)]
 pub enum Checked {
     Shots(usize),
     Refused(Refusal),

@@ -13,7 +13,7 @@ use table::numbering::pair_number;
 use table::runs::lesser;
 
 // Where the entries begin of the strips that a pinwheel with the x lines j < l takes out of the strip between a and c.
-#[derive(Drop)]
+#[derive(Clone, Copy)]
 struct Strips {
     // from a to j
     pub start: usize,

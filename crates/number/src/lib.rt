@@ -1,17 +1,19 @@
 // Numbers of a job: groups of seven bits, lowest group first, one to a byte; the top bit is set on every byte but the last.
+#![tactic(auto)]
+
 ghost use Rattle.std.specs.Prelude.{◌≡◌, ◌≤◌, ◌+◌, ◌-◌, ◌*◌};
 ghost use Rattle.number.specs.Number.{number, read_told};
 
 use refusal::Refusal;
 
 // A place in the bytes of a job.
-#[derive(Drop)]
+#[derive(Clone, Copy)]
 pub struct Cursor {
     pub at: usize,
 }
 
 // A number with the cursor past it, or a refusal with the offset of the byte at fault: where the bytes end, or the last byte read.
-#[derive(Drop)]
+#[derive(Clone, Copy)]
 pub enum Read {
     Number(u32, Cursor),
     Fault(Refusal, usize),

@@ -1,4 +1,5 @@
 // From the corners of a figure to its grid.
+#![tactic(auto)]
 ghost use Rattle.std.specs.Prelude.{◌≡◌, ◌<◌, length, get_or};
 ghost use Rattle.figure.specs.Figure.{figure};
 ghost use Rattle.figure.specs.Steps.{Right};
@@ -13,7 +14,7 @@ mod cells;
 mod rising;
 
 // The number of a line, from 0 for the lowest; x lines and y lines are numbered apart.
-#[derive(Drop)]
+#[derive(Clone, Copy)]
 pub struct Line(pub usize);
 
 // No figure has more lines each way.
@@ -23,14 +24,14 @@ pub const MOST_LINES: usize = 16;
 pub const MOST_CELLS: usize = 256;
 
 // What a figure is answered with: its grid is good, or the first of 2, 3, 4, 5 whose condition holds.
-#[derive(Drop)]
+#[derive(Clone, Copy)]
 pub enum Answer {
     Accepted,
     Refused(Refusal),
 }
 
 // The answer, and the columns and rows of the grid: 0 by 0 beside a refusal.
-#[derive(Drop)]
+#[derive(Clone, Copy)]
 pub struct Drawing {
     pub answer: Answer,
     pub columns: usize,

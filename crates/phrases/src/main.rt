@@ -1,5 +1,6 @@
 // A test that prints, on standard error: the short text of every refusal, in the order of their numbers, which tests/prep/run holds to
 // include/pinarewhemi.h; and the line of a figure that is refused by 2, which no job can show.
+#![tactic(auto)]
 use explanation::figures::explain;
 use explanation::texts::say_text;
 use refusal::Refusal;

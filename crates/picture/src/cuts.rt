@@ -29,7 +29,7 @@ const NO_COST: u64 = 1000000000000;
 const STROKES: [u64; 8] = [90, 64, 48, 36, 28, 22, 17, 13];
 
 // A piece: between the x lines a < c and the y lines b < d; how many cuts lead to it.
-#[derive(Drop)]
+#[derive(Clone, Copy)]
 struct Piece {
     a: usize,
     c: usize,
@@ -39,14 +39,14 @@ struct Piece {
 }
 
 // A cut of a piece: on an x line or on a y line; there is none on line 0.
-#[derive(Drop)]
+#[derive(Clone, Copy)]
 struct Cut {
     upright: bool,
     line: usize,
 }
 
 // Pieces that wait for their turn, so many at the front, the last of them next; and how many cuts were made.
-#[derive(Drop)]
+#[derive(Clone, Copy)]
 struct Waiting {
     numbers: [u32; 64],
     depth: usize,

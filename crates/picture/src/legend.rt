@@ -8,7 +8,7 @@ use outline::MOST_LINES;
 use terminal::output::{Output, print, print_number};
 
 // What is told of a fracture, and the rule that it went by.
-#[derive(Drop)]
+#[derive(Clone, Copy)]
 pub struct Told {
     pub shots: u32,
     pub cost: u32,

@@ -1,4 +1,5 @@
 // A figure, its shots and how they came about, as a picture (SVG) for people.
+#![tactic(auto)]
 mod cuts;
 mod labels;
 mod legend;
@@ -20,14 +21,14 @@ use spots::MOST_NUMBERS;
 use terminal::output::{Output, print};
 
 // Whether the picture was drawn, or why the figure was refused.
-#[derive(Drop)]
+#[derive(Clone, Copy)]
 pub enum Drawn {
     Done,
     Refused(Refusal),
 }
 
 // The same, and the output: beside a refusal as it was.
-#[derive(Drop)]
+#[derive(Clone, Copy)]
 pub struct Pictured {
     pub drawn: Drawn,
     pub out: Output,

@@ -19,14 +19,14 @@ const LEAST_ROOM: u64 = 200000;
 const FAR: u64 = 100000000;
 
 // How many columns and rows of cells there are.
-#[derive(Drop)]
+#[derive(Clone, Copy)]
 pub struct Grid {
     pub columns: usize,
     pub rows: usize,
 }
 
 // Four numbers of a shot, or the ends of a line.
-#[derive(Drop)]
+#[derive(Clone, Copy)]
 pub struct Shot {
     pub left: u16,
     pub bottom: u16,
@@ -35,7 +35,7 @@ pub struct Shot {
 }
 
 // The frame in nm, its longer side, where it lies on the sheet, and where the figure's room ends.
-#[derive(Drop)]
+#[derive(Clone, Copy)]
 pub struct View {
     pub left: u16,
     pub top: u16,

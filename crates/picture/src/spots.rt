@@ -12,7 +12,7 @@ const MOST_SPOTS: usize = 481;
 pub const MOST_NUMBERS: usize = 1924;
 
 // The middle of a spot, and how far it reaches from there to the side, and up and down. One that reaches nowhere is free.
-#[derive(Drop)]
+#[derive(Clone, Copy)]
 pub struct Spot {
     pub x: u64,
     pub y: u64,

@@ -1,9 +1,10 @@
 // What one piece is, and the fracture of a grid by straight cuts or by pinwheels too: definitions in specs/, laws in proofs/, and a piece,
 // the mode and the turn as the code holds them.
+#![tactic(auto)]
 use outline::Line;
 
 // A piece lies between the x lines a < c and the y lines b < d.
-#[derive(Drop)]
+#[derive(Clone, Copy)]
 pub struct Piece {
     pub a: Line,
     pub c: Line,
@@ -12,14 +13,14 @@ pub struct Piece {
 }
 
 // By straight cuts alone, or by pinwheels too.
-#[derive(Drop)]
+#[derive(Clone, Copy)]
 pub enum Mode {
     Straight,
     Pinwheel,
 }
 
 // The turn of a pinwheel: the first or the second term of the paper's equation (3).
-#[derive(Drop)]
+#[derive(Clone, Copy)]
 pub enum Turn {
     First,
     Second,

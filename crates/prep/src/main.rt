@@ -1,4 +1,5 @@
 // The job program. A program of the kit gives no status back: it ends with 0 whatever was refused or failed.
+#![tactic(auto)]
 fn main() {
     preparation::pw_prep();
 }

@@ -1,4 +1,5 @@
 // The job program as a library: reads a job, fractures each outline by the job's rule, prints the shots, and gives the status to end with.
+#![tactic(auto)]
 pub mod lines;
 mod outlines;
 

@@ -20,7 +20,7 @@ use job::unpack::{Unpacked, unpack};
 use terminal::output::Output;
 
 // What a job says before its outlines: its rule, and how many there are.
-#[derive(Drop)]
+#[derive(Clone, Copy)]
 pub struct Header {
     pub threshold: u32,
     pub weight: u32,
@@ -28,14 +28,14 @@ pub struct Header {
 }
 
 // What was unpacked of a figure: how many corners and rings it has.
-#[derive(Drop)]
+#[derive(Clone, Copy)]
 struct Shape {
     corners: usize,
     rings: usize,
 }
 
 // What became of one outline or of several: the output after their lines, and whether one was refused.
-#[derive(Drop)]
+#[derive(Clone, Copy)]
 pub struct Ran {
     pub out: Output,
     pub refused: bool,

@@ -1,1 +1,2 @@
 // The mathematics of cutting, over any sort of piece and cut: definitions in specs/, laws in proofs/, no code.
+#![tactic(auto)]

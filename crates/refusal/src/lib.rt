@@ -1,10 +1,11 @@
 // The one table of refusal numbers: every call, the C interface and the programs take their number from here.
+#![tactic(auto)]
 ghost use Rattle.std.specs.Prelude.{◌≡◌};
 ghost use Rattle.refusal.specs.Refusals.{refusal_no};
 
 // Why the answer is no, in the order of the numbers, 1 to 23. A call that tells more than the reason (the shots that there are, the
 // offset of a fault) tells it beside.
-#[derive(Drop)]
+#[derive(Clone, Copy)]
 pub enum Refusal {
     Rule,
     Length,

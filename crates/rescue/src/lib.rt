@@ -1,6 +1,7 @@
 // What is left of a job, as a library: reads a job, writes the sound job of the outlines before its first fault to standard output, and the
 // report in one line to standard error, and gives the status to end with. A job that cannot be saved is refused there in one line, and
 // nothing else is written.
+#![tactic(auto)]
 ghost use Rattle.std.specs.Prelude.{eqb, ◌&&◌, cond, ◌⊎◌, ◌≡◌};
 ghost use Rattle.rescue.specs.Status.{status};
 

@@ -91,7 +91,7 @@ pub fn ring_length(sort: usize, k: usize, ring: usize) -> usize {
 }
 
 // A ring of a figure, and the corners before its own.
-#[derive(Drop)]
+#[derive(Clone, Copy)]
 struct Ring {
     number: usize,
     before: usize,

@@ -1,5 +1,6 @@
 // Runs every row of the scope's table of drawings, the worked figures with windows, and some hundred made-up figures, by the
 // library and by a second fracturer that is written another way, and compares answer by answer, shot by shot and cost by cost.
+#![tactic(auto)]
 mod document;
 mod drawings;
 mod guarded;
@@ -12,7 +13,7 @@ use refusal::refusal_no;
 use second::{Answer, Asked, Memory};
 
 // What the library answered, and whether all of it was the same as the second's and the scope's.
-#[derive(Drop)]
+#[derive(Clone, Copy)]
 struct Compared {
     told: Answer,
     same: bool,

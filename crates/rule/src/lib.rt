@@ -1,4 +1,6 @@
 // The rule of a fracture: below which width a shot is a sliver, and what a nanometre of sliver weighs.
+#![tactic(auto)]
+
 ghost use Rattle.std.specs.Prelude.{◌≡◌, not, true, ◌≤◌, min};
 ghost use Rattle.sum.specs.Sum.{only};
 ghost use Rattle.rule.specs.Rules.{limit, made_told, row_told, rule_told, preset_told};
@@ -7,21 +9,21 @@ ghost use Rattle.rule.specs.Charge.{longer, sliver_of, spared, charge_of};
 use refusal::Refusal;
 
 // A shot whose shorter side is below the threshold (in nm) is a sliver; each exposed nm of its two longer sides weighs so many thousandths of a shot.
-#[derive(Drop)]
+#[derive(Clone, Copy)]
 pub struct Rule {
     pub threshold: u32,
     pub weight: u32,
 }
 
 // What the checked constructor answers. Refused: a number is above its limit (1).
-#[derive(Drop)]
+#[derive(Clone, Copy)]
 pub enum Made {
     Rule(Rule),
     Refused(Refusal),
 }
 
 // What the preset call answers. Refused: there is no such row (15).
-#[derive(Drop)]
+#[derive(Clone, Copy)]
 pub enum Preset {
     Row(Rule),
     Refused(Refusal),

@@ -1,4 +1,5 @@
 // What is left of a job. A program of the kit gives no status back: it ends with 0 whatever was refused, lost or failed.
+#![tactic(auto)]
 fn main() {
     rescue::pw_salvage_run();
 }

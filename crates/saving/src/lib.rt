@@ -1,5 +1,6 @@
 // Saving what is left of a job that was broken in transfer: the outlines before the first fault, and a sound job of them. No outline after
 // a fault is guessed at.
+#![tactic(auto)]
 ghost use Rattle.std.specs.Prelude.{◌≡◌, ◌++◌, ◌≤◌, length};
 ghost use Rattle.job.specs.Bytes.{header_bytes};
 ghost use Rattle.job.specs.Job.{most_bytes, most_outlines};
@@ -19,7 +20,7 @@ const HEADER_BYTES: usize = 9;
 
 // How many bytes the sound job has at the front of the buffer, how many outlines were kept, how many of those declared were lost, and how
 // many bytes were dropped; or why nothing was written, and beside a fault of the header the place of it.
-#[derive(Drop)]
+#[derive(Clone, Copy)]
 pub enum Saved {
     Job {
         bytes: usize,
@@ -31,7 +32,7 @@ pub enum Saved {
 }
 
 // Outlines that read well one after another, and where the last of them ends.
-#[derive(Drop)]
+#[derive(Clone, Copy)]
 struct Kept {
     count: u32,
     end: usize,

@@ -10,7 +10,7 @@ use table::runs;
 
 // The strip between the x lines a and c, its width in nm, and where it stands in the table: each strip has so many pairs of y lines, so
 // many entries; the first strip that begins at a has them from `first` on, this one from `at` on.
-#[derive(Drop)]
+#[derive(Clone, Copy)]
 pub struct Strip {
     pub columns: usize,
     pub pairs: usize,
@@ -22,7 +22,7 @@ pub struct Strip {
 }
 
 // Numbers of three entries that stand side by side.
-#[derive(Drop)]
+#[derive(Clone, Copy)]
 pub struct Three {
     pub first: u32,
     pub second: u32,

@@ -20,14 +20,14 @@ use rule::Rule;
 use table::{runs, sides};
 
 // The costs of the four pieces of one to four rows that begin at one line, in the order of entries.
-#[derive(Drop)]
+#[derive(Clone, Copy)]
 pub struct Four {
     pub three: Three,
     pub whole: u32,
 }
 
 // And of the five pieces of one to five rows.
-#[derive(Drop)]
+#[derive(Clone, Copy)]
 pub struct Five {
     pub four: Four,
     pub whole: u32,

@@ -14,7 +14,7 @@ use table::{runs, sides};
 
 // The sums of a piece: its cells, how many of them are inside, its height, and how much of its bottom, of its top and of its two flanks
 // is exposed, in nm. Flanks that the rule spares are not measured; then they are 0.
-#[derive(Drop)]
+#[derive(Clone, Copy)]
 pub struct Sums {
     pub cells: u32,
     pub inside: u32,

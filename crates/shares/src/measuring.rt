@@ -14,7 +14,7 @@ use tally::measuring::{BEYOND, low_neighbour};
 use tally::{CELL_BOTTOMS, CELL_LEFTS, CELL_RIGHTS, CELL_TOPS, ROW, SHARES};
 
 // The exposed bottom, top, left and right side of a cell, each 0 where the rule spares it.
-#[derive(Drop)]
+#[derive(Clone, Copy)]
 struct Sides {
     bottom: u32,
     top: u32,

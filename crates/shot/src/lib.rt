@@ -1,4 +1,6 @@
 // The four numbers of a shot, and refusal 21 of a list of them. All else is definitions in specs/ and laws in proofs/.
+#![tactic(auto)]
+
 ghost use Rattle.std.specs.Prelude.{◌≡◌};
 ghost use Rattle.shot.specs.Bad.{shot_of, empty, bad_shots};
 

@@ -1,4 +1,5 @@
 // The sliver length of one shot, from the places of its lines and the cells along its four sides.
+#![tactic(auto)]
 ghost use Rattle.std.specs.Prelude.{◌≡◌, ◌≤◌};
 ghost use Rattle.outline.specs.Grid.{Grid};
 ghost use Rattle.piece.specs.Meant.{meant};
@@ -15,7 +16,7 @@ const BEYOND: usize = 15;
 
 // One side of a piece, as its cells lie in memory: those within start at near, those across at far,
 // and the next stretch is a step on; it runs from line to line.
-#[derive(Drop)]
+#[derive(Clone, Copy)]
 struct Side {
     pub near: usize,
     pub far: usize,
@@ -62,7 +63,7 @@ fn exposed(cells: &[u8], lines: &[u16], side: Side) -> u32
 
 // Two opposite sides of a piece: they lie on the lines low and high, and run from line to line of the other direction. The cells
 // beyond the next line lie so many bytes across, those beyond the next stretch so many bytes along.
-#[derive(Drop)]
+#[derive(Clone, Copy)]
 struct Band {
     pub low: Line,
     pub high: Line,

@@ -1,5 +1,6 @@
 // The runs of our programs, for a start in C that ends with a status (c/main.c). A static library is proved anew where it is
 // made: so it is made of these few lines, and not of the libraries that hold the runs.
+#![tactic(auto)]
 
 #[unsafe(no_mangle)]
 pub extern "C" fn pw_start_prep() -> u32 {

@@ -7,7 +7,7 @@ use terminal::{DONE, FAILED};
 
 // The figure: its number, how many numbers of corners and rings of it stand at the front of two lists, and the job's rule; or the status
 // of a program that has none, which was told.
-#[derive(Drop)]
+#[derive(Clone, Copy)]
 pub struct Chosen {
     pub k: usize,
     pub numbers: usize,

@@ -19,7 +19,7 @@ use terminal::output::{Output, nothing_yet, print, print_number};
 const MOST_ELEMENT: usize = 131072;
 
 // What lies between two numbers, the first of them with it.
-#[derive(Drop)]
+#[derive(Clone, Copy)]
 struct Between {
     low: u64,
     high: u64,

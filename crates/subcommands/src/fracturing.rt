@@ -18,7 +18,7 @@ use terminal::output::{Output, nothing_yet};
 use terminal::{DONE, FAILED};
 
 // What became of one figure or of several: the output after their lines, and whether one was refused.
-#[derive(Drop)]
+#[derive(Clone, Copy)]
 struct Ran {
     out: Output,
     refused: bool,

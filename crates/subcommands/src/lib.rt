@@ -1,4 +1,5 @@
 // What people do with figures, a subcommand for each; `pinarewhemi --help` lists them.
+#![tactic(auto)]
 mod chosen;
 mod elements;
 mod fracturing;
@@ -24,7 +25,7 @@ use texts::text_words;
 use walking::walk_within;
 
 // The subcommands, and what else word 1 may be.
-#[derive(Drop)]
+#[derive(Clone, Copy)]
 pub enum Subcommand {
     Fracture,
     Picture,

@@ -4,7 +4,7 @@ use terminal::errors::{complain, say};
 
 // What the words ask for: a largest side, NO_NUMBER where none is named; pinwheels beside straight cuts. On the way: whether the next word has to
 // be the largest side; and whether a word is none that there is, which was told.
-#[derive(Drop)]
+#[derive(Clone, Copy)]
 pub struct Options {
     pub largest: usize,
     pub pinwheels: bool,

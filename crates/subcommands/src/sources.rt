@@ -19,14 +19,14 @@ pub const NUMBERS: usize = 900;
 pub const DIVIDED_NUMBERS: usize = 467856;
 
 // A job at the front of a buffer, so many bytes of it; or the status of a program that could not have one, which was told.
-#[derive(Drop)]
+#[derive(Clone, Copy)]
 pub struct Job {
     pub bytes: usize,
     pub status: u32,
 }
 
 // What a job says before its outlines; or the status of a program whose job is refused, which was told.
-#[derive(Drop)]
+#[derive(Clone, Copy)]
 pub struct Header {
     pub threshold: u32,
     pub weight: u32,
@@ -35,7 +35,7 @@ pub struct Header {
 }
 
 // How many numbers of corners, and rings, stand at the front of two lists.
-#[derive(Drop)]
+#[derive(Clone, Copy)]
 pub struct Shape {
     pub numbers: usize,
     pub rings: usize,

@@ -1,1 +1,2 @@
 // Sums over runs of lines and over lists: definitions in specs/, laws in proofs/, no code.
+#![tactic(auto)]

@@ -1,4 +1,5 @@
 // The sums of the strips of one width, side by side: inside cells and exposed sides, row by row.
+#![tactic(auto)]
 pub mod growing;
 pub mod measuring;
 

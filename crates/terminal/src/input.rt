@@ -5,7 +5,7 @@ ghost use Rattle.io.specs.Counts.{IsPrefixLen};
 use crate::waiting::{PATIENCE, worth_another};
 
 // What was read: so many bytes at the front of the buffer; and whether a read failed after them.
-#[derive(Drop)]
+#[derive(Clone, Copy)]
 pub struct Input {
     pub bytes: usize,
     pub failed: bool,

@@ -1,4 +1,5 @@
 // What our programs share: standard input, output and error, the words that a program is started with, and the files that these name.
+#![tactic(auto)]
 pub mod arguments;
 pub mod errors;
 pub mod input;

@@ -7,7 +7,7 @@ use libc::STDOUT_FILENO;
 
 // The bytes that are still to be written, so many at the front of the buffer: 255 at most, so that any count is within it. And
 // whether a write failed, after which nothing is written any more.
-#[derive(Drop)]
+#[derive(Clone, Copy)]
 pub struct Output {
     pub bytes: [u8; 256],
     pub held: u8,

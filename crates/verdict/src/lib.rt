@@ -1,4 +1,5 @@
 // What becomes of a piece, from the table of costs and the cells: its sort, and where it is mixed the parts of its cut.
+#![tactic(auto)]
 ghost use Rattle.std.specs.Prelude.{◌≡◌, List, ℕ, ◌+◌, ◌*◌, ◌≤◌, length, get_or};
 ghost use Rattle.recurrence.specs.Scheme.{mixed};
 ghost use Rattle.outline.specs.Grid.{Grid};
@@ -18,14 +19,14 @@ use rule::Rule;
 pub mod pinwheel;
 
 // A piece with its entry in the table: the parts of a cut get theirs from the search, so that no entry is reckoned anew.
-#[derive(Drop)]
+#[derive(Clone, Copy)]
 pub struct Numbered {
     pub piece: Piece,
     pub entry: usize,
 }
 
 // The sort of a piece: none of its cells is inside, or all of them are, or some are and some are not.
-#[derive(Drop)]
+#[derive(Clone, Copy)]
 pub enum Sort {
     Outside,
     Full,
@@ -33,14 +34,14 @@ pub enum Sort {
 }
 
 // The parts of a straight cut: the left or the lower one, and the right or the upper one.
-#[derive(Drop)]
+#[derive(Clone, Copy)]
 pub struct Parts {
     pub low: Numbered,
     pub high: Numbered,
 }
 
 // What a walk over the pieces goes by besides the lent slices: the size of the grid, the count of its pairs of y lines, and the rule.
-#[derive(Drop)]
+#[derive(Clone, Copy)]
 pub struct Plan {
     pub columns: usize,
     pub rows: usize,
@@ -85,7 +86,7 @@ pub fn all_inside(cells: &[u8], p: Piece) -> bool
 
 // The cuts of a piece in one direction, as the table has them: they lie on the lines between low and high, of the lines 0 to
 // last; the piece has its cost at entry, and the next pair of lines has its own a stride on.
-#[derive(Drop)]
+#[derive(Clone, Copy)]
 pub struct Cuts {
     pub last: usize,
     pub low: Line,
@@ -95,7 +96,7 @@ pub struct Cuts {
 }
 
 // A cut that was found: its line, and the entries of its two parts.
-#[derive(Drop)]
+#[derive(Clone, Copy)]
 struct Found {
     pub line: Line,
     pub lower: usize,

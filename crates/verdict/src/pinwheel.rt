@@ -21,7 +21,7 @@ use piece::{Piece, Turn};
 use table::numbering::entry;
 
 // The five parts of a pinwheel, in the order of equation (3): four arms and the inner piece.
-#[derive(Drop)]
+#[derive(Clone, Copy)]
 pub struct Wheel {
     pub first: Numbered,
     pub second: Numbered,
@@ -32,7 +32,7 @@ pub struct Wheel {
 
 // What becomes of a piece: nothing of it is inside, or all of it is one shot, or it is cut, into its low and its high part, or it falls into
 // the parts of a pinwheel.
-#[derive(Drop)]
+#[derive(Clone, Copy)]
 pub enum Turned {
     Outside,
     Shot,
@@ -41,7 +41,7 @@ pub enum Turned {
 }
 
 // What is sought: the pinwheels of a piece of one turn that cost so much.
-#[derive(Drop)]
+#[derive(Clone, Copy)]
 struct Sought {
     pub plan: Plan,
     pub piece: Piece,

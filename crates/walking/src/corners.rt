@@ -4,7 +4,7 @@ use crate::words::{line_end, padded, spaced, text, wide};
 use libc::STDOUT_FILENO;
 
 // What a job says before its figures: its rule, how many figures there are, and where the first begins.
-#[derive(Drop)]
+#[derive(Clone, Copy)]
 pub struct Header {
     pub threshold: u32,
     pub weight: u32,
@@ -13,14 +13,14 @@ pub struct Header {
 }
 
 // The bytes of a figure: from an offset to another.
-#[derive(Drop)]
+#[derive(Clone, Copy)]
 pub struct Bytes {
     pub start: usize,
     pub end: usize,
 }
 
 // An edge: the corners that it leads from and to; and where it lies, at a place, from low to high along it.
-#[derive(Drop)]
+#[derive(Clone, Copy)]
 pub struct Edge {
     pub start: usize,
     pub end: usize,

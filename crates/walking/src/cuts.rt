@@ -9,7 +9,7 @@ use crate::words::{line_end, padded, spaced, text, wide};
 use outline::{MOST_CELLS, MOST_LINES};
 
 // A cut of a piece: on an x line or on a y line; there is none on line 0.
-#[derive(Drop)]
+#[derive(Clone, Copy)]
 pub struct Cut {
     pub upright: bool,
     pub line: usize,

@@ -7,7 +7,7 @@ use crate::words::{cost, decimal, line_end, padded, spaced, text, wide};
 use fracture::Fractured;
 
 // What a fracture told; no shots where it was refused.
-#[derive(Drop)]
+#[derive(Clone, Copy)]
 pub struct Outcome {
     pub shots: u32,
     pub cost: u32,

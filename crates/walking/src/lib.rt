@@ -1,6 +1,7 @@
 // The newcomers' walk: one edge of a drawing, from the bytes of its job to the shots that it ends up on. docs/WALK.md tells it.
 //   walk                the walk over drawing B, by three rules, in numbers
 //   walk JOB K EDGE     the walk of edge number EDGE of figure K of a job, step by step
+#![tactic(auto)]
 mod block;
 mod corners;
 mod cuts;
@@ -34,7 +35,7 @@ use terminal::{DONE, FAILED, REFUSED};
 use words::text;
 
 // How many corners, as numbers, and rings were unpacked of a figure.
-#[derive(Drop)]
+#[derive(Clone, Copy)]
 struct Shape {
     numbers: usize,
     rings: usize,

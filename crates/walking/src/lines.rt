@@ -4,14 +4,14 @@ use crate::words::{line_end, padded, spaced, text, wide};
 use outline::{MOST_CELLS, MOST_LINES};
 
 // How many columns and rows of cells there are.
-#[derive(Drop)]
+#[derive(Clone, Copy)]
 pub struct Grid {
     pub columns: usize,
     pub rows: usize,
 }
 
 // Where the edge lies on the grid: on a line, from a line of the other direction to another.
-#[derive(Drop)]
+#[derive(Clone, Copy)]
 pub struct Lies {
     pub upright: bool,
     pub line: usize,

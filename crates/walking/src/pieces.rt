@@ -7,7 +7,7 @@ use outline::{Line, MOST_CELLS, MOST_LINES};
 use table::numbering::entry;
 
 // A piece: between the x lines a < c and the y lines b < d.
-#[derive(Drop)]
+#[derive(Clone, Copy)]
 pub struct Piece {
     pub a: usize,
     pub c: usize,
@@ -16,14 +16,14 @@ pub struct Piece {
 }
 
 // The rule that shots are charged by.
-#[derive(Drop)]
+#[derive(Clone, Copy)]
 pub struct Charge {
     pub threshold: u64,
     pub weight: u64,
 }
 
 // A cell by its column and row; none where `known` is false.
-#[derive(Drop)]
+#[derive(Clone, Copy)]
 pub struct Spot {
     pub i: usize,
     pub j: usize,

@@ -10,7 +10,7 @@ use table::numbering::pair_number;
 use table::runs::{LANES, lesser};
 
 // The strips of one width: the rows of cells and the pairs of y lines, the width in columns, and how many strips there are.
-#[derive(Drop)]
+#[derive(Clone, Copy)]
 pub struct Strips {
     pub rows: usize,
     pub pairs: usize,
@@ -20,7 +20,7 @@ pub struct Strips {
 
 // Pinwheels with the same lower arms. The two lower arms meet at the x line `line`; the left one ends at the y line `near`, the right one
 // at `far`; `low` and `high` are the lesser and the greater of these. The other x line lies between `after` and `before`.
-#[derive(Drop)]
+#[derive(Clone, Copy)]
 pub struct Arms {
     pub line: usize,
     pub after: usize,

@@ -14,7 +14,7 @@ use tally::{BOTTOMS, FLANKS, TOPS};
 
 // The pieces between the y lines low and high, of a grid of so many rows of cells: how many cells each has, and its height in nm.
 // `first` is the number of the first pair of y lines whose low line is low.
-#[derive(Drop)]
+#[derive(Clone, Copy)]
 pub struct Level {
     pub rows: usize,
     pub low: usize,

@@ -1,0 +1,36 @@
+-- `figure::rings::slanted` meets its contract. The invariant: what is asked is told by the rings from this one on. Assumes nothing.
+use Prim.Native.Nat.{◌-◌, ◌≤◌}
+use mathlib.Core.Path.{refl, sym, ◌∙◌}
+use native.Mathlib.Omega.{arith}
+use borrow.Author.Rules.{rules}
+use Rattle.figure.specs.Corners as t
+use Rattle.figure.proofs.Walking.{Left}
+use Rattle.figure.proofs.Walking as walk
+use Rattle.figure.proofs.rings.slanted.Goals as goal
+
+pub loop-k-init : goal.loop-k-init
+loop-k-init c = (search rules, walk.left-start _ _ _ c.requires)
+
+pub overflow_mul-to : goal.overflow_mul-to
+overflow_mul-to c = let r = walk.left-room _ _ _ _ _ _ _ c.loop-k.invariant.1 (search rules) c.wide.ensures refl in omega (arith, r)
+
+pub overflow_add-to : goal.overflow_add-to
+overflow_add-to c = let r = walk.left-room _ _ _ _ _ _ _ c.loop-k.invariant.1 (search rules) c.wide.ensures refl in omega (arith, r)
+
+pub GONE-slice-bounds-slanted-end : goal.GONE-slice-bounds-slanted-end
+GONE-slice-bounds-slanted-end c = let r = walk.left-room _ _ _ _ _ _ _ c.loop-k.invariant.1 (search rules) c.wide.ensures refl in search (rules, r.1)
+
+pub returns-then-slanted : goal.returns-then-slanted
+returns-then-slanted c =
+    walk.left_hit _ _ _ _ _ _ _ c.loop-k.invariant.1 (search rules) c.wide.ensures refl
+    (sym c.slanted.ensures ∙ c.if-slanted.true)
+
+pub loop-k-preserved : goal.loop-k-preserved
+loop-k-preserved c = (
+  search rules,
+  walk.left-more _ _ _ _ _ _ _ c.loop-k.invariant.1 (search rules) c.wide.ensures refl
+      (sym c.slanted.ensures ∙ c.if-slanted.false),
+)
+
+pub returns : goal.returns
+returns c = walk.left_end _ _ _ _ _ c.loop-k.invariant.1 (search rules)

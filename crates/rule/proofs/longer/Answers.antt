@@ -1,0 +1,19 @@
+-- `rule::longer` meets its contract: by which extent is the lesser. Assumes nothing.
+use Prim.Native.Nat.{max}
+use mathlib.Core.Path.{◌≡◌, sym, ◌∙◌, ap}
+use native.Mathlib.Omega.{arith}
+use Rattle.rule.specs.Charge.{longer}
+use Rattle.rule.proofs.Charge.{longer-upright, longer_level, longer-even}
+use Rattle.rule.proofs.longer.Goals as goal
+
+pub returns-then-width-height : goal.returns-then-width-height
+returns-then-width-height c = sym (longer-upright _ _ _ _ (omega arith))
+
+pub returns-then-height-width : goal.returns-then-height-width
+returns-then-height-width c = sym (longer_level _ _ _ _ (omega arith))
+
+pub returns-then-level-upright : goal.returns-then-level-upright
+returns-then-level-upright c = longer-even _ _ _ _ _ (omega arith) (omega arith) (omega arith)
+
+pub returns-else-level-upright : goal.returns-else-level-upright
+returns-else-level-upright c = longer-even _ _ _ _ _ (omega arith) (omega arith) (omega arith)

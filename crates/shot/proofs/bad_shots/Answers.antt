@@ -1,0 +1,22 @@
+-- `shot::bad_shots` meets its contract. The invariant: what 21 says is told by the shots from this place on. Assumes nothing.
+use Prim.Native.Nat.{◌-◌}
+use native.Mathlib.Omega.{arith}
+use borrow.Author.Rules.{rules}
+use lib.ListN.{length}
+use Rattle.shot.proofs.Bad.{Passed, passed_start, passed-empty, passed-more, passed-end, uneven_bad}
+use Rattle.shot.proofs.bad_shots.Goals as goal
+
+pub returns-then-list-ne0 : goal.returns-then-list-ne0
+returns-then-list-ne0 c = uneven_bad _ (λ e. omega arith)
+
+pub loop-at-init : goal.loop-at-init
+loop-at-init c = passed_start _ (omega arith)
+
+pub returns-then-empty : goal.returns-then-empty
+returns-then-empty c = passed-empty _ _ c.loop-at.invariant (omega arith) c.empty.ensures c.if-empty.true
+
+pub loop-at-preserved : goal.loop-at-preserved
+loop-at-preserved c = passed-more _ _ c.loop-at.invariant (omega arith) c.empty.ensures c.if-empty.false
+
+pub returns : goal.returns
+returns c = passed-end _ _ c.loop-at.invariant (omega arith)
