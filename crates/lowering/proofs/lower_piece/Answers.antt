@@ -26,7 +26,7 @@ pub least_cut-level-requires : goal.least_cut-level-requires
 least_cut-level-requires c = weighable_y _ _ _ _ _ c.requires.here.between c.args.p.piece c.args.p.entry c.requires.here.known
 
 pub offset_bounds-table-entry-2 : goal.offset_bounds-table-entry-2
-offset_bounds-table-entry-2 c = omega (arith, here-within _ _ _ _ _ c.requires.here.between c.args.p.piece c.args.p.entry c.requires.here.known, c.good.0)
+offset_bounds-table-entry-2 c = omega (arith, here-within _ _ _ _ _ c.requires.here.between c.args.p.piece c.args.p.entry c.requires.here.known, c.well_formed.0)
 
 pub bounds-table-entry-2 : goal.bounds-table-entry-2
 bounds-table-entry-2 c = here-within _ _ _ _ _ c.requires.here.between c.args.p.piece c.args.p.entry c.requires.here.known
