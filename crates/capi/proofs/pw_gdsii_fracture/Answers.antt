@@ -13,7 +13,7 @@ returns-in-Done c =
       settled = signed_lent
           (λ x y.
           plate_lent 0 c.in-Done.found c.in-Done.charged c.in-Done.long c.in-Done.weighed x y 0 c.fracture_boundary.new.table c.fracture_boundary.new.list)
-          {x = c.in-Done.dx} {y = c.in-Done.dy} (record { sfits = c.known_told-1.given.1.1.1.1.0.1 }) (record { sfits = c.known_told-1.given.1.1.1.1.1.0.1 })
+          {x = c.in-Done.dx} {y = c.in-Done.dy} (record { sfits = c.in-Done.known_told-1-own.given.1.1.1.1.0.1 }) (record { sfits = c.in-Done.known_told-1-own.given.1.1.1.1.1.0.1 })
           (told_as (λ t. plate_told t c.fracture_boundary.new.table c.fracture_boundary.new.list) c.in-Done.is
           c.fracture_boundary.ensures.settled);
     }

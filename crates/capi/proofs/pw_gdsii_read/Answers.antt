@@ -10,8 +10,8 @@ use Rattle.capi.proofs.pw_gdsii_read.Goals as goal
 pub returns-in-Corners : goal.returns-in-Corners
 returns-in-Corners c =
     record {
-      settled = signed_lent (λ x y. boundary_lent 0 c.in-Corners.n x y 0 c.read_boundary.new.list) {x = c.in-Corners.x} {y = c.in-Corners.y} (record { sfits = c.known_told-1.given.1.0.1 })
-          (record { sfits = c.known_told-1.given.1.1.0.1 })
+      settled = signed_lent (λ x y. boundary_lent 0 c.in-Corners.n x y 0 c.read_boundary.new.list) {x = c.in-Corners.x} {y = c.in-Corners.y} (record { sfits = c.in-Corners.known_told-1-own.given.1.0.1 })
+          (record { sfits = c.in-Corners.known_told-1-own.given.1.1.0.1 })
           (told_as (λ t. boundary_told t c.read_boundary.new.list) c.in-Corners.is c.read_boundary.ensures.settled);
     }
 
