@@ -24,18 +24,18 @@ fill_five-requires c =
     record { ready = to-ready _ _ _ e _ _ _ _ _ c.requires.ready; a_lt_columns = c.requires.rows_bound.1; reached = to-reached _ _ _ e _ _ _ _ _ _ _ c.requires.reached }
 
 pub returns-then-rows-eq1 : goal.returns-then-rows-eq1
-returns-then-rows-eq1 c = record { reached_2 = (back-filled _ _ _ c.if-rows-eq1.true _ _ _ _ _ _ _ _ c.fill_one.ensures).0; beyond = (back-filled _ _ _ c.if-rows-eq1.true _ _ _ _ _ _ _ _ c.fill_one.ensures).1 }
+returns-then-rows-eq1 c = record { reached_2 = (back-filled _ _ _ c.if-rows-eq1.true _ _ _ _ _ _ _ _ (c.fill_one.ensures.reached_2, c.fill_one.ensures.beyond)).0; beyond = (back-filled _ _ _ c.if-rows-eq1.true _ _ _ _ _ _ _ _ (c.fill_one.ensures.reached_2, c.fill_one.ensures.beyond)).1 }
 
 pub returns-then-rows-eq2 : goal.returns-then-rows-eq2
-returns-then-rows-eq2 c = record { reached_2 = (back-filled _ _ _ c.if-rows-eq2.true _ _ _ _ _ _ _ _ c.fill_two.ensures).0; beyond = (back-filled _ _ _ c.if-rows-eq2.true _ _ _ _ _ _ _ _ c.fill_two.ensures).1 }
+returns-then-rows-eq2 c = record { reached_2 = (back-filled _ _ _ c.if-rows-eq2.true _ _ _ _ _ _ _ _ (c.fill_two.ensures.reached_2, c.fill_two.ensures.beyond)).0; beyond = (back-filled _ _ _ c.if-rows-eq2.true _ _ _ _ _ _ _ _ (c.fill_two.ensures.reached_2, c.fill_two.ensures.beyond)).1 }
 
 pub returns-then-rows-eq3 : goal.returns-then-rows-eq3
-returns-then-rows-eq3 c = record { reached_2 = (back-filled _ _ _ c.if-rows-eq3.true _ _ _ _ _ _ _ _ c.fill_three.ensures).0; beyond = (back-filled _ _ _ c.if-rows-eq3.true _ _ _ _ _ _ _ _ c.fill_three.ensures).1 }
+returns-then-rows-eq3 c = record { reached_2 = (back-filled _ _ _ c.if-rows-eq3.true _ _ _ _ _ _ _ _ (c.fill_three.ensures.reached_2, c.fill_three.ensures.beyond)).0; beyond = (back-filled _ _ _ c.if-rows-eq3.true _ _ _ _ _ _ _ _ (c.fill_three.ensures.reached_2, c.fill_three.ensures.beyond)).1 }
 
 pub returns-then-rows-eq4 : goal.returns-then-rows-eq4
-returns-then-rows-eq4 c = record { reached_2 = (back-filled _ _ _ c.if-rows-eq4.true _ _ _ _ _ _ _ _ c.fill_four.ensures).0; beyond = (back-filled _ _ _ c.if-rows-eq4.true _ _ _ _ _ _ _ _ c.fill_four.ensures).1 }
+returns-then-rows-eq4 c = record { reached_2 = (back-filled _ _ _ c.if-rows-eq4.true _ _ _ _ _ _ _ _ (c.fill_four.ensures.reached_2, c.fill_four.ensures.beyond)).0; beyond = (back-filled _ _ _ c.if-rows-eq4.true _ _ _ _ _ _ _ _ (c.fill_four.ensures.reached_2, c.fill_four.ensures.beyond)).1 }
 
 pub returns-else-rows-eq4 : goal.returns-else-rows-eq4
 returns-else-rows-eq4 c =
     let five-are : c.args.rows ≡ 5 = five-left _ (fill_limits _ _ _ _ _ _ _ c.requires.ready).1.1.0 c.requires.rows_bound.0 c.if-rows-eq1.false c.if-rows-eq2.false c.if-rows-eq3.false c.if-rows-eq4.false in
-    record { reached_2 = (back-filled _ _ _ (five-are) _ _ _ _ _ _ _ _ c.fill_five.ensures).0; beyond = (back-filled _ _ _ (five-are) _ _ _ _ _ _ _ _ c.fill_five.ensures).1 }
+    record { reached_2 = (back-filled _ _ _ (five-are) _ _ _ _ _ _ _ _ (c.fill_five.ensures.reached_2, c.fill_five.ensures.beyond)).0; beyond = (back-filled _ _ _ (five-are) _ _ _ _ _ _ _ _ (c.fill_five.ensures.reached_2, c.fill_five.ensures.beyond)).1 }
