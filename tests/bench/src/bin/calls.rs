@@ -1,7 +1,7 @@
 //! What tests/guard/run counts or times: fractures of the guarded figures by the rule 25, 40.
 //!
 //!     calls FIGURE N   one figure N times, by the library
-//!     calls --figures  calls nothing; prints the name of each figure with the numbers that tests/guard/shipped.c reads
+//!     calls --figures  calls nothing; prints the name of each figure with the numbers of its corners
 //!     calls --time     prints each name with the library's time over that of the C++ baseline by widths: the two take
 //!                      turns, and the best of 40 rounds of each counts
 
