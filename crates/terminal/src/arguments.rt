@@ -44,6 +44,16 @@ pub fn number_of(word: &[u8]) -> usize {
     n
 }
 
+// Argument i at the front of a buffer, and its length: 0 where there is none, or it is longer than the buffer.
+pub fn argument<H: Host>(host: &H, i: usize, into: &mut [u8]) -> usize
+    ensures { IsPrefixLen result into.new }
+{
+    match host.word(i, into) {
+        Some(n) => n,
+        None => 0,
+    }
+}
+
 // The number that argument i says; NO_NUMBER where there is none, or it says none.
 pub fn number_argument<H: Host>(host: &H, i: usize) -> usize {
     let mut word = [0u8; 8];
