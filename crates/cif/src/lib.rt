@@ -1,5 +1,6 @@
 // A shot list as a CIF text for the viewers, one symbol in half nanometres, and back. Only this form is read, and one list has one text.
 #![tactic(auto)]
+
 ghost use Rattle.std.specs.Prelude.{◌≡◌};
 ghost use Rattle.cif.specs.Calls.{write_told, cif_written, read_told, ReadSays};
 

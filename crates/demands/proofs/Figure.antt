@@ -49,6 +49,7 @@ kept a cs =
 
 member_place : (l : List ℕ) (v : ℕ) → Member v l → (i : ℕ) × (i ≤ length l - 1) × (place l i ≡ v)
 unfolding place
+member_place [] v x' = elim x' [ ]
 member_place (u ∷ []) v (Member.head e) = (0, omega arith, sym e)
 member_place (u ∷ []) v (Member.tail m) = absurd (Memᴰ.not-nil m)
 member_place (u ∷ w ∷ l) v (Member.head e) = (0, omega arith, sym e)

@@ -151,6 +151,7 @@ module _ (a : Axis) where
 
   kept_member : (e : Link Corner) (es : List (Link Corner)) → Member e es → changes a e ≡ false → Member (coordinate a e.to) (kept es)
   unfolding kept join
+  kept_member e [] x'' h = elim x'' [ ]
   kept_member e (f ∷ es) (Member.head p) h =
       Memᴰ.append_left (kept es)
       (subst (λ b. Member (coordinate a e.to) (cond b [] (coordinate a f.to ∷ []))) (sym (sym (ap (changes a) p) ∙ h))

@@ -1,6 +1,7 @@
 // Reading a boundary from GDSII: one element of the stream format, as a ring of corners at 0 with its shift, or fractured. The database
 // unit is taken as 1 nm.
 #![tactic(auto)]
+
 ghost use Rattle.std.specs.Prelude.{◌≡◌, [], ◌∷◌};
 ghost use Rattle.figure.specs.Figure.{figure};
 ghost use Rattle.outline.specs.Promise.{answer_no, refusal};

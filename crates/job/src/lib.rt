@@ -1,5 +1,6 @@
 // Job files: a rule and some figures as numbers of seven-bit groups. Reading, taking one figure apart, and writing.
 #![tactic(auto)]
+
 pub mod read;
 pub mod unpack;
 pub mod write;

@@ -1,6 +1,7 @@
 // Joining shots in pairs, for a writer that exposes an L in one flash. The table of shots is a lent slice of structs: the functions
 // that hold it are thin, and hand entries by value to those that decide.
 #![tactic(auto)]
+
 ghost use Rattle.std.specs.Prelude.{◌≡◌, ◌+◌, ◌*◌, ◌≤◌, ◌<◌, length};
 ghost use Rattle.join.specs.Join.{touches, can_join, as_shot, join_told, Promise};
 ghost use Rattle.join.specs.Steps.{entry_of, checked, to_join as toJoinOf, seek_from, nearer_of, settled, counted, answered, filled, set_partner, mate_of, paired, pairs_to, Fillable, Seekable, Within};

@@ -2,6 +2,7 @@
 #![tactic(auto)]
 
 ghost use Rattle.std.specs.Prelude.{◌≡◌, ◌≤◌, ◌+◌, ◌-◌, ◌*◌};
+ghost use Rattle.number.specs.Faults.{AllBytes};
 ghost use Rattle.number.specs.Number.{number, read_told};
 
 use refusal::Refusal;
@@ -39,6 +40,7 @@ impl Cursor {
     // The number at the cursor, and the cursor moved past it. A value is held to no range here: that is for whoever wanted it.
     pub fn number(self, s: &[u8]) -> Read
         ensures settled { read_told result ≡ number s.now self.at }
+        ensures bytes { AllBytes s.now }
     {
         let at = self.at;
         if s.len() <= at {

@@ -51,6 +51,7 @@ module _ (d : ℕ) where
 
   place-moved : (l : List ℕ) → Some l → (i : ℕ) → place (map up l) i ≡ up (place l i)
   unfolding place
+  place-moved [] s i = elim s [ ]
   place-moved (u ∷ []) s i = refl
   place-moved (u ∷ v ∷ l) s zero = refl
   place-moved (u ∷ v ∷ l) s (suc i) = place-moved (v ∷ l) tt i
@@ -61,6 +62,7 @@ carried dx dy g = record { columns = g.columns; rows = g.rows; x = λ i. g.x i +
 -- some lines each way, or none
 some-lines : (l : List ℕ) → Some l → Some (rising l)
 unfolding rising insert
+some-lines [] s = elim s [ ]
 some-lines (v ∷ l) s = go v (rising l)
   where
     go : (v : ℕ) (m : List ℕ) → Some (insert v m)
@@ -119,6 +121,7 @@ module _ (dx dy : ℕ) (rs : List (List Corner)) where
   some-places a s = some-lines (map (coordinate a) (all rs)) (go (all rs) s)
     where
       go : (cs : List Corner) → Some cs → Some (map (coordinate a) cs)
+      go [] s = elim s [ ]
       go (c ∷ cs) s = tt
 
   pub grid-shifted : Some (all rs) → grid (of_rings (shifted dx dy rs)) ≡ carried dx dy (grid (of_rings rs))

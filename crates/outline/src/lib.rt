@@ -1,5 +1,6 @@
 // From the corners of a figure to its grid.
 #![tactic(auto)]
+
 ghost use Rattle.std.specs.Prelude.{◌≡◌, ◌<◌, length, get_or};
 ghost use Rattle.figure.specs.Figure.{figure};
 ghost use Rattle.figure.specs.Steps.{Right};

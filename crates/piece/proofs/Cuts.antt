@@ -102,6 +102,7 @@ member_between a c r h q = member_run (suc a) (c - suc a) r h (omega arith)
 
 module _ {A : Type 0} where
   member_left : {s : A} (l m : List A) → Member s l → Member s (l ++ m)
+  member_left {s = s} [] m x' = elim x' [ ]
   member_left (x ∷ l) m (Member.head e) = Member.head e
   member_left (x ∷ l) m (Member.tail h) = Member.tail (member_left l m h)
 
@@ -111,11 +112,13 @@ module _ {A : Type 0} where
 
 module _ {A B : Type 0} where
   member_map : (f : A → B) {s : A} (l : List A) → Member s l → Member (f s) (map f l)
+  member_map f {s = s} [] x' = elim x' [ ]
   member_map f (x ∷ l) (Member.head e) = Member.head (ap f e)
   member_map f (x ∷ l) (Member.tail h) = Member.tail (member_map f l h)
 
   member_join : (f : A → List B) {s : A} {b : B} (l : List A) → Member s l → Member b (f s) → Member b (join f l)
   unfolding join
+  member_join f {s = s} {b = b} [] x'' h = elim x'' [ ]
   member_join f {b = b} (x ∷ l) (Member.head e) h = member_left (f x) (join f l) (subst (λ y. Member b (f y)) e h)
   member_join f (x ∷ l) (Member.tail m) h = member_right (f x) (join f l) (member_join f l m h)
 

@@ -68,6 +68,7 @@ module _ {A : Type 0} (R : A → A → Type 0) where
 
   module _ (f : A → ℕ) (v : ℕ) (z : A) where
     pub first-is : (l : List A) → Sorted l → (a : A) → Member a l → f a ≡ v → ((b : A) → Member b l → R b a → f b ≡ v → ⊥) → first f v z l ≡ a
+    first-is [] h a x4 m none = elim x4 [ ]
     first-is (s ∷ l) h a (Member.head e) m none = first-yes f v z s l (ap f (sym e) ∙ m) ∙ sym e
     first-is (s ∷ l) h a (Member.tail i) m none =
         first-no f v z s l (none s (Member.head refl) (All-at (R s) i h.0))
@@ -75,6 +76,7 @@ module _ {A : Type 0} (R : A → A → Type 0) where
 
     -- whatever has the value is the first, or comes after it
     pub first-passed : (l : List A) → Sorted l → (b : A) → Member b l → f b ≡ v → (first f v z l ≡ b) ⊎ R (first f v z l) b
+    first-passed [] h b i m = elim i [ ]
     first-passed (s ∷ l) h b i m = go (λ j. first-passed l h.1 b j m) (eqb (f s) v) refl i
       where
         go : (Member b l → (first f v z l ≡ b) ⊎ R (first f v z l) b) → (t : Bool) → eqb (f s) v ≡ t → Member b (s ∷ l)

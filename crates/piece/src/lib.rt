@@ -1,6 +1,7 @@
 // What one piece is, and the fracture of a grid by straight cuts or by pinwheels too: definitions in specs/, laws in proofs/, and a piece,
 // the mode and the turn as the code holds them.
 #![tactic(auto)]
+
 use outline::Line;
 
 // A piece lies between the x lines a < c and the y lines b < d.

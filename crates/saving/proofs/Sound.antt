@@ -24,7 +24,7 @@ use Rattle.number.specs.Reading.{Reading, read, fault}
 use Rattle.number.specs.Number.{number_bytes}
 use Rattle.number.proofs.Reading.{many-length}
 use Rattle.number.proofs.Bytes.{AllBytes}
-use Rattle.job.specs.Bytes.{header_bytes, outlines_bytes, job_bytes}
+use Rattle.job.specs.Bytes.{figure_bytes, header_bytes, outlines_bytes, job_bytes}
 use Rattle.job.specs.Job.{most_bytes, most_outlines, figure_of, Part, part, outlines, Header, header, Job, job}
 use Rattle.job.specs.Calls.{no_part}
 use Rattle.job.proofs.Job.{job-whole}
@@ -100,7 +100,7 @@ save_kept s out z =
 
 rings-back : (at : ℕ) (fs : List (List (List ℕ))) → map (λ (p : Part). p.rings) (parts_of at fs) ≡ fs
 rings-back at [] = refl
-rings-back at (f ∷ fs) = ap (λ (l : List (List (List ℕ))). f ∷ l) (rings-back _ fs)
+rings-back at (f ∷ fs) = ap (λ (l : List (List (List ℕ))). f ∷ l) (rings-back (at + length (figure_bytes f)) fs)
 
 -- a header is no longer with a lower count
 

@@ -1,6 +1,7 @@
 // Saving what is left of a job that was broken in transfer: the outlines before the first fault, and a sound job of them. No outline after
 // a fault is guessed at.
 #![tactic(auto)]
+
 ghost use Rattle.std.specs.Prelude.{◌≡◌, ◌++◌, ◌≤◌, length};
 ghost use Rattle.job.specs.Bytes.{header_bytes};
 ghost use Rattle.job.specs.Job.{most_bytes, most_outlines};

@@ -1,6 +1,7 @@
 // The fill of the cost table for a grid of one to five rows of cells: straight through, with the sums of a strip and the costs
 // of its pieces in single numbers.
 #![tactic(auto)]
+
 mod cuts;
 mod rows;
 mod sums;

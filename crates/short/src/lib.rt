@@ -2,6 +2,7 @@
 // Where the weight divides 1,000, as in every preset, each cost is a multiple of it: a shot costs 1,000 / weight, and each nm of its
 // sliver one more. Eight short numbers go to a vector where four long ones do, and the least of two takes two steps and not six.
 #![tactic(auto)]
+
 ghost use Rattle.std.specs.Prelude.{◌≡◌, true, List, ℕ, ◌+◌, ◌*◌, ◌≤◌, length};
 ghost use Rattle.outline.specs.Grid.{stored};
 ghost use Rattle.table.specs.Entry.{pair_count};

@@ -1,5 +1,6 @@
 // The sliver length of one shot, from the places of its lines and the cells along its four sides.
 #![tactic(auto)]
+
 ghost use Rattle.std.specs.Prelude.{◌≡◌, ◌≤◌};
 ghost use Rattle.outline.specs.Grid.{Grid};
 ghost use Rattle.piece.specs.Meant.{meant};

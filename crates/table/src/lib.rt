@@ -1,5 +1,6 @@
 // The cost table: the entry of each piece, and the steps that the fills of it share.
 #![tactic(auto)]
+
 pub mod numbering;
 pub mod runs;
 pub mod sides;

@@ -1,5 +1,6 @@
 // The sums of the strips of one width, side by side: inside cells and exposed sides, row by row.
 #![tactic(auto)]
+
 pub mod growing;
 pub mod measuring;
 

@@ -1,5 +1,6 @@
 // What becomes of a piece, from the table of costs and the cells: its sort, and where it is mixed the parts of its cut.
 #![tactic(auto)]
+
 ghost use Rattle.std.specs.Prelude.{◌≡◌, List, ℕ, ◌+◌, ◌*◌, ◌≤◌, length, get_or};
 ghost use Rattle.recurrence.specs.Scheme.{mixed};
 ghost use Rattle.outline.specs.Grid.{Grid};

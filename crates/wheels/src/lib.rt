@@ -2,6 +2,7 @@
 // width, and all strips of one width stand side by side, so that a cut of 4, 8, 12 or 16 of them is weighed at once; all parts of a strip's
 // cuts and pinwheels are narrower. In the pinwheel mode a width's pinwheels are weighed between its vertical cuts and its settling.
 #![tactic(auto)]
+
 ghost use Rattle.std.specs.Prelude.{◌≡◌, ◌+◌, ◌*◌, ◌≤◌, ◌++◌, length, drop};
 ghost use Rattle.outline.specs.Grid.{stored};
 ghost use Rattle.piece.specs.declared.Mode.TheVariants.{Straight, Pinwheel};

@@ -4,7 +4,7 @@ use Rattle.figure.proofs.Corners
 use Rattle.figure.proofs.edges.along.Goals as goal
 
 pub returns-in-X : goal.returns-in-X
-returns-in-X c = Corners.coordinate-x _ _ _ (search rules) c.enum_told-1.given.1
+returns-in-X c = Corners.coordinate-x _ _ _ (search rules) c.in-X.is
 
 pub returns-in-Y : goal.returns-in-Y
-returns-in-Y c = Corners.coordinate-y _ _ _ (search rules) c.enum_told-in-Y-1.given.1
+returns-in-Y c = Corners.coordinate-y _ _ _ (search rules) c.in-Y.is

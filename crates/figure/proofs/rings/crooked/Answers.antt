@@ -17,8 +17,8 @@ overflow_mul-to c = let r = walk.left-room _ _ _ _ _ _ _ c.loop-k.invariant.1 (s
 pub overflow_add-to : goal.overflow_add-to
 overflow_add-to c = let r = walk.left-room _ _ _ _ _ _ _ c.loop-k.invariant.1 (search rules) c.wide.ensures refl in omega (arith, r)
 
-pub GONE-slice-bounds-crooked-end : goal.GONE-slice-bounds-crooked-end
-GONE-slice-bounds-crooked-end c = let r = walk.left-room _ _ _ _ _ _ _ c.loop-k.invariant.1 (search rules) c.wide.ensures refl in search (rules, r.1)
+pub slice_bounds-crooked-end : goal.slice_bounds-crooked-end
+slice_bounds-crooked-end c = let r = walk.left-room _ _ _ _ _ _ _ c.loop-k.invariant.1 (search rules) c.wide.ensures refl in search (rules, r.1)
 
 pub crooked-requires : goal.crooked-requires
 crooked-requires c = walk.left-some _ _ _ _ _ _ _ c.loop-k.invariant.1 (search rules) c.wide.ensures refl c.requires
@@ -29,11 +29,12 @@ returns-then-crooked c =
     (sym c.crooked.ensures ∙ c.if-crooked.true)
 
 pub loop-k-preserved : goal.loop-k-preserved
-loop-k-preserved c = (
-  search rules,
-  walk.left-more _ _ _ _ _ _ _ c.loop-k.invariant.1 (search rules) c.wide.ensures refl
-      (sym c.crooked.ensures ∙ c.if-crooked.false),
-)
+loop-k-preserved c =
+    (
+      search rules,
+      walk.left-more _ _ _ _ _ _ _ c.loop-k.invariant.1 (search rules) c.wide.ensures refl
+          (sym c.crooked.ensures ∙ c.if-crooked.false),
+    )
 
 pub returns : goal.returns
 returns c = walk.left_end _ _ _ _ _ c.loop-k.invariant.1 (search rules)

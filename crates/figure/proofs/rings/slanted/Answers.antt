@@ -17,8 +17,8 @@ overflow_mul-to c = let r = walk.left-room _ _ _ _ _ _ _ c.loop-k.invariant.1 (s
 pub overflow_add-to : goal.overflow_add-to
 overflow_add-to c = let r = walk.left-room _ _ _ _ _ _ _ c.loop-k.invariant.1 (search rules) c.wide.ensures refl in omega (arith, r)
 
-pub GONE-slice-bounds-slanted-end : goal.GONE-slice-bounds-slanted-end
-GONE-slice-bounds-slanted-end c = let r = walk.left-room _ _ _ _ _ _ _ c.loop-k.invariant.1 (search rules) c.wide.ensures refl in search (rules, r.1)
+pub slice_bounds-slanted-end : goal.slice_bounds-slanted-end
+slice_bounds-slanted-end c = let r = walk.left-room _ _ _ _ _ _ _ c.loop-k.invariant.1 (search rules) c.wide.ensures refl in search (rules, r.1)
 
 pub returns-then-slanted : goal.returns-then-slanted
 returns-then-slanted c =
@@ -26,11 +26,12 @@ returns-then-slanted c =
     (sym c.slanted.ensures ∙ c.if-slanted.true)
 
 pub loop-k-preserved : goal.loop-k-preserved
-loop-k-preserved c = (
-  search rules,
-  walk.left-more _ _ _ _ _ _ _ c.loop-k.invariant.1 (search rules) c.wide.ensures refl
-      (sym c.slanted.ensures ∙ c.if-slanted.false),
-)
+loop-k-preserved c =
+    (
+      search rules,
+      walk.left-more _ _ _ _ _ _ _ c.loop-k.invariant.1 (search rules) c.wide.ensures refl
+          (sym c.slanted.ensures ∙ c.if-slanted.false),
+    )
 
 pub returns : goal.returns
 returns c = walk.left_end _ _ _ _ _ c.loop-k.invariant.1 (search rules)

@@ -1,0 +1,16 @@
+-- `cif::reading::store` meets its contract. The invariant: the shots passed are stored, and the boxes of those left stand here. Assumes nothing.
+use Prim.Native.Nat.{◌≤◌, ◌-◌}
+use mathlib.Core.Path.{◌≡◌, ◌∙◌, refl, ap}
+use native.Mathlib.Omega.{arith}
+use borrow.Author.Rules.{rules}
+use lib.ListN.{length}
+use lib.Seq.{length-sets}
+use Rattle.cif.proofs.Boxing.{box_as, unbox_as}
+use Rattle.cif.proofs.Words.{Storing, store_start, store_none, store_more, store_end}
+use Rattle.cif.proofs.reading.store.Given as goal
+
+abbrev pub invariant-loop-i : goal.invariant-loop-i
+invariant-loop-i l = (l.next ≤ length l.text) × (length l.list ≡ length l.initial.list) × (l.i ≤ l.n) × Storing l.text l.n l.initial.list l.next l.i l.list
+
+abbrev pub decreases-loop-i : goal.decreases-loop-i
+decreases-loop-i l = l.n - l.i

@@ -1,0 +1,13 @@
+-- `cif::writing::measure` meets its contract. The invariant: what is used and what the boxes left need is what all need. Assumes nothing.
+use Prim.Native.Nat.{◌-◌}
+use native.Mathlib.Omega.{arith}
+use borrow.Author.Rules.{rules}
+use lib.ListN.{length}
+use Rattle.cif.proofs.Putting.{Measuring, upright, measure_start, measure_short, measure_more, measure_end}
+use Rattle.cif.proofs.writing.measure.Given as goal
+
+abbrev pub invariant-loop-at : goal.invariant-loop-at
+invariant-loop-at l = Measuring l.list l.room l.at l.used
+
+abbrev pub decreases-loop-at : goal.decreases-loop-at
+decreases-loop-at l = length l.list - l.at

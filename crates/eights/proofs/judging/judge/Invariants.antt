@@ -1,0 +1,12 @@
+-- `eights::judging::judge` meets its contract: the pieces in the lanes below l are settled. Assumes nothing.
+use Prim.Native.Nat.{◌-◌, ◌≤◌}
+use native.Mathlib.Omega.{arith}
+use borrow.Author.Rules.{rules}
+use Rattle.eights.proofs.Judge.{Lanes, lanes-none, lanes-more, lanes_end}
+use Rattle.eights.proofs.judging.judge.Given as goal
+
+abbrev pub invariant-loop-l : goal.invariant-loop-l
+invariant-loop-l l = (l.l ≤ 8) × Lanes l.price l.cells l.count l.sliver l.best l.at l.l l.initial.store l.store
+
+abbrev pub decreases-loop-l : goal.decreases-loop-l
+decreases-loop-l l = 8 - l.l

@@ -1,0 +1,9 @@
+-- `eights::judging::longer` meets its contract. Assumes nothing.
+use mathlib.Core.Path.{◌∙◌, ap₂}
+use Prim.Native.Nat.{max}
+use borrow.Author.Rules.{rules}
+use Rattle.eights.proofs.Judge.{longer-made}
+use Rattle.eights.proofs.judging.longer.Goals as goal
+
+pub returns : goal.returns
+returns c = longer-made _ _ _ _ _ (c.greater.ensures ∙ ap₂ max c.counted.ensures c.counted-2.ensures)

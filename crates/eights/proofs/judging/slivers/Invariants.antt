@@ -1,0 +1,15 @@
+-- `eights::judging::slivers` meets its contract: the lanes below l have their sliver lengths. Assumes nothing.
+use Prim.Native.Nat.{◌-◌, ◌≤◌}
+use mathlib.Core.Path.{refl}
+use native.Mathlib.Omega.{arith}
+use borrow.Author.Rules.{rules}
+use Rattle.table.specs.Run.{Wrote}
+use Rattle.table.proofs.Run.{wrote_none}
+use Rattle.eights.proofs.Judge.{lane_sliver, sliver-more, sliver-end}
+use Rattle.eights.proofs.judging.slivers.Given as goal
+
+abbrev pub invariant-loop-l : goal.invariant-loop-l
+invariant-loop-l l = (l.l ≤ 8) × Wrote (lane_sliver l.sums l.wide l.flanks l.height l.g l.bottom l.top) 0 l.l l.initial.sliver l.sliver
+
+abbrev pub decreases-loop-l : goal.decreases-loop-l
+decreases-loop-l l = 8 - l.l

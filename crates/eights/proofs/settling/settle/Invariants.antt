@@ -1,0 +1,12 @@
+-- `eights::settling::settle` meets its contract: the strips in the lanes below g are settled. Assumes nothing.
+use Prim.Native.Nat.{◌-◌}
+use native.Mathlib.Omega.{arith}
+use Rattle.eights.specs.Price.{sheet}
+use Rattle.eights.proofs.Pricing.{Eights, eights_none, eights_room, eights_more, eights_end}
+use Rattle.eights.proofs.settling.settle.Given as goal
+
+abbrev pub invariant-loop-g : goal.invariant-loop-g
+invariant-loop-g l = Eights (sheet l.sums l.wide l.ys l.tariff.threshold l.tariff.price l.rows l.pairs l.w l.n) l.initial.store l.store l.g
+
+abbrev pub decreases-loop-g : goal.decreases-loop-g
+decreases-loop-g l = l.n - l.g

@@ -1,0 +1,15 @@
+-- `eights::storing::store_strips` meets its contract: the strips that begin below the line a are stored. Assumes nothing.
+use Prim.Native.Nat.{◌+◌, ◌-◌, ◌≤◌}
+use mathlib.Core.Path.{◌≡◌}
+use native.Mathlib.Omega.{arith}
+use Rattle.table.specs.Entry.{pairs_below}
+use Rattle.table.proofs.Entry.{below-zero, below_next}
+use Rattle.eights.proofs.Rows.{row_here, row_fits, block_fits, block_room, Rows, rows_none, rows_more, rows_all}
+use borrow.Author.Rules.{rules}
+use Rattle.eights.proofs.storing.store_strips.Given as goal
+
+abbrev pub invariant-loop-a : goal.invariant-loop-a
+invariant-loop-a l = (l.a + l.w ≤ l.columns + 1) × ((l.row ≡ pairs_below l.columns l.a + (l.w - 1)) × Rows l.columns l.pairs l.w l.weight l.store l.initial.table l.a l.table)
+
+abbrev pub decreases-loop-a : goal.decreases-loop-a
+decreases-loop-a l = l.columns + 1 - l.a

@@ -1,0 +1,17 @@
+-- `find` meets its contract: each exit is a case of `found`. Assumes nothing.
+use native.Mathlib.Omega.{arith}
+use Rattle.index.proofs.Starts.{found-long, found-count, found-room, found_here}
+use borrow.Author.Rules.{rules}
+use Rattle.index.proofs.picking.find.Goals as goal
+
+pub returns-then-job-gt-MOST_BYTES : goal.returns-then-job-gt-MOST_BYTES
+returns-then-job-gt-MOST_BYTES c = record { settled = found-long _ _ _ _ (omega arith) }
+
+pub returns-then-count-k : goal.returns-then-count-k
+returns-then-count-k c = record { settled = found-count _ _ _ _ (omega arith) (omega arith) }
+
+pub returns-then-index-k : goal.returns-then-index-k
+returns-then-index-k c = record { settled = found-room _ _ _ _ (omega arith) (omega arith) (omega arith) }
+
+pub returns : goal.returns
+returns c = record { settled = found_here _ _ _ _ (omega arith) (omega arith) (omega arith) c.place-at.ensures c.locate.ensures }

@@ -1,0 +1,20 @@
+-- `put_all` meets its contract: what is put and what is still to be put give what the whole gives. Assumes nothing.
+use Prim.Native.Nat.{ℕ, ◌+◌, ◌-◌, ◌≤◌}
+use mathlib.Core.Path.{◌≡◌, ◌∙◌, refl, ap}
+use mathlib.Core.List.{List}
+use native.Mathlib.Omega.{arith}
+use borrow.Author.Rules.{rules}
+use lib.ListN.{length, drop}
+use lib.Seq.{sets, length-sets}
+use Rattle.job.specs.Bytes.{coordinate_bytes}
+use Rattle.job.proofs.Writing.{coordinates-done, put-more, put-room, put-done}
+use Rattle.job.proofs.write.put_all.Given as goal
+
+abbrev pub invariant-loop-i : goal.invariant-loop-i
+invariant-loop-i l = (l.i ≤ length l.corners)
+    × (length l.out ≡ length l.initial.out)
+    × (l.at + length (coordinate_bytes (drop l.i l.corners)) ≡ l.from + length (coordinate_bytes l.corners))
+    × (sets l.out l.at (coordinate_bytes (drop l.i l.corners)) ≡ sets l.initial.out l.from (coordinate_bytes l.corners))
+
+abbrev pub decreases-loop-i : goal.decreases-loop-i
+decreases-loop-i l = length l.corners - l.i

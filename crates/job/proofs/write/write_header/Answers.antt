@@ -1,0 +1,50 @@
+-- `write_header` meets its contract: each exit is a case of `header_written`. Assumes nothing.
+use mathlib.Core.Path.{ap}
+use native.Mathlib.Omega.{arith}
+use lib.ListN.{length}
+use lib.Seq.{length-sets}
+use Rattle.refusal.proofs.Refusals.{told_as}
+use Rattle.rule.specs.Rules.{made_told}
+use Rattle.rule.proofs.Rules.{rule-made, range_true}
+use Rattle.job.proofs.Writing.{header-rule, header-many, header-room, header-fits, header-put}
+use borrow.Author.Rules.{rules}
+use Rattle.job.proofs.write.write_header.Goals as goal
+
+pub returns-then-outlines-gt-MOST_OUTLINES : goal.returns-then-outlines-gt-MOST_OUTLINES
+returns-then-outlines-gt-MOST_OUTLINES c =
+    record {
+      settled = let made = rule-made _ _ (c.in-Rule.ensures.settled) in
+          header-many _ _ _ _ made.0 (omega arith);
+    }
+
+pub returns-then-out-n : goal.returns-then-out-n
+returns-then-out-n c =
+    record {
+      settled = let made = rule-made _ _ (c.in-Rule.ensures.settled) in
+          header-room _ _ _ _ made.0 c.size.ensures.0 c.size-in-Rule.ensures.0 c.size-in-Rule-2.ensures.0
+          (omega arith) (omega arith);
+    }
+
+pub put-a-requires : goal.put-a-requires
+put-a-requires c =
+    let made = rule-made _ _ (c.in-Rule.ensures.settled) in
+    omega (arith, range_true _ _ made.0)
+
+pub put-b-requires : goal.put-b-requires
+put-b-requires c =
+    let made = rule-made _ _ (c.in-Rule.ensures.settled) in
+    omega (arith, range_true _ _ made.0, simp length-sets at (ap length c.put-a.ensures.1))
+
+pub returns-in-Refused : goal.returns-in-Refused
+returns-in-Refused c = record { settled = header-rule _ _ _ _ c.in-Refused.why (c.in-Refused.ensures.settled) }
+
+pub returns-else-out-n : goal.returns-else-out-n
+returns-else-out-n c =
+    record {
+      settled = let made = rule-made _ _ (c.in-Rule.ensures.settled) in
+          let put =
+          header-put _ _ _ _ _ _ _ _ _ c.put-a.ensures.0 c.put-a.ensures.1 c.put-b.ensures.0 c.put-b.ensures.1
+          c.put.ensures.1
+          in
+          header-fits _ _ _ _ made.0 c.size.ensures.0 c.size-in-Rule.ensures.0 c.size-in-Rule-2.ensures.0 (omega arith) _ put (omega arith);
+    }

@@ -1,0 +1,20 @@
+-- `keep` meets its contract: those read so far are read in a row. Assumes nothing.
+use Prim.Native.Nat.{◌-◌, ◌≤◌}
+use native.Mathlib.Omega.{arith}
+use Rattle.refusal.proofs.Refusals.{told_as}
+use Rattle.job.specs.Steps.{located_told}
+use Rattle.saving.proofs.Keeping.{Keeping, keeping_start, keeping_more, keeping_fault, keeping_done}
+use borrow.Author.Rules.{rules}
+use Rattle.saving.proofs.keep.Goals as goal
+
+pub loop-n-init : goal.loop-n-init
+loop-n-init c = (omega arith, keeping_start _ _)
+
+pub returns-in-Fault : goal.returns-in-Fault
+returns-in-Fault c = keeping_fault _ _ _ _ c.loop-n.invariant.1 _ (c.in-Fault.ensures) (omega arith)
+
+pub loop-n-preserved : goal.loop-n-preserved
+loop-n-preserved c = (omega arith, keeping_more _ _ _ _ c.loop-n.invariant.1 (c.in-Part.ensures))
+
+pub returns : goal.returns
+returns c = keeping_done _ _ _ _ c.loop-n.invariant.1 _ (omega arith) (omega arith)

@@ -1,0 +1,21 @@
+-- `shallow::rows::fill_one` meets its contract: the strips that end below the line c are filled. Assumes nothing.
+use Prim.Native.Nat.{◌+◌, ◌*◌, ◌-◌, ◌≤◌}
+use mathlib.Core.Path.{◌≡◌, refl, sym}
+use native.Mathlib.Omega.{arith}
+use lib.ListN.{length}
+use Rattle.outline.specs.Grid.{Grid, stored}
+use Rattle.table.specs.Entry.{pairs_below, pair_count}
+use Rattle.shallow.specs.declared.cuts.Strip.{Strip}
+use Rattle.shallow.specs.Sums.{Summed}
+use Rattle.shallow.specs.Rows.{OneRow}
+use Rattle.shallow.proofs.Settling.{pairs-one, one_wrote}
+use Rattle.shallow.proofs.Filling.{Strips, Turn, asks_empty, asks_span, asks_grown, columns-few, row-empty, row_next, turn-first, turn-start, turn_more, turn_end, turn-room, turn_one, one_right}
+use borrow.Author.Rules.{rules}
+use Rattle.shallow.proofs.rows.fill_one.Given as goal
+
+abbrev pub invariant-loop-c : goal.invariant-loop-c
+invariant-loop-c l = Strips (stored l.columns 1 l.xs l.ys l.cells) l.rule l.a.0 l.c l.at l.initial.table l.table
+    × Summed (stored l.columns 1 l.xs l.ys l.cells) l.a.0 (l.c - 1) 0 1 l.row
+
+abbrev pub decreases-loop-c : goal.decreases-loop-c
+decreases-loop-c l = l.columns + 1 - l.c

@@ -1,0 +1,17 @@
+-- `shallow::sums::grown` meets its contract. Assumes nothing.
+use native.Mathlib.Omega.{arith}
+use Rattle.shallow.proofs.Summing.{grown-made}
+use borrow.Author.Rules.{rules}
+use Rattle.shallow.proofs.sums.grown.Goals as goal
+
+pub overflow_add-result-4 : goal.overflow_add-result-4
+overflow_add-result-4 c = omega (arith, c.exposed-top.ensures.1, c.requires.small.0.top, c.requires.small.1)
+
+pub returns : goal.returns
+returns c =
+    grown-made c.args.cells.now c.args.rule c.args.strip c.args.step c.args.j c.args.row _ _ _ _ _
+    c.count-inside.ensures.0
+    c.below-under.ensures
+    c.exposed-bottom.ensures.0
+    c.exposed-top.ensures.0
+    c.flanks-flanks.ensures.0

@@ -1,0 +1,9 @@
+-- `shallow::sums::stacked` meets its contract. Assumes nothing.
+use mathlib.Core.Path.{refl}
+use borrow.Author.Rules.{rules}
+use Rattle.shallow.specs.Sums.{stacked_of}
+use Rattle.shallow.proofs.sums.stacked.Goals as goal
+
+pub returns : goal.returns
+unfolding stacked_of
+returns c = refl

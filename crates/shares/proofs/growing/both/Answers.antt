@@ -1,0 +1,8 @@
+-- `shares::growing::both` meets its contract. Assumes nothing.
+use Rattle.std.proofs.Common.{rules}
+use Rattle.shares.specs.Shares.{wrap}
+use Rattle.shares.proofs.growing.both.Goals as goal
+
+pub returns : goal.returns
+unfolding wrap
+returns c = c.wrapping_add_u16.ensures.value

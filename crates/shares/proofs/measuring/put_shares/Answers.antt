@@ -1,0 +1,7 @@
+-- `shares::measuring::put_shares` meets its contract. Assumes nothing.
+use Rattle.tally.proofs.Shares.{put_five}
+use Rattle.std.proofs.Common.{rules}
+use Rattle.shares.proofs.measuring.put_shares.Goals as goal
+
+pub returns : goal.returns
+returns c = put_five _ _ _ _ _ _ _ c.requires.short_len.0 c.requires.short_len.1

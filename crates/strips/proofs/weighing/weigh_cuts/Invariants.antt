@@ -1,0 +1,15 @@
+-- `strips::weighing::weigh_cuts` meets its contract: the cuts below the line j are weighed. Assumes nothing.
+use Prim.Native.Nat.{◌+◌, ◌-◌, ◌*◌, ◌≤◌, ◌<◌}
+use mathlib.Core.Path.{◌≡◌}
+use native.Mathlib.Omega.{arith}
+use Rattle.table.specs.Entry.{pairs_below}
+use Rattle.table.proofs.Pairs.{row-most}
+use Rattle.strips.proofs.Chunk.{cut-rows, row_fits, piece_fits, first-most, lower-first, lower-next, upper_first, upper-next, Cuts, cuts-none, cuts_fit, cuts-more, cuts-all}
+use borrow.Author.Rules.{rules}
+use Rattle.strips.proofs.weighing.weigh_cuts.Given as goal
+
+abbrev pub invariant-loop-j : goal.invariant-loop-j
+invariant-loop-j l = (l.a < l.j) × ((l.j ≤ l.a + l.w) × ((l.lower ≡ (l.first + (l.j - l.a - 1)) * l.pairs + l.e) × ((l.upper + l.pairs ≡ (pairs_below l.columns l.j + (l.a + l.w - l.j)) * l.pairs + l.e) × Cuts l.columns l.pairs l.a (l.a + l.w) l.e l.n l.table l.initial.best l.j l.best)))
+
+abbrev pub decreases-loop-j : goal.decreases-loop-j
+decreases-loop-j l = l.a + l.w - l.j

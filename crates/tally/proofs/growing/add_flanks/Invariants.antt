@@ -1,0 +1,15 @@
+-- `tally::growing::add_flanks` meets its contract: the strips before the l-th have their flanks. Assumes nothing.
+use Prim.Native.Nat.{◌-◌, ◌≤◌}
+use native.Mathlib.Omega.{arith}
+use Rattle.table.specs.Run.{Wrote}
+use Rattle.table.proofs.Run.{wrote_none, wrote_end}
+use Rattle.tally.specs.Growth.{flank_sum}
+use Rattle.tally.proofs.Growth.{flank_fits, flank_more}
+use borrow.Author.Rules.{rules}
+use Rattle.tally.proofs.growing.add_flanks.Given as goal
+
+abbrev pub invariant-loop-l : goal.invariant-loop-l
+invariant-loop-l l = (l.l ≤ 16) × Wrote (flank_sum l.unit l.left l.right) l.at l.l l.initial.sums l.sums
+
+abbrev pub decreases-loop-l : goal.decreases-loop-l
+decreases-loop-l l = 16 - l.l

@@ -1,0 +1,12 @@
+-- `verdict::all_inside` meets its contract. The loop's invariant: every cell of the columns passed is inside. Assumes nothing.
+use Prim.Native.Nat.{◌≤◌, ◌-◌}
+use native.Mathlib.Omega.{arith}
+use borrow.Author.Rules.{rules}
+use Rattle.verdict.proofs.Search.{Clear, clear_none, clear_more, inside-not, inside-all}
+use Rattle.verdict.proofs.all_inside.Given as goal
+
+abbrev pub invariant-loop-i : goal.invariant-loop-i
+invariant-loop-i l = (l.initial.i ≤ l.i) × Clear l.cells l.initial.i l.b.0 l.top l.i
+
+abbrev pub decreases-loop-i : goal.decreases-loop-i
+decreases-loop-i l = l.end - l.i

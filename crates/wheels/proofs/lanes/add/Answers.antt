@@ -1,0 +1,16 @@
+-- `wheels::lanes::add` meets its contract: the lanes before the l-th are summed up. Assumes nothing.
+use Rattle.std.proofs.Common.{◌-◌, ◌≤◌, arith, rules}
+use Rattle.table.specs.Run.{Wrote}
+use Rattle.table.proofs.Run.{wrote_none, wrote_end}
+use Rattle.wheels.specs.Wheel.{joined}
+use Rattle.wheels.proofs.Steps.{joined-more}
+use Rattle.wheels.proofs.lanes.add.Goals as goal
+
+pub loop-l-init : goal.loop-l-init
+loop-l-init c = (omega arith, wrote_none _ _ _)
+
+pub loop-l-preserved : goal.loop-l-preserved
+loop-l-preserved c = (omega arith, joined-more _ _ _ c.loop-l.sums _ _ c.args.lanes c.loop-l.l _ c.requires.0 (omega arith) c.together.ensures c.loop-l.invariant.1)
+
+pub returns : goal.returns
+returns c = wrote_end _ _ _ _ _ _ c.loop-l.invariant.0 c.loop-l-test.false c.loop-l.invariant.1

@@ -1,0 +1,12 @@
+-- `wheels::turning::weigh_pairs` meets its contract: the pinwheels of both turns below the line m are weighed. Assumes nothing.
+use Rattle.std.proofs.Common.{◌+◌, ◌-◌, ◌<◌, ◌≤◌, ◌∙◌, arith}
+use Rattle.wheels.specs.Wheel.{Weighed, Among, BothTurns}
+use Rattle.wheels.proofs.Weighed.{among_none}
+use Rattle.wheels.proofs.Turns.{first_turning, second_turning, first_fitting, second_fitting, both-more, pairs_end}
+use Rattle.wheels.proofs.turning.weigh_pairs.Given as goal
+
+abbrev pub invariant-loop-m : goal.invariant-loop-m
+invariant-loop-m l = (l.k < l.m) × ((l.m ≤ l.s.rows) × Weighed l.s.count (Among (l.k + 1) l.m (BothTurns l.store l.s l.line l.k)) l.initial.side l.side)
+
+abbrev pub decreases-loop-m : goal.decreases-loop-m
+decreases-loop-m l = l.s.rows - l.m
