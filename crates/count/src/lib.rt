@@ -1,6 +1,7 @@
 // How many cuts a fracture of a grid weighs: of each piece with cells of both sorts, the lines strictly between its ends. It is faster
 // to count the lines within the pieces of one sort, and to take them from those within all pieces.
 #![tactic(auto)]
+
 ghost use Rattle.std.specs.Prelude.{◌≡◌, ◌≤◌, length};
 ghost use Rattle.outline.specs.Grid.{Grid};
 ghost use Rattle.demands.specs.Cuts.{weighed_cuts};

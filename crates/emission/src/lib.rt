@@ -1,5 +1,6 @@
 // Emission: the shots of a piece, written in list order.
 #![tactic(auto)]
+
 ghost use Rattle.std.specs.Prelude.{◌≡◌, ◌∷◌, [], ◌+◌, ◌≤◌, length, get_or};
 ghost use Rattle.std.proofs.lemmas.List.Edits.{sets};
 ghost use Rattle.recurrence.specs.Scheme.{mixed};

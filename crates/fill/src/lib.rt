@@ -1,6 +1,7 @@
 // The fill: the cost of every piece of a grid, into a table that the caller lends. A grid of one to five rows of cells is filled straight
 // through; a higher one by widths, in short numbers where they are enough, else in long ones: all promise the same.
 #![tactic(auto)]
+
 ghost use Rattle.std.specs.Prelude.{◌≡◌, ◌++◌, ◌≤◌, length, drop};
 ghost use Rattle.outline.specs.Grid.{stored};
 ghost use Rattle.piece.specs.declared.Mode.TheVariants.{Straight};

@@ -1,5 +1,6 @@
 // From a figure to its shots: the fill, the delivery, and the calls; by pinwheels too in `pinwheel`.
 #![tactic(auto)]
+
 ghost use Rattle.std.specs.Prelude.{◌≡◌, true};
 ghost use Rattle.rule.specs.Rules.{in_range};
 ghost use Rattle.figure.specs.Figure.{figure};

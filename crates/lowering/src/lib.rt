@@ -3,6 +3,7 @@
 // horizontal cuts, by the table, in which all its parts have been lowered before it. What is outside or full, and what has fewer than three columns
 // or rows, costs the same by pinwheels.
 #![tactic(auto)]
+
 ghost use Rattle.std.specs.Prelude.{◌+◌};
 ghost use Rattle.outline.specs.Grid.{Grid};
 ghost use Rattle.rule.specs.declared.Rule.{Rule};

@@ -1,0 +1,11 @@
+-- `count::corners::spared` meets its contract: the columns from the last one back. Assumes nothing.
+use native.Mathlib.Omega.{arith}
+use borrow.Author.Rules.{rules}
+use Rattle.count.proofs.Climbing.{Widening, widening_none, widening_ready, widening_climbable, widening_more, passing_end}
+use Rattle.count.proofs.corners.spared.Given as goal
+
+abbrev pub invariant-loop-column : goal.invariant-loop-column
+invariant-loop-column l = Widening l.cells l.columns l.rows l.column l.reaches l.sum
+
+abbrev pub decreases-loop-column : goal.decreases-loop-column
+decreases-loop-column l = l.column

@@ -1,0 +1,16 @@
+-- `count::corners::widen` meets its contract: the rows before the j-th have their reach. Assumes nothing.
+use Prim.Native.Nat.{◌-◌, ◌≤◌}
+use native.Mathlib.Omega.{arith}
+use borrow.Author.Rules.{rules}
+use Rattle.table.specs.Run.{Wrote}
+use Rattle.table.proofs.Run.{wrote_none, wrote_end}
+use Rattle.count.specs.Corners.{widened}
+use Rattle.count.proofs.Climbing.{widen_more, widen_few}
+use Rattle.count.proofs.corners.farther.Reads as farther-reads
+use Rattle.count.proofs.corners.widen.Given as goal
+
+abbrev pub invariant-loop-j : goal.invariant-loop-j
+invariant-loop-j l = (l.j ≤ l.rows) × Wrote (widened l.cells l.column l.initial.reaches) 0 l.j l.initial.reaches l.reaches
+
+abbrev pub decreases-loop-j : goal.decreases-loop-j
+decreases-loop-j l = l.rows - l.j

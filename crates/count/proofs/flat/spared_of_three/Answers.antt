@@ -1,0 +1,66 @@
+-- `count::flat::spared_of_three` meets its contract: the columns passed. Assumes nothing.
+use Prim.Native.Nat.{◌-◌, ◌<◌}
+use mathlib.Core.Path.{◌≡◌, refl}
+use native.Mathlib.Omega.{arith}
+use borrow.Author.Rules.{rules}
+use Rattle.count.specs.Corners.{reach_at}
+use Rattle.count.proofs.Climbing.{Passing, passing_none, passing_more, passing_end}
+use Rattle.count.proofs.Singles.{reach_none, reach_few, reach_more, reach_range, spared-three}
+use Rattle.count.proofs.flat.reach_from.Reads as reach-from-reads
+use Rattle.count.proofs.flat.of_three.Reads as of-three-reads
+use Rattle.count.proofs.flat.spared_of_three.Goals as goal
+
+pub loop-column-init : goal.loop-column-init
+loop-column-init c = (passing_none _ _ _, reach_none _ _ 0, reach_none _ _ 1, reach_none _ _ 2)
+
+pub overflow_mul-at : goal.overflow_mul-at
+overflow_mul-at c = (omega (arith, c.requires.1, c.loop-column.invariant.0.to))
+
+pub reach_from-low-requires : goal.reach_from-low-requires
+reach_from-low-requires c = (c.requires.0, (omega (arith, c.requires.1, c.loop-column.invariant.0.to, c.loop-column-test.true), (omega arith, reach_few _ _ _ 0 _ c.requires.1 c.loop-column.invariant.1)))
+
+pub reach_from-middle-requires : goal.reach_from-middle-requires
+reach_from-middle-requires c = (c.requires.0, (omega (arith, c.requires.1, c.loop-column.invariant.0.to, c.loop-column-test.true), (omega arith, reach_few _ _ _ 1 _ c.requires.1 c.loop-column.invariant.2)))
+
+pub reach_from-high-requires : goal.reach_from-high-requires
+reach_from-high-requires c = (c.requires.0, (omega (arith, c.requires.1, c.loop-column.invariant.0.to, c.loop-column-test.true), (omega arith, reach_few _ _ _ 2 _ c.requires.1 c.loop-column.invariant.3)))
+
+pub bounds-cells-at : goal.bounds-cells-at
+bounds-cells-at c = (omega (arith, c.requires.0, c.requires.1, c.loop-column.invariant.0.to, c.loop-column-test.true))
+
+pub overflow_add-at : goal.overflow_add-at
+overflow_add-at c = (omega (arith, c.requires.0, c.requires.1, c.loop-column.invariant.0.to, c.loop-column-test.true))
+
+pub bounds-cells-at-in-loop-column : goal.bounds-cells-at-in-loop-column
+bounds-cells-at-in-loop-column c = (omega (arith, c.requires.0, c.requires.1, c.loop-column.invariant.0.to, c.loop-column-test.true))
+
+pub overflow_add-at-in-loop-column : goal.overflow_add-at-in-loop-column
+overflow_add-at-in-loop-column c = (omega (arith, c.requires.0, c.requires.1, c.loop-column.invariant.0.to, c.loop-column-test.true))
+
+pub bounds-cells-at-in-loop-column-2 : goal.bounds-cells-at-in-loop-column-2
+bounds-cells-at-in-loop-column-2 c = (omega (arith, c.requires.0, c.requires.1, c.loop-column.invariant.0.to, c.loop-column-test.true))
+
+pub of_three-sum-requires : goal.of_three-sum-requires
+of_three-sum-requires c =
+    let now-low : (c.reach_from-low.result ≡ reach_at c.args.cells.now c.args.columns (c.loop-column.column - 1) 0) = (reach_more _ _ _ 0 _ _ c.loop-column-test.true c.loop-column.invariant.0.to c.loop-column.invariant.1 c.reach_from-low.ensures) in
+    let now-middle : (c.reach_from-middle.result ≡ reach_at c.args.cells.now c.args.columns (c.loop-column.column - 1) 1) = (reach_more _ _ _ 1 _ _ c.loop-column-test.true c.loop-column.invariant.0.to c.loop-column.invariant.2 c.reach_from-middle.ensures) in
+    let now-high : (c.reach_from-high.result ≡ reach_at c.args.cells.now c.args.columns (c.loop-column.column - 1) 2) = (reach_more _ _ _ 2 _ _ c.loop-column-test.true c.loop-column.invariant.0.to c.loop-column.invariant.3 c.reach_from-high.ensures) in
+    let k : c.loop-column.column - 1 < c.args.columns = omega (arith, c.loop-column.invariant.0.to, c.loop-column-test.true) in
+    (reach_range _ _ _ 0 _ k c.requires.1 (now-low), (reach_range _ _ _ 1 _ k c.requires.1 (now-middle), reach_range _ _ _ 2 _ k c.requires.1 (now-high)))
+
+pub overflow_add-sum : goal.overflow_add-sum
+overflow_add-sum c = (omega (arith, c.loop-column.invariant.0.small, c.requires.1, c.of_three-sum.ensures.1))
+
+pub loop-column-preserved : goal.loop-column-preserved
+loop-column-preserved c =
+    let now-low : (c.reach_from-low.result ≡ reach_at c.args.cells.now c.args.columns (c.loop-column.column - 1) 0) = (reach_more _ _ _ 0 _ _ c.loop-column-test.true c.loop-column.invariant.0.to c.loop-column.invariant.1 c.reach_from-low.ensures) in
+    let now-middle : (c.reach_from-middle.result ≡ reach_at c.args.cells.now c.args.columns (c.loop-column.column - 1) 1) = (reach_more _ _ _ 1 _ _ c.loop-column-test.true c.loop-column.invariant.0.to c.loop-column.invariant.2 c.reach_from-middle.ensures) in
+    let now-high : (c.reach_from-high.result ≡ reach_at c.args.cells.now c.args.columns (c.loop-column.column - 1) 2) = (reach_more _ _ _ 2 _ _ c.loop-column-test.true c.loop-column.invariant.0.to c.loop-column.invariant.3 c.reach_from-high.ensures) in (
+      passing_more _ c.loop-column.invariant.0 c.loop-column-test.true (spared-three _ _ _ _ _ _ _ _ refl (now-low) (now-middle) (now-high) c.of_three-sum.ensures.0) (omega (arith, c.of_three-sum.ensures.1)),
+      now-low,
+      now-middle,
+      now-high,
+    )
+
+pub returns : goal.returns
+returns c = passing_end c.loop-column.invariant.0 c.loop-column-test.false

@@ -1,0 +1,43 @@
+-- `lowering::lower_strips` meets its contract. The loop's invariant: the strips that begin at a and end below c are lowered. Assumes nothing.
+use Prim.Native.Nat.{◌+◌, ◌-◌, ◌≤◌}
+use native.Mathlib.Omega.{arith}
+use borrow.Author.Rules.{rules}
+use Rattle.outline.specs.Grid.{Grid}
+use Rattle.rule.specs.declared.Rule.{Rule}
+use Rattle.table.specs.Entry.{entry_count}
+use Rattle.table.specs.Fill.{Beyond}
+use Rattle.table.proofs.Fill.{beyond-none, beyond_trans}
+use Rattle.lowering.specs.Lowering.{Lowering}
+use Rattle.lowering.proofs.Costs.{plan-small}
+use Rattle.lowering.proofs.Steps.{lowering_last}
+use Rattle.lowering.proofs.lower_strips.Goals as goal
+
+pub overflow_add-c : goal.overflow_add-c
+overflow_add-c c = omega (arith, c.requires.room, (plan-small _ _ _ _ _ c.requires.here.between).0)
+
+pub loop-c-init : goal.loop-c-init
+loop-c-init c = (omega arith, omega (arith, c.requires.room), λ g r w. w, beyond-none _ _)
+
+pub lower_strip-requires : goal.lower_strip-requires
+lower_strip-requires c =
+    record {
+      grid = c.requires.grid;
+      rule = c.requires.rule;
+      here = c.loop-c.invariant.2 c.requires.grid c.requires.rule c.requires.here;
+      ac = omega (arith, c.loop-c.invariant.0);
+      cx = omega (arith, c.loop-c-test.true);
+    }
+
+pub overflow_add-c-in-loop-c : goal.overflow_add-c-in-loop-c
+overflow_add-c-in-loop-c c = omega (arith, c.loop-c-test.true, (plan-small _ _ _ _ _ c.requires.here.between).0)
+
+pub loop-c-preserved : goal.loop-c-preserved
+loop-c-preserved c = (
+  omega (arith, c.loop-c.invariant.0),
+  omega (arith, c.loop-c-test.true),
+  λ g r w. c.lower_strip.ensures.lowering g r (c.loop-c.invariant.2 g r w),
+  beyond_trans _ _ _ _ c.loop-c.invariant.3 c.lower_strip.ensures.beyond,
+)
+
+pub returns : goal.returns
+returns c = record { lowering = λ g r w. lowering_last g r _ _ _ _ _ _ (omega (arith, c.loop-c-test, c.loop-c.invariant.1)) (c.loop-c.invariant.2 g r w); beyond = c.loop-c.invariant.3 }

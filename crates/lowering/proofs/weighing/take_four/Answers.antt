@@ -1,0 +1,45 @@
+-- `lowering::weighing::take_four` meets its contract. Assumes nothing.
+use mathlib.Core.Path.{◌∙◌}
+use native.Mathlib.Omega.{arith}
+use borrow.Author.Rules.{rules}
+use Rattle.lowering.proofs.Wheels.{four_lowers}
+use Rattle.lowering.proofs.weighing.take_four.Goals as goal
+
+pub overflow_add-b : goal.overflow_add-b
+overflow_add-b c = record { fits = omega (arith, c.requires.1.0, c.ranges) }
+
+pub overflow_add-b-2 : goal.overflow_add-b-2
+overflow_add-b-2 c = record { fits = omega (arith, c.requires.1.0, c.ranges) }
+
+pub overflow_add-b-3 : goal.overflow_add-b-3
+overflow_add-b-3 c = record { fits = omega (arith, c.requires.1.0, c.ranges) }
+
+pub take-requires : goal.take-requires
+take-requires c = (c.requires.0, (record { bk = omega arith; km = omega arith; md = omega arith; dy = c.requires.1.0 }, c.take_three.ensures.long ∙ c.requires.1.1))
+
+pub overflow_add-b-4 : goal.overflow_add-b-4
+overflow_add-b-4 c = record { fits = omega (arith, c.requires.1.0, c.ranges) }
+
+pub overflow_add-b-5 : goal.overflow_add-b-5
+overflow_add-b-5 c = record { fits = omega (arith, c.requires.1.0, c.ranges) }
+
+pub overflow_add-b-6 : goal.overflow_add-b-6
+overflow_add-b-6 c = record { fits = omega (arith, c.requires.1.0, c.ranges) }
+
+pub take-requires-2 : goal.take-requires-2
+take-requires-2 c = (c.requires.0, (record { bk = omega arith; km = omega arith; md = omega arith; dy = c.requires.1.0 }, c.take.ensures.long ∙ c.take_three.ensures.long ∙ c.requires.1.1))
+
+pub overflow_add-b-7 : goal.overflow_add-b-7
+overflow_add-b-7 c = record { fits = omega (arith, c.requires.1.0, c.ranges) }
+
+pub overflow_add-b-8 : goal.overflow_add-b-8
+overflow_add-b-8 c = record { fits = omega (arith, c.requires.1.0, c.ranges) }
+
+pub overflow_add-b-9 : goal.overflow_add-b-9
+overflow_add-b-9 c = record { fits = omega (arith, c.requires.1.0, c.ranges) }
+
+pub take-requires-3 : goal.take-requires-3
+take-requires-3 c = (c.requires.0, (record { bk = omega arith; km = omega arith; md = omega arith; dy = c.requires.1.0 }, c.take-2.ensures.long ∙ c.take.ensures.long ∙ c.take_three.ensures.long ∙ c.requires.1.1))
+
+pub returns : goal.returns
+returns c = four_lowers _ _ _ _ c.take_three.ensures c.take.ensures c.take-2.ensures c.take-3.ensures

@@ -1,0 +1,16 @@
+-- `short::fill_widths` meets its contract: all strips narrower than w are filled, and kept in weights. Assumes nothing.
+use Prim.Native.Nat.{ℕ, ◌+◌, ◌-◌, ◌≤◌}
+use mathlib.Core.Path.{◌≡◌, refl, ◌∙◌}
+use mathlib.Core.List.{List}
+use native.Mathlib.Omega.{arith}
+use lib.ListN.{length}
+use Rattle.outline.specs.Grid.{stored}
+use Rattle.short.specs.Short.{Fillable}
+use Rattle.short.proofs.Filling.{Going, limits, going_none, going_all, rising-here, widths-here, asks_grow, grown-here, asks_settle, asks_store, going_more}
+use Rattle.short.proofs.fill_widths.Given as goal
+
+abbrev pub invariant-loop-w : goal.invariant-loop-w
+invariant-loop-w l = (1 ≤ l.w) × ((l.w ≤ l.columns + 1) × ((length l.wide ≡ 16) × (((cells : List ℕ) → Fillable (stored l.columns l.rows l.xs l.ys cells) l.rule l.price l.xs l.ys cells l.short l.initial.table → Going (stored l.columns l.rows l.xs l.ys cells) l.rule l.price l.w l.sums l.store l.initial.table l.table) × (length l.store ≡ length l.initial.store))))
+
+abbrev pub decreases-loop-w : goal.decreases-loop-w
+decreases-loop-w l = l.columns + 1 - l.w
