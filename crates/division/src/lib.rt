@@ -1,6 +1,7 @@
 // The largest shot: the fracture of a figure for a writer that cannot expose beyond a side. The shots are those of the fracture without
 // it, each divided into parts that fit.
 #![tactic(auto)]
+
 ghost use Rattle.std.specs.Prelude.{◌≡◌, true, false, List, ℕ, ◌≤◌};
 ghost use Rattle.sum.specs.Sum.{sum_of, join};
 ghost use Rattle.rule.specs.Rules.{in_range, limit};

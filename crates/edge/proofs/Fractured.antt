@@ -60,6 +60,7 @@ use Rattle.edge.proofs.Owned.{numbered-strokes, numbered-none, left-length, righ
 -- places in a rising list
 module _ {A : Type 0} where
   member_get : (d : A) (l : List A) (v : A) → Member v l → (i : ℕ) × (i < length l) × (get_or l i d ≡ v)
+  member_get d [] v x' = elim x' [ ]
   member_get d (u ∷ l) v (Member.head e) = (0, omega arith, sym e)
   member_get d (u ∷ l) v (Member.tail m) = let i = member_get d l v m in (suc i.0, omega (arith, i.1), i.2)
 

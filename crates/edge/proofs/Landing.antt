@@ -76,6 +76,7 @@ All-get Q d (s ∷ l) zero z h = h.0
 All-get Q d (s ∷ l) (suc i) z h = All-get Q d l i (omega arith) h.1
 
 member_at : (d : Shot) (l : List Shot) (s : Shot) → Member s l → (i : ℕ) × (i < length l) × (get_or l i d ≡ s)
+member_at d [] s x' = elim x' [ ]
 member_at d (q ∷ l) s (Member.head e) = (0, omega arith, sym e)
 member_at d (q ∷ l) s (Member.tail m) = let i = member_at d l s m in (suc i.0, omega (arith, i.1), i.2)
 

@@ -1,5 +1,6 @@
 // One edge of a figure and the shots that it ends up on.
 #![tactic(auto)]
+
 ghost use Rattle.std.specs.Prelude.{◌≡◌};
 ghost use Rattle.figure.specs.Figure.{figure};
 ghost use Rattle.outline.specs.Promise.{answer_no, refusal};

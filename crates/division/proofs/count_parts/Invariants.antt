@@ -1,0 +1,12 @@
+-- `division::count_parts` meets its contract. The invariant: the parts are counted as far as shot k. Assumes nothing.
+use Prim.Native.Nat.{◌-◌, ◌≤◌}
+use native.Mathlib.Omega.{arith}
+use borrow.Author.Rules.{rules}
+use Rattle.division.proofs.Loops.{at_solid, Counting, counting-start, counting-fits, counting-next, counting-end}
+use Rattle.division.proofs.count_parts.Given as goal
+
+abbrev pub invariant-loop-k : goal.invariant-loop-k
+invariant-loop-k l = Counting l.shots l.n l.largest l.parts l.k
+
+abbrev pub decreases-loop-k : goal.decreases-loop-k
+decreases-loop-k l = l.n - l.k

@@ -1,0 +1,13 @@
+-- `division::side::side_of` meets its contract. Assumes nothing.
+use mathlib.Core.Path.{refl}
+use native.Mathlib.Omega.{arith}
+use borrow.Author.Rules.{rules}
+use Rattle.division.specs.Division.{part_count}
+use Rattle.division.specs.Steps.{side_of, edge}
+use Rattle.division.proofs.Evenly.{count-some}
+use Rattle.division.proofs.Written.{edge-last}
+use Rattle.division.proofs.side.side_of.Goals as goal
+
+pub returns : goal.returns
+unfolding side_of part_count
+returns c = (refl, omega (arith, edge-last c.args.largest c.args.low c.args.high c.requires.1.0 c.requires.0))

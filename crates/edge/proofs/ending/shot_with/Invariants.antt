@@ -1,0 +1,14 @@
+-- `edge::ending::shot_with` meets its contract. The invariant: no shot passed so far has the side there. Assumes nothing.
+use Prim.Native.Nat.{ℕ, ◌<◌, ◌-◌}
+use mathlib.Core.Path.{◌≡◌}
+use mathlib.Core.Bool.{false}
+use borrow.Author.Count.{below_none, below_more}
+use borrow.Author.Rules.{rules}
+use Rattle.edge.proofs.Laws.{has, found_at, passed-at, not_found}
+use Rattle.edge.proofs.ending.shot_with.Given as goal
+
+abbrev pub invariant-loop-i : goal.invariant-loop-i
+invariant-loop-i l = (k : ℕ) → k < l.i → has l.shots l.s.axis l.s.at l.s.k l.side k ≡ false
+
+abbrev pub decreases-loop-i : goal.decreases-loop-i
+decreases-loop-i l = l.count - l.i

@@ -1,0 +1,8 @@
+-- `edge::judge` meets its contract: what the drawing answers. Assumes nothing.
+use Rattle.outline.specs.Promise.{sheet}
+use borrow.Author.Rules.{rules}
+use Rattle.edge.proofs.judge.Goals as goal
+
+pub returns : goal.returns
+unfolding sheet
+returns c = c.draw-drawing.ensures.told

@@ -1,0 +1,7 @@
+-- `broad` meets its contract: the lowest and the highest place compared. Assumes nothing.
+use Rattle.gdsii.proofs.Points.{broad-points}
+use borrow.Author.Rules.{rules}
+use Rattle.gdsii.proofs.places.broad.Goals as goal
+
+pub returns : goal.returns
+returns c = broad-points _ _ _ _ _ c.lowest-low.ensures c.highest-high.ensures

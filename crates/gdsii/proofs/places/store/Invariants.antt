@@ -1,0 +1,13 @@
+-- `store` meets its contract: what is stored and what is still to come give the whole. Assumes nothing.
+use mathlib.Core.Path.{refl}
+use native.Mathlib.Omega.{arith}
+use lib.ListN.{length-set}
+use borrow.Author.Rules.{rules}
+use Rattle.gdsii.proofs.Storing.{Storing, storing_start, storing_near, storing_more, storing_done}
+use Rattle.gdsii.proofs.places.store.Given as goal
+
+abbrev pub invariant-loop-left : goal.invariant-loop-left
+invariant-loop-left l = Storing l.element l.low_x l.low_y l.initial.list l.initial.at l.initial.left l.at l.to l.left l.list
+
+abbrev pub decreases-loop-left : goal.decreases-loop-left
+decreases-loop-left l = l.left
