@@ -21,11 +21,11 @@ use Rattle.rule.specs.Rules.{limit}
 use Rattle.rule.specs.Charge.{sliver_of, charge_of}
 use Rattle.piece.specs.declared.Mode.{Mode}
 use Rattle.piece.specs.declared.Mode.TheVariants.{Straight}
-use Rattle.piece.specs.Piece.{Piece, box, most_cost, cells, inside_cells, width, height, left, right, bottom, top, sliver, charge}
+use Rattle.piece.specs.Piece.{Piece, box, most_cost, cells, inside_cells, width, height, sliver, charge}
 use Rattle.piece.specs.Cuts.{cost}
 use Rattle.piece.proofs.Cells.{cells-product}
 use Rattle.piece.proofs.Bound.{cost-most}
-use Rattle.table.specs.Entry.{pairs_below, pair_count, pair_no, entry_count, entry_of, Valid, costs}
+use Rattle.table.specs.Entry.{pair_count, pair_no, entry_count, entry_of, Valid, costs}
 use Rattle.table.specs.Run.{Lowest}
 use Rattle.table.specs.Cuts.{uncut, Judged}
 use Rattle.table.specs.Cuts.{parted}
@@ -39,7 +39,7 @@ use Rattle.tally.specs.Units.{Laid}
 use Rattle.tally.proofs.Sums as sums-of
 use Rattle.strips.specs.Lanes.{Weighed, Stored}
 use Rattle.widths.specs.Lane.{spot, ends_at}
-use Rattle.widths.specs.Price.{Sheet, sheet, count_in, flank_in, shot_at, Measured, Done, Ahead, Priced, Priceable}
+use Rattle.widths.specs.Price.{sheet, count_in, flank_in, shot_at, Measured, Done, Priced, Priceable}
 use Rattle.widths.proofs.Lane.{pairs_small}
 
 -- the price of a piece of the strip that begins at the x line a

@@ -18,13 +18,13 @@ use Rattle.sum.proofs.Sum.{le-or, over_none, over_last, only-add, only-most}
 use Rattle.rule.specs.declared.Rule.{Rule}
 use Rattle.rule.specs.Charge.{sliver_of, spared, charge_of}
 use Rattle.piece.specs.Piece.{most_cost}
-use Rattle.table.specs.Entry.{pairs_below, pair_count, pair_no}
+use Rattle.table.specs.Entry.{pair_no}
 use Rattle.table.specs.Run.{Wrote, Lowest}
 use Rattle.table.specs.Cuts.{Judged}
 use Rattle.table.proofs.Entry.{pair_same}
 use Rattle.table.proofs.Run.{lowest-same}
 use Rattle.table.proofs.Pairs.{Dec-eq}
-use Rattle.widths.specs.Lane.{added, narrowed, Narrow, spot, parts_at, ends_at, Ruled, Settled, Enough}
+use Rattle.widths.specs.Lane.{added, narrowed, Narrow, spot, parts_at, ends_at, Enough}
 use Rattle.widths.specs.Price.{Sheet, count_in, flank_in, shot_at, Measured, Done, Ahead, Priced}
 use Rattle.rule.proofs.Charge.{sliver-most, narrow-same}
 use Rattle.widths.proofs.Lane.{spot_lane, wrote_at, narrow-more, charge-most, judged-most}

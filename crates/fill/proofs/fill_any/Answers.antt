@@ -1,7 +1,6 @@
 -- `fill::fill_any` meets its contract. Assumes nothing.
 use mathlib.Core.Bool.{true≢false}
 use mathlib.Core.Path.{sym}
-use borrow.Author.Rules.{rules}
 use Rattle.fill.proofs.Filled.{filled-short, filled-long}
 use Rattle.fill.proofs.fill_any.Goals as goal
 

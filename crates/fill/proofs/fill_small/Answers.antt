@@ -1,5 +1,4 @@
 -- `fill::fill_small` meets its contract. Assumes nothing.
-use borrow.Author.Rules.{rules}
 use Rattle.fill.proofs.Filled.{filled-short, filled-long}
 use Rattle.fill.proofs.fill_small.Goals as goal
 

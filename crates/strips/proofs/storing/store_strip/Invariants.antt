@@ -1,11 +1,7 @@
 -- `strips::storing::store_strip` meets its contract: the pieces before the e-th are stored. Assumes nothing.
 use Prim.Native.Nat.{◌-◌, ◌≤◌}
-use native.Mathlib.Omega.{arith}
 use Rattle.table.specs.Run.{Wrote}
-use Rattle.table.proofs.Run.{wrote_none, wrote_more, wrote_end}
 use Rattle.strips.specs.Chunk.{lane_of}
-use Rattle.strips.proofs.Store.{lane_at}
-use borrow.Author.Rules.{rules}
 use Rattle.strips.proofs.storing.store_strip.Given as goal
 
 abbrev pub invariant-loop-e : goal.invariant-loop-e

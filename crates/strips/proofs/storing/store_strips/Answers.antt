@@ -1,12 +1,8 @@
 -- `strips::storing::store_strips` meets its contract: the strips that begin below the line a are stored. Assumes nothing.
-use Prim.Native.Nat.{◌+◌, ◌-◌, ◌≤◌}
-use mathlib.Core.Path.{◌≡◌}
 use native.Mathlib.Omega.{arith}
-use Rattle.table.specs.Entry.{pairs_below}
 use Rattle.table.proofs.Entry.{below-zero, below_next}
 use Rattle.strips.proofs.Chunk.{row_fits}
-use Rattle.strips.proofs.Store.{row_here, Rows, rows_none, rows_more, rows_all}
-use borrow.Author.Rules.{rules}
+use Rattle.strips.proofs.Store.{row_here, rows_none, rows_more, rows_all}
 use Rattle.strips.proofs.storing.store_strips.Goals as goal
 
 pub loop-a-init : goal.loop-a-init

@@ -1,9 +1,6 @@
 -- `strips::weighing::lay` meets its contract: the numbers before the i-th are laid. Assumes nothing.
 use Prim.Native.Nat.{◌-◌, ◌≤◌}
-use native.Mathlib.Omega.{arith}
 use Rattle.strips.specs.Chunk.{listed, Laid}
-use Rattle.strips.proofs.Chunk.{listed_at, laid_none, laid_more, laid_end}
-use borrow.Author.Rules.{rules}
 use Rattle.strips.proofs.weighing.lay.Given as goal
 
 abbrev pub invariant-loop-i : goal.invariant-loop-i

@@ -2,7 +2,6 @@
 use native.Mathlib.Omega.{arith}
 use lib.ListN.{replicate, get_or-replicate}
 use Rattle.strips.proofs.Chunk.{lane_most, chunk_made}
-use borrow.Author.Rules.{rules}
 use Rattle.strips.proofs.weighing.weigh_chunk.Goals as goal
 
 pub weigh_cuts-requires : goal.weigh_cuts-requires

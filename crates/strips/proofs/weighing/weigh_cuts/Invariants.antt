@@ -1,11 +1,8 @@
 -- `strips::weighing::weigh_cuts` meets its contract: the cuts below the line j are weighed. Assumes nothing.
 use Prim.Native.Nat.{◌+◌, ◌-◌, ◌*◌, ◌≤◌, ◌<◌}
 use mathlib.Core.Path.{◌≡◌}
-use native.Mathlib.Omega.{arith}
 use Rattle.table.specs.Entry.{pairs_below}
-use Rattle.table.proofs.Pairs.{row-most}
-use Rattle.strips.proofs.Chunk.{cut-rows, row_fits, piece_fits, first-most, lower-first, lower-next, upper_first, upper-next, Cuts, cuts-none, cuts_fit, cuts-more, cuts-all}
-use borrow.Author.Rules.{rules}
+use Rattle.strips.proofs.Chunk.{Cuts}
 use Rattle.strips.proofs.weighing.weigh_cuts.Given as goal
 
 abbrev pub invariant-loop-j : goal.invariant-loop-j

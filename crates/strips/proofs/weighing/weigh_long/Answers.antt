@@ -1,9 +1,7 @@
 -- `strips::weighing::weigh_long` meets its contract: the pieces below the e-th are weighed. Assumes nothing.
-use Prim.Native.Nat.{◌+◌, ◌-◌, ◌≤◌}
+use Prim.Native.Nat.{◌+◌, ◌-◌}
 use native.Mathlib.Omega.{arith}
-use Rattle.strips.specs.Chunk.{Chunk}
 use Rattle.strips.proofs.Chunk.{lane_most, chunk_none, chunk_more, chunk_end}
-use borrow.Author.Rules.{rules}
 use Rattle.strips.proofs.weighing.weigh_long.Goals as goal
 
 pub loop-e-init : goal.loop-e-init

@@ -2,7 +2,6 @@
 use Prim.Native.Nat.{◌+◌, ◌-◌}
 use native.Mathlib.Omega.{arith}
 use Rattle.strips.proofs.Chunk.{lane_most, chunk_more, chunk_end}
-use borrow.Author.Rules.{rules}
 use Rattle.strips.proofs.weighing.weigh_short.Goals as goal
 
 pub weigh_chunk-requires : goal.weigh_chunk-requires

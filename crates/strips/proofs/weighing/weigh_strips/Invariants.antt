@@ -1,11 +1,8 @@
 -- `strips::weighing::weigh_strips` meets its contract: the strips that begin below the line a are weighed. Assumes nothing.
 use Prim.Native.Nat.{◌+◌, ◌-◌, ◌≤◌}
 use mathlib.Core.Path.{◌≡◌}
-use native.Mathlib.Omega.{arith}
 use Rattle.table.specs.Entry.{pairs_below}
-use Rattle.table.proofs.Entry.{below-zero, below_next, below-most}
-use Rattle.strips.proofs.Chunk.{Strips, strips-none, strips-more, strips-all}
-use borrow.Author.Rules.{rules}
+use Rattle.strips.proofs.Chunk.{Strips}
 use Rattle.strips.proofs.weighing.weigh_strips.Given as goal
 
 abbrev pub invariant-loop-a : goal.invariant-loop-a

@@ -1,10 +1,6 @@
 -- `widths::lanes::add` meets its contract: the numbers before the i-th are added. Assumes nothing.
-use Prim.Native.Nat.{◌-◌, ◌≤◌}
 use native.Mathlib.Omega.{arith}
-use borrow.Author.Rules.{rules}
-use Rattle.table.specs.Run.{Wrote}
 use Rattle.table.proofs.Run.{wrote_none, wrote_end}
-use Rattle.widths.specs.Lane.{added}
 use Rattle.widths.proofs.Lane.{add-fits, add-more}
 use Rattle.widths.proofs.lanes.add.Goals as goal
 

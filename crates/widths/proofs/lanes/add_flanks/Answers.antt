@@ -1,10 +1,6 @@
 -- `widths::lanes::add_flanks` meets its contract: the flanks before the i-th are added. Assumes nothing.
-use Prim.Native.Nat.{◌-◌, ◌≤◌}
 use native.Mathlib.Omega.{arith}
-use borrow.Author.Rules.{rules}
-use Rattle.table.specs.Run.{Wrote}
 use Rattle.table.proofs.Run.{wrote_none, wrote_end}
-use Rattle.widths.specs.Lane.{narrowed}
 use Rattle.widths.proofs.Lane.{flank_fits, flank_more}
 use Rattle.widths.proofs.lanes.add_flanks.Goals as goal
 

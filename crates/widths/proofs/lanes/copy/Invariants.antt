@@ -1,11 +1,7 @@
 -- `widths::lanes::copy` meets its contract: the numbers before the i-th are copied. Assumes nothing.
 use Prim.Native.Nat.{◌-◌, ◌≤◌}
-use native.Mathlib.Omega.{arith}
-use borrow.Author.Rules.{rules}
 use Rattle.table.specs.Run.{Wrote}
-use Rattle.table.proofs.Run.{wrote_none, wrote_end}
 use Rattle.widths.specs.Lane.{copied}
-use Rattle.widths.proofs.Lane.{copy_more}
 use Rattle.widths.proofs.lanes.copy.Given as goal
 
 abbrev pub invariant-loop-i : goal.invariant-loop-i

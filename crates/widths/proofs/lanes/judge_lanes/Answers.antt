@@ -1,10 +1,7 @@
 -- `widths::lanes::judge_lanes` meets its contract: the pieces in the lanes below l are settled. Assumes nothing.
-use Prim.Native.Nat.{◌+◌, ◌*◌, ◌-◌, ◌≤◌}
-use mathlib.Core.Path.{◌≡◌, refl, ◌∙◌, ap}
+use mathlib.Core.Path.{refl, ◌∙◌, ap}
 use native.Mathlib.Omega.{arith}
-use lib.ListN.{length, get_or}
-use borrow.Author.Rules.{rules}
-use Rattle.widths.specs.Lane.{Ruled}
+use lib.ListN.{get_or}
 use Rattle.rule.specs.Charge.{sliver_of, charge_of}
 use Rattle.widths.proofs.Lane.{ruled-none, ruled-more, ruled-end, ends-here, judged-shot, sliver-fits}
 use Rattle.widths.proofs.lanes.judge_lanes.Goals as goal

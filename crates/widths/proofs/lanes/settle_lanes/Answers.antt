@@ -3,7 +3,6 @@ use mathlib.Core.Path.{◌∙◌}
 use native.Mathlib.Omega.{arith}
 use Rattle.table.proofs.Entry.{below-most}
 use Rattle.widths.proofs.Lane.{spot-first, spot-room, narrow-more, narrow-most, wrote_count, settled-made}
-use borrow.Author.Rules.{rules}
 use Rattle.widths.proofs.lanes.settle_lanes.Goals as goal
 
 pub overflow_add-at : goal.overflow_add-at

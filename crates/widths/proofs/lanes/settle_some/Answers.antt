@@ -1,7 +1,6 @@
 -- `widths::lanes::settle_some` meets its contract: each of the four ways has lanes enough. Assumes nothing.
 use mathlib.Core.Path.{refl}
 use native.Mathlib.Omega.{arith}
-use borrow.Author.Rules.{rules}
 use Rattle.widths.proofs.lanes.settle_some.Goals as goal
 
 pub settle_lanes-requires : goal.settle_lanes-requires

@@ -1,10 +1,7 @@
 -- `widths::lanes::weigh_lanes` meets its contract: the cuts below the line k are weighed. Assumes nothing.
-use Prim.Native.Nat.{ℕ, ◌+◌, ◌*◌, ◌-◌, ◌≤◌, ◌<◌}
-use mathlib.Core.Path.{◌≡◌, refl, ◌∙◌, subst}
+use mathlib.Core.Path.{refl, ◌∙◌, subst}
 use native.Mathlib.Omega.{arith}
-use lib.ListN.{length, get_or}
-use borrow.Author.Rules.{rules}
-use Rattle.table.specs.Entry.{pairs_below}
+use lib.ListN.{get_or}
 use Rattle.table.specs.Run.{Lowest}
 use Rattle.table.proofs.Entry.{below_next, below-most}
 use Rattle.table.proofs.Run.{lowest-none}

@@ -1,15 +1,10 @@
 -- `widths::lanes::weigh_lanes` meets its contract: the cuts below the line k are weighed. Assumes nothing.
 use Prim.Native.Nat.{ℕ, ◌+◌, ◌*◌, ◌-◌, ◌≤◌, ◌<◌}
-use mathlib.Core.Path.{◌≡◌, refl, ◌∙◌, subst}
-use native.Mathlib.Omega.{arith}
+use mathlib.Core.Path.{◌≡◌}
 use lib.ListN.{length, get_or}
-use borrow.Author.Rules.{rules}
 use Rattle.table.specs.Entry.{pairs_below}
 use Rattle.table.specs.Run.{Lowest}
-use Rattle.table.proofs.Entry.{below_next, below-most}
-use Rattle.table.proofs.Run.{lowest-none}
 use Rattle.widths.specs.Lane.{parts_at}
-use Rattle.widths.proofs.Lane.{cut-room, cut_fits, cut-more, upper-next}
 use Rattle.widths.proofs.lanes.weigh_lanes.Given as goal
 
 abbrev pub invariant-loop-k : goal.invariant-loop-k

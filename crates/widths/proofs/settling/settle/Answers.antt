@@ -1,12 +1,9 @@
 -- `widths::settling::settle` meets its contract: the pieces that begin at the line b or above are settled. Assumes nothing.
-use Prim.Native.Nat.{ℕ, ◌+◌, ◌≤◌, ◌<◌}
-use mathlib.Core.Path.{◌≡◌, refl, ◌∙◌}
+use Prim.Native.Nat.{◌<◌}
+use mathlib.Core.Path.{refl, ◌∙◌}
 use native.Mathlib.Omega.{arith}
-use lib.ListN.{length}
-use borrow.Author.Rules.{rules}
-use Rattle.table.specs.Entry.{pairs_below}
 use Rattle.table.proofs.Pairs.{first-all, first_back, first-enough}
-use Rattle.widths.specs.Price.{sheet, Priced}
+use Rattle.widths.specs.Price.{sheet}
 use Rattle.widths.proofs.Price.{priced-back, priced-zero}
 use Rattle.widths.proofs.settling.settle.Goals as goal
 

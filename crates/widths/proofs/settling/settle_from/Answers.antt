@@ -1,13 +1,11 @@
 -- `widths::settling::settle_from` meets its contract: the pieces that begin at the line low and end below the line high are settled. Assumes nothing.
-use Prim.Native.Nat.{ℕ, ◌+◌, ◌*◌, ◌-◌, ◌≤◌, ◌<◌}
-use mathlib.Core.Path.{◌≡◌, refl, sym, ◌∙◌, ap, subst}
+use Prim.Native.Nat.{ℕ, ◌+◌, ◌*◌, ◌-◌}
+use mathlib.Core.Path.{◌≡◌, refl, sym, ◌∙◌, ap}
 use native.Mathlib.Omega.{arith}
 use native.Mathlib.Nat.{zero-mul}
-use lib.ListN.{length}
-use borrow.Author.Rules.{rules}
 use Rattle.table.proofs.Pairs.{cells-more, cells-most}
-use Rattle.widths.specs.Price.{sheet, Priced}
-use Rattle.widths.proofs.Price.{Running, running_none, running_more, running_on, running_most, priced-fits, price_step, priced-end}
+use Rattle.widths.specs.Price.{sheet}
+use Rattle.widths.proofs.Price.{running_none, running_more, running_on, running_most, priced-fits, price_step, priced-end}
 use Rattle.widths.proofs.settling.settle_from.Goals as goal
 
 zero_left : (b : ℕ) → b + 1 - 1 - b ≡ 0
