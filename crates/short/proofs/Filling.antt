@@ -27,7 +27,7 @@ use Rattle.rule.specs.Charge.{spared}
 use Rattle.piece.specs.declared.Mode.TheVariants.{Straight}
 use Rattle.piece.specs.Piece.{box, cell_sum, inside_cells, height, bottom, top}
 use Rattle.piece.specs.Cuts.{cost}
-use Rattle.table.specs.Entry.{pair_count, pair_no, entry_count, costs}
+use Rattle.table.specs.Entry.{pair_count, pair_no, entry_count}
 use Rattle.table.specs.Fill.{Ready, Beyond}
 use Rattle.table.proofs.Entry
 use Rattle.table.proofs.Fill.{fill_limits}

@@ -1,6 +1,5 @@
 -- `short::fill` meets its contract: where short numbers are enough the table is filled, else it is as it was. Assumes nothing.
 use native.Mathlib.Omega.{arith}
-use borrow.Author.Rules.{rules}
 use Rattle.outline.specs.Grid.{stored}
 use Rattle.table.proofs.Fill.{fill_limits}
 use Rattle.short.proofs.Filling.{fillable_here, middle-room, room_fits}

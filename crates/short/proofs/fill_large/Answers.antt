@@ -1,6 +1,5 @@
 -- `short::fill_large` meets its contract. Assumes nothing.
 use Rattle.short.proofs.Filling.{limits, large_room}
-use borrow.Author.Rules.{rules}
 use Rattle.short.proofs.fill_large.Goals as goal
 
 pub fill_widths-requires : goal.fill_widths-requires

@@ -1,5 +1,4 @@
 -- `short::fill_middle` meets its contract. Assumes nothing.
-use borrow.Author.Rules.{rules}
 use Rattle.short.proofs.fill_middle.Goals as goal
 
 pub fill_widths-requires : goal.fill_widths-requires

@@ -1,6 +1,5 @@
 -- `short::fill_small` meets its contract. Assumes nothing.
 use Rattle.short.proofs.Filling.{small-room}
-use borrow.Author.Rules.{rules}
 use Rattle.short.proofs.fill_small.Goals as goal
 
 pub fill_widths-requires : goal.fill_widths-requires

@@ -1,12 +1,8 @@
 -- `short::fill_widths` meets its contract: all strips narrower than w are filled, and kept in weights. Assumes nothing.
-use Prim.Native.Nat.{ℕ, ◌+◌, ◌-◌, ◌≤◌}
-use mathlib.Core.Path.{◌≡◌, refl, ◌∙◌}
-use mathlib.Core.List.{List}
+use Prim.Native.Nat.{◌≤◌}
+use mathlib.Core.Path.{refl, ◌∙◌}
 use native.Mathlib.Omega.{arith}
-use lib.ListN.{length}
-use Rattle.outline.specs.Grid.{stored}
-use Rattle.short.specs.Short.{Fillable}
-use Rattle.short.proofs.Filling.{Going, limits, going_none, going_all, rising-here, widths-here, asks_grow, grown-here, asks_settle, asks_store, going_more}
+use Rattle.short.proofs.Filling.{limits, going_none, going_all, rising-here, widths-here, asks_grow, grown-here, asks_settle, asks_store, going_more}
 use Rattle.short.proofs.fill_widths.Goals as goal
 
 pub pair_count-pairs-requires : goal.pair_count-pairs-requires

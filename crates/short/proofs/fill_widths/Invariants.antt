@@ -1,12 +1,11 @@
 -- `short::fill_widths` meets its contract: all strips narrower than w are filled, and kept in weights. Assumes nothing.
 use Prim.Native.Nat.{ℕ, ◌+◌, ◌-◌, ◌≤◌}
-use mathlib.Core.Path.{◌≡◌, refl, ◌∙◌}
+use mathlib.Core.Path.{◌≡◌}
 use mathlib.Core.List.{List}
-use native.Mathlib.Omega.{arith}
 use lib.ListN.{length}
 use Rattle.outline.specs.Grid.{stored}
 use Rattle.short.specs.Short.{Fillable}
-use Rattle.short.proofs.Filling.{Going, limits, going_none, going_all, rising-here, widths-here, asks_grow, grown-here, asks_settle, asks_store, going_more}
+use Rattle.short.proofs.Filling.{Going}
 use Rattle.short.proofs.fill_widths.Given as goal
 
 abbrev pub invariant-loop-w : goal.invariant-loop-w

@@ -1,7 +1,6 @@
 -- `short::price_of` meets its contract. Assumes nothing.
 use native.Mathlib.Omega.{arith}
 use native.Mathlib.Nat.{div-le_self, div-mul-le_self}
-use borrow.Author.Rules.{rules}
 use Rattle.short.proofs.price_of.Goals as goal
 
 pub overflow_mul-price : goal.overflow_mul-price
