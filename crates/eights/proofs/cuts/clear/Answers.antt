@@ -1,8 +1,5 @@
 -- `eights::cuts::clear` meets its contract: the pieces before the e-th have no cut weighed. Assumes nothing.
-use Prim.Native.Nat.{◌*◌, ◌-◌, ◌≤◌}
 use native.Mathlib.Omega.{arith}
-use borrow.Author.Rules.{rules}
-use Rattle.eights.specs.Store.{unweighed, Laid}
 use Rattle.eights.proofs.Lines.{laid_none, laid_more, laid_end, unweighed-row}
 use Rattle.eights.proofs.cuts.clear.Goals as goal
 

@@ -1,12 +1,8 @@
 -- `eights::cuts::eight_at` meets its contract: the lanes before the l-th are read. Assumes nothing.
-use Prim.Native.Nat.{◌+◌, ◌-◌, ◌≤◌}
 use mathlib.Core.Path.{refl}
 use native.Mathlib.Omega.{arith}
-use lib.ListN.{get_or}
-use Rattle.table.specs.Run.{Wrote}
 use Rattle.table.proofs.Run.{wrote_none}
 use Rattle.eights.proofs.Cut.{read_more, read-end}
-use borrow.Author.Rules.{rules}
 use Rattle.eights.proofs.cuts.eight_at.Goals as goal
 
 pub loop-l-init : goal.loop-l-init

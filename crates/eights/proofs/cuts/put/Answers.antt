@@ -1,11 +1,7 @@
 -- `eights::cuts::put` meets its contract: the lanes before the l-th are put. Assumes nothing.
-use Prim.Native.Nat.{◌-◌, ◌≤◌}
 use native.Mathlib.Omega.{arith}
-use Rattle.table.specs.Run.{Wrote}
 use Rattle.table.proofs.Run.{wrote_none, wrote_end}
-use Rattle.eights.specs.Store.{listed}
 use Rattle.eights.proofs.Cut.{put-more}
-use borrow.Author.Rules.{rules}
 use Rattle.eights.proofs.cuts.put.Goals as goal
 
 pub loop-l-init : goal.loop-l-init

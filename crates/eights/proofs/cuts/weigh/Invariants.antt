@@ -1,11 +1,7 @@
 -- `eights::cuts::weigh` meets its contract: the lanes before the l-th have the cut weighed. Assumes nothing.
 use Prim.Native.Nat.{◌-◌, ◌≤◌}
-use native.Mathlib.Omega.{arith}
 use Rattle.table.specs.Run.{Wrote}
-use Rattle.table.proofs.Run.{wrote_none, wrote_end}
 use Rattle.eights.specs.Store.{weighed}
-use Rattle.eights.proofs.Cut.{weighed-more}
-use borrow.Author.Rules.{rules}
 use Rattle.eights.proofs.cuts.weigh.Given as goal
 
 abbrev pub invariant-loop-l : goal.invariant-loop-l

@@ -1,9 +1,6 @@
 -- `eights::cuts::weigh_line` meets its contract: the pieces before the e-th have the cut weighed. Assumes nothing.
 use Prim.Native.Nat.{◌-◌, ◌≤◌, max}
-use native.Mathlib.Omega.{arith}
-use borrow.Author.Rules.{rules}
 use Rattle.eights.specs.Store.{lowered, Laid}
-use Rattle.eights.proofs.Lines.{laid_none, laid_more, laid_end, line_row}
 use Rattle.eights.proofs.cuts.weigh_line.Given as goal
 
 abbrev pub invariant-loop-e : goal.invariant-loop-e

@@ -1,10 +1,6 @@
 -- `eights::cuts::weigh_lines` meets its contract: the pieces before the e-th have both cuts weighed. Assumes nothing.
 use Prim.Native.Nat.{◌-◌, ◌≤◌, max}
-use mathlib.Core.Path.{◌∙◌}
-use native.Mathlib.Omega.{arith}
-use borrow.Author.Rules.{rules}
 use Rattle.eights.specs.Store.{lowered_twice, Laid}
-use Rattle.eights.proofs.Lines.{laid_none, laid_more, laid_end, lines-row}
 use Rattle.eights.proofs.cuts.weigh_lines.Given as goal
 
 abbrev pub invariant-loop-e : goal.invariant-loop-e

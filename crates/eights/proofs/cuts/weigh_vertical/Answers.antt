@@ -1,11 +1,10 @@
 -- `eights::cuts::weigh_vertical` meets its contract: the cuts less than v columns from the first line are weighed. Assumes nothing.
-use Prim.Native.Nat.{◌+◌, ◌*◌, ◌-◌, ◌≤◌}
-use mathlib.Core.Path.{refl, ◌∙◌}
+use Prim.Native.Nat.{◌+◌, ◌*◌, ◌≤◌}
+use mathlib.Core.Path.{refl}
 use native.Mathlib.Omega.{arith}
 use lib.ListN.{length}
-use borrow.Author.Rules.{rules}
 use Rattle.eights.proofs.Pricing.{within-join}
-use Rattle.eights.proofs.Lines.{laid-within, row-most, row_room, line-high, line-room, line-high-two, line-room-two, Lines, lines_none, lines-one, lines_two, lines_end}
+use Rattle.eights.proofs.Lines.{laid-within, row-most, row_room, line-high, line-room, line-high-two, line-room-two, lines_none, lines-one, lines_two, lines_end}
 use Rattle.eights.proofs.cuts.weigh_vertical.Goals as goal
 
 pub overflow_mul-block : goal.overflow_mul-block

@@ -1,11 +1,6 @@
 -- `eights::cuts::weigh_vertical` meets its contract: the cuts less than v columns from the first line are weighed. Assumes nothing.
-use Prim.Native.Nat.{◌+◌, ◌*◌, ◌-◌, ◌≤◌}
-use mathlib.Core.Path.{refl, ◌∙◌}
-use native.Mathlib.Omega.{arith}
-use lib.ListN.{length}
-use borrow.Author.Rules.{rules}
-use Rattle.eights.proofs.Pricing.{within-join}
-use Rattle.eights.proofs.Lines.{laid-within, row-most, row_room, line-high, line-room, line-high-two, line-room-two, Lines, lines_none, lines-one, lines_two, lines_end}
+use Prim.Native.Nat.{◌-◌}
+use Rattle.eights.proofs.Lines.{Lines}
 use Rattle.eights.proofs.cuts.weigh_vertical.Given as goal
 
 abbrev pub invariant-loop-v : goal.invariant-loop-v

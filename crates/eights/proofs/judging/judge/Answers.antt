@@ -1,8 +1,6 @@
 -- `eights::judging::judge` meets its contract: the pieces in the lanes below l are settled. Assumes nothing.
-use Prim.Native.Nat.{◌-◌, ◌≤◌}
 use native.Mathlib.Omega.{arith}
-use borrow.Author.Rules.{rules}
-use Rattle.eights.proofs.Judge.{Lanes, lanes-none, lanes-more, lanes_end}
+use Rattle.eights.proofs.Judge.{lanes-none, lanes-more, lanes_end}
 use Rattle.eights.proofs.judging.judge.Goals as goal
 
 pub loop-l-init : goal.loop-l-init

@@ -1,7 +1,6 @@
 -- `eights::judging::judge_level` meets its contract. Assumes nothing.
 use mathlib.Core.Path.{refl}
 use native.Mathlib.Omega.{arith}
-use borrow.Author.Rules.{rules}
 use Rattle.eights.proofs.Judge.{number_at, number-below, pairs-most, place-fits, place-room, level_tall, level_low}
 use Rattle.eights.proofs.judging.judge_level.Goals as goal
 

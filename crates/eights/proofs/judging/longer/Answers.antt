@@ -1,7 +1,6 @@
 -- `eights::judging::longer` meets its contract. Assumes nothing.
 use mathlib.Core.Path.{◌∙◌, ap₂}
 use Prim.Native.Nat.{max}
-use borrow.Author.Rules.{rules}
 use Rattle.eights.proofs.Judge.{longer-made}
 use Rattle.eights.proofs.judging.longer.Goals as goal
 

@@ -1,11 +1,8 @@
 -- `eights::judging::slivers` meets its contract: the lanes below l have their sliver lengths. Assumes nothing.
-use Prim.Native.Nat.{◌-◌, ◌≤◌}
 use mathlib.Core.Path.{refl}
 use native.Mathlib.Omega.{arith}
-use borrow.Author.Rules.{rules}
-use Rattle.table.specs.Run.{Wrote}
 use Rattle.table.proofs.Run.{wrote_none}
-use Rattle.eights.proofs.Judge.{lane_sliver, sliver-more, sliver-end}
+use Rattle.eights.proofs.Judge.{sliver-more, sliver-end}
 use Rattle.eights.proofs.judging.slivers.Goals as goal
 
 pub loop-l-init : goal.loop-l-init

@@ -1,11 +1,7 @@
 -- `eights::judging::slivers` meets its contract: the lanes below l have their sliver lengths. Assumes nothing.
 use Prim.Native.Nat.{◌-◌, ◌≤◌}
-use mathlib.Core.Path.{refl}
-use native.Mathlib.Omega.{arith}
-use borrow.Author.Rules.{rules}
 use Rattle.table.specs.Run.{Wrote}
-use Rattle.table.proofs.Run.{wrote_none}
-use Rattle.eights.proofs.Judge.{lane_sliver, sliver-more, sliver-end}
+use Rattle.eights.proofs.Judge.{lane_sliver}
 use Rattle.eights.proofs.judging.slivers.Given as goal
 
 abbrev pub invariant-loop-l : goal.invariant-loop-l

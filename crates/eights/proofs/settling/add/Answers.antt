@@ -1,10 +1,6 @@
 -- `eights::settling::add` meets its contract: the numbers of the lanes below l are added. Assumes nothing.
-use Prim.Native.Nat.{◌-◌, ◌≤◌}
 use native.Mathlib.Omega.{arith}
-use borrow.Author.Rules.{rules}
-use Rattle.table.specs.Run.{Wrote}
 use Rattle.table.proofs.Run.{wrote_none, wrote_end}
-use Rattle.shares.specs.Growth.{wrap_added}
 use Rattle.eights.proofs.Judge.{add-more}
 use Rattle.eights.proofs.settling.add.Goals as goal
 

@@ -1,8 +1,7 @@
 -- `eights::settling::settle` meets its contract: the strips in the lanes below g are settled. Assumes nothing.
-use Prim.Native.Nat.{◌-◌}
 use native.Mathlib.Omega.{arith}
 use Rattle.eights.specs.Price.{sheet}
-use Rattle.eights.proofs.Pricing.{Eights, eights_none, eights_room, eights_more, eights_end}
+use Rattle.eights.proofs.Pricing.{eights_none, eights_room, eights_more, eights_end}
 use Rattle.eights.proofs.settling.settle.Goals as goal
 
 pub loop-g-init : goal.loop-g-init

@@ -1,13 +1,9 @@
 -- `eights::settling::settle_eight` meets its contract: the pieces that begin at the line b or above are settled. Assumes nothing.
-use Prim.Native.Nat.{ℕ, ◌+◌, ◌≤◌, ◌<◌}
-use mathlib.Core.Path.{◌≡◌, ◌∙◌}
+use Prim.Native.Nat.{◌<◌}
 use native.Mathlib.Omega.{arith}
-use borrow.Author.Rules.{rules}
-use Rattle.table.specs.Entry.{pairs_below}
 use Rattle.table.proofs.Entry.{count_most}
 use Rattle.table.proofs.Pairs.{first-all, first_back, first-enough}
-use Rattle.eights.specs.Store.{Within}
-use Rattle.eights.specs.Price.{sheet, Prices, Ahead, Known}
+use Rattle.eights.specs.Price.{sheet}
 use Rattle.eights.proofs.Pricing.{within_same, within-join, within-below, prices_on, ahead-all, ahead-back, known-none, known-back, known-zero}
 use Rattle.eights.proofs.settling.settle_eight.Goals as goal
 

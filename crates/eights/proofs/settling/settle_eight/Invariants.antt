@@ -1,14 +1,9 @@
 -- `eights::settling::settle_eight` meets its contract: the pieces that begin at the line b or above are settled. Assumes nothing.
-use Prim.Native.Nat.{ℕ, ◌+◌, ◌≤◌, ◌<◌}
-use mathlib.Core.Path.{◌≡◌, ◌∙◌}
-use native.Mathlib.Omega.{arith}
-use borrow.Author.Rules.{rules}
+use Prim.Native.Nat.{ℕ, ◌+◌, ◌≤◌}
+use mathlib.Core.Path.{◌≡◌}
 use Rattle.table.specs.Entry.{pairs_below}
-use Rattle.table.proofs.Entry.{count_most}
-use Rattle.table.proofs.Pairs.{first-all, first_back, first-enough}
 use Rattle.eights.specs.Store.{Within}
 use Rattle.eights.specs.Price.{sheet, Prices, Ahead, Known}
-use Rattle.eights.proofs.Pricing.{within_same, within-join, within-below, prices_on, ahead-all, ahead-back, known-none, known-back, known-zero}
 use Rattle.eights.proofs.settling.settle_eight.Given as goal
 
 abbrev pub invariant-loop-b : goal.invariant-loop-b

@@ -1,13 +1,10 @@
 -- `eights::settling::settle_from` meets its contract: the pieces that begin at the line low and end below the line high are settled. Assumes nothing.
 use Prim.Native.Nat.{ℕ, ◌+◌, ◌*◌, ◌-◌, ◌≤◌, ◌<◌}
-use mathlib.Core.Path.{◌≡◌, refl, sym, ◌∙◌, ap}
+use mathlib.Core.Path.{◌≡◌}
 use native.Mathlib.Omega.{arith}
-use native.Mathlib.Nat.{zero-mul}
-use borrow.Author.Rules.{rules}
-use Rattle.table.proofs.Pairs.{cells-more, cells-most}
 use Rattle.eights.specs.Store.{Within}
 use Rattle.eights.specs.Price.{sheet, Prices, Ahead, Known}
-use Rattle.eights.proofs.Pricing.{Running, running_none, running_more, running_on, level_stands, within_same, within-join, within-settled, price_step, ahead_step, ahead-end, known-end}
+use Rattle.eights.proofs.Pricing.{Running}
 use Rattle.eights.proofs.settling.settle_from.Given as goal
 
 zero_left : (b : ℕ) → b + 1 - 1 - b ≡ 0

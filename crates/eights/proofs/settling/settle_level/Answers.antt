@@ -1,7 +1,6 @@
 -- `eights::settling::settle_level` meets its contract. Assumes nothing.
 use mathlib.Core.Path.{◌∙◌}
 use native.Mathlib.Omega.{arith}
-use borrow.Author.Rules.{rules}
 use Rattle.eights.proofs.Judge.{number_at, number-below, pairs-most, place-fits, place-room, settled-made}
 use Rattle.eights.proofs.settling.settle_level.Goals as goal
 

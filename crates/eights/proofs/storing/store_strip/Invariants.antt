@@ -1,11 +1,7 @@
 -- `eights::storing::store_strip` meets its contract: the pieces before the e-th are stored. Assumes nothing.
-use Prim.Native.Nat.{◌+◌, ◌*◌, ◌-◌, ◌≤◌}
-use native.Mathlib.Omega.{arith}
+use Prim.Native.Nat.{◌-◌, ◌≤◌}
 use Rattle.table.specs.Run.{Wrote}
-use Rattle.table.proofs.Run.{wrote_none, wrote_more, wrote_end}
 use Rattle.eights.specs.Store.{scaled}
-use Rattle.eights.proofs.Rows.{scaled_at, scaled_fits}
-use borrow.Author.Rules.{rules}
 use Rattle.eights.proofs.storing.store_strip.Given as goal
 
 abbrev pub invariant-loop-e : goal.invariant-loop-e

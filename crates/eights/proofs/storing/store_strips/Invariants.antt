@@ -1,11 +1,8 @@
 -- `eights::storing::store_strips` meets its contract: the strips that begin below the line a are stored. Assumes nothing.
 use Prim.Native.Nat.{◌+◌, ◌-◌, ◌≤◌}
 use mathlib.Core.Path.{◌≡◌}
-use native.Mathlib.Omega.{arith}
 use Rattle.table.specs.Entry.{pairs_below}
-use Rattle.table.proofs.Entry.{below-zero, below_next}
-use Rattle.eights.proofs.Rows.{row_here, row_fits, block_fits, block_room, Rows, rows_none, rows_more, rows_all}
-use borrow.Author.Rules.{rules}
+use Rattle.eights.proofs.Rows.{Rows}
 use Rattle.eights.proofs.storing.store_strips.Given as goal
 
 abbrev pub invariant-loop-a : goal.invariant-loop-a
