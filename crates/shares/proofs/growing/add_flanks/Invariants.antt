@@ -1,9 +1,7 @@
 -- `shares::growing::add_flanks` meets its contract: the strips before the l-th have their flanks. Assumes nothing.
-use Rattle.std.proofs.Common.{◌-◌, ◌≤◌, arith, rules}
+use Rattle.std.proofs.Common.{◌-◌, ◌≤◌}
 use Rattle.table.specs.Run.{Wrote}
-use Rattle.table.proofs.Run.{wrote_none, wrote_end}
 use Rattle.shares.specs.Growth.{narrow_flanks}
-use Rattle.shares.proofs.Growth.{flank_more}
 use Rattle.shares.proofs.growing.add_flanks.Given as goal
 
 abbrev pub invariant-loop-l : goal.invariant-loop-l

@@ -1,9 +1,7 @@
 -- `shares::growing::add_shares` meets its contract: the sums before the l-th have their share. Assumes nothing.
-use Rattle.std.proofs.Common.{◌-◌, ◌≤◌, arith, rules}
+use Rattle.std.proofs.Common.{◌-◌, ◌≤◌}
 use Rattle.table.specs.Run.{Wrote}
-use Rattle.table.proofs.Run.{wrote_none, wrote_end}
 use Rattle.shares.specs.Growth.{wrap_added}
-use Rattle.shares.proofs.Growth.{add-more}
 use Rattle.shares.proofs.growing.add_shares.Given as goal
 
 abbrev pub invariant-loop-l : goal.invariant-loop-l

@@ -1,5 +1,4 @@
 -- `shares::growing::both` meets its contract. Assumes nothing.
-use Rattle.std.proofs.Common.{rules}
 use Rattle.shares.specs.Shares.{wrap}
 use Rattle.shares.proofs.growing.both.Goals as goal
 

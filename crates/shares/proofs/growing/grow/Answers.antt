@@ -1,6 +1,5 @@
 -- `shares::growing::grow` meets its contract: the rows below j are grown. Assumes nothing.
-use Rattle.std.proofs.Common.{◌-◌, ◌≤◌, refl, ◌∙◌, arith, rules}
-use Rattle.shares.specs.Growth.{RowsGrown}
+use Rattle.std.proofs.Common.{refl, ◌∙◌, arith}
 use Rattle.shares.proofs.Growth.{rows_none, rows_more, rows_all}
 use Rattle.shares.proofs.growing.grow.Goals as goal
 

@@ -1,7 +1,6 @@
 -- `shares::growing::grow` meets its contract: the rows below j are grown. Assumes nothing.
-use Rattle.std.proofs.Common.{◌-◌, ◌≤◌, refl, ◌∙◌, arith, rules}
+use Rattle.std.proofs.Common.{◌-◌, ◌≤◌}
 use Rattle.shares.specs.Growth.{RowsGrown}
-use Rattle.shares.proofs.Growth.{rows_none, rows_more, rows_all}
 use Rattle.shares.proofs.growing.grow.Given as goal
 
 abbrev pub invariant-loop-j : goal.invariant-loop-j

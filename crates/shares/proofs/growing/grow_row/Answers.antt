@@ -1,5 +1,5 @@
 -- `shares::growing::grow_row` meets its contract: three runs grow, and the fourth is written anew. Assumes nothing.
-use Rattle.std.proofs.Common.{arith, rules}
+use Rattle.std.proofs.Common.{arith}
 use Rattle.shares.proofs.Growth.{row-grown}
 use Rattle.shares.proofs.growing.grow_row.Goals as goal
 

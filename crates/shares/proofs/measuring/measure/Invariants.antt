@@ -1,10 +1,8 @@
 -- `shares::measuring::measure` meets its contract: the rows below j are measured. Assumes nothing.
-use Rattle.std.proofs.Common.{◌≡◌, ◌-◌, ◌*◌, ◌≤◌, arith, rules}
+use Rattle.std.proofs.Common.{◌≡◌, ◌-◌, ◌*◌, ◌≤◌}
 use Rattle.sum.specs.Sum.{over}
 use Rattle.outline.specs.Grid.{stored}
-use Rattle.tally.proofs.Shares.{measurable, row_at, limits_at}
 use Rattle.shares.specs.Shares.{counted_of, owed, SharesTo}
-use Rattle.shares.proofs.Measured.{shares-none, shares-end, due_none, due_more, dues_end}
 use Rattle.shares.proofs.measuring.measure.Given as goal
 
 abbrev pub invariant-loop-j : goal.invariant-loop-j

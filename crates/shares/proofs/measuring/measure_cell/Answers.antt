@@ -1,5 +1,5 @@
 -- `shares::measuring::measure_cell` meets its contract. Assumes nothing.
-use Rattle.std.proofs.Common.{◌+◌, ◌*◌, ◌<◌, ◌≤◌, get_or, refl, arith, rules}
+use Rattle.std.proofs.Common.{◌+◌, ◌*◌, ◌<◌, ◌≤◌, get_or, refl, arith}
 use Rattle.shares.proofs.Measured.{put-counted, price-most, owed-cell}
 use Rattle.shares.proofs.measuring.measure_cell.Goals as goal
 

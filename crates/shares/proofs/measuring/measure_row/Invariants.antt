@@ -1,10 +1,9 @@
 -- `shares::measuring::measure_row` meets its contract: the cells of the row before the i-th are measured. Assumes nothing.
-use Rattle.std.proofs.Common.{◌≡◌, ◌+◌, ◌-◌, ◌*◌, ◌≤◌, length, ◌∙◌, arith, rules}
+use Rattle.std.proofs.Common.{◌≡◌, ◌+◌, ◌-◌, ◌*◌, ◌≤◌, length}
 use Rattle.sum.specs.Sum.{over}
 use Rattle.outline.specs.Grid.{Grid}
 use Rattle.tally.specs.Units.{Row}
 use Rattle.shares.specs.Shares.{counted_of, owed, SharesTo}
-use Rattle.shares.proofs.Measured.{shares_at, shares-more, shares-row, due_none, due_more, due_end}
 use Rattle.shares.proofs.measuring.measure_row.Given as goal
 
 abbrev pub invariant-loop-i : goal.invariant-loop-i

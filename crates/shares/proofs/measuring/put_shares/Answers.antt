@@ -1,6 +1,5 @@
 -- `shares::measuring::put_shares` meets its contract. Assumes nothing.
 use Rattle.tally.proofs.Shares.{put_five}
-use Rattle.std.proofs.Common.{rules}
 use Rattle.shares.proofs.measuring.put_shares.Goals as goal
 
 pub returns : goal.returns

@@ -1,6 +1,5 @@
 -- `shares::measuring::sides_of` meets its contract. Assumes nothing.
 use Rattle.shares.proofs.Measured.{sides_are}
-use Rattle.std.proofs.Common.{rules}
 use Rattle.shares.proofs.measuring.sides_of.Goals as goal
 
 pub returns : goal.returns

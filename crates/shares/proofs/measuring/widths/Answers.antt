@@ -1,8 +1,6 @@
 -- `shares::measuring::widths` meets its contract: the strips before the a-th have their width. Assumes nothing.
-use Rattle.std.proofs.Common.{◌-◌, ◌≤◌, arith, rules}
-use Rattle.table.specs.Run.{Wrote}
+use Rattle.std.proofs.Common.{arith}
 use Rattle.table.proofs.Run.{wrote_none}
-use Rattle.tally.specs.Units.{span_of}
 use Rattle.tally.proofs.Shares.{widths-more, widths-all}
 use Rattle.shares.proofs.measuring.widths.Goals as goal
 

@@ -1,9 +1,7 @@
 -- `shares::measuring::widths` meets its contract: the strips before the a-th have their width. Assumes nothing.
-use Rattle.std.proofs.Common.{◌-◌, ◌≤◌, arith, rules}
+use Rattle.std.proofs.Common.{◌-◌, ◌≤◌}
 use Rattle.table.specs.Run.{Wrote}
-use Rattle.table.proofs.Run.{wrote_none}
 use Rattle.tally.specs.Units.{span_of}
-use Rattle.tally.proofs.Shares.{widths-more, widths-all}
 use Rattle.shares.proofs.measuring.widths.Given as goal
 
 abbrev pub invariant-loop-a : goal.invariant-loop-a
