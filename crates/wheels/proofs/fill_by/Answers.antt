@@ -1,16 +1,12 @@
 -- `wheels::fill_by` meets its contract: all strips narrower than w are filled, and in the pinwheel mode kept. Assumes nothing.
-use Rattle.std.proofs.Common.{◌≡◌, ◌+◌, ◌-◌, ◌≤◌, length, sym, refl, ◌∙◌, arith}
-use Rattle.outline.specs.Grid.{stored}
-use Rattle.piece.specs.declared.Mode.TheVariants.{Pinwheel}
-use Rattle.piece.specs.Cuts.{cost}
+use Rattle.std.proofs.Common.{◌-◌, ◌≤◌, sym, refl, ◌∙◌, arith}
 use Rattle.table.proofs.Fill.{fill_limits}
 use Rattle.table.proofs.Pairs.{row-most}
-use Rattle.tally.specs.Sums.{Grown}
 use Rattle.tally.proofs.Sums.{grown-none, grown-next}
 use Rattle.tally.proofs.Growth.{growable_at, grown-at}
 use Rattle.tally.proofs.Shares.{rising-at, widths-at}
-use Rattle.widths.proofs.Fill.{State, state_none, laid-here, asks_weigh, asks_settle, told-width, state_all}
-use Rattle.wheels.proofs.Costs.{Kept, kept-none}
+use Rattle.widths.proofs.Fill.{state_none, laid-here, asks_weigh, asks_settle, told-width, state_all}
+use Rattle.wheels.proofs.Costs.{kept-none}
 use Rattle.wheels.proofs.Filling.{asks_by, start-by, asks_keep_by, kept_by, room_at}
 use Rattle.wheels.proofs.fill_by.Goals as goal
 

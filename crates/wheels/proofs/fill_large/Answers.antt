@@ -1,7 +1,6 @@
 -- `wheels::fill_large` meets its contract. Assumes nothing.
 use Rattle.table.proofs.Fill.{fill_limits}
 use Rattle.wheels.proofs.Filling.{large_room}
-use Rattle.std.proofs.Common.{rules}
 use Rattle.wheels.proofs.fill_large.Goals as goal
 
 pub fill_by-requires : goal.fill_by-requires

@@ -1,6 +1,5 @@
 -- `wheels::fill_small` meets its contract. Assumes nothing.
 use Rattle.wheels.proofs.Filling.{small-room}
-use Rattle.std.proofs.Common.{rules}
 use Rattle.wheels.proofs.fill_small.Goals as goal
 
 pub fill_by-requires : goal.fill_by-requires

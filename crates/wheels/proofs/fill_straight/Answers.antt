@@ -1,5 +1,4 @@
 -- `wheels::fill_straight` meets its contract: by straight cuts no store is asked for. Assumes nothing.
-use Rattle.std.proofs.Common.{rules}
 use Rattle.piece.proofs.Cuts.{straight-only}
 use Rattle.wheels.proofs.fill_straight.Goals as goal
 

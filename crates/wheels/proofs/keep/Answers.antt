@@ -1,8 +1,6 @@
 -- `wheels::keep` meets its contract: the first i numbers are kept. Assumes nothing.
-use Rattle.std.proofs.Common.{◌-◌, ◌≤◌, arith, rules}
-use Rattle.table.specs.Run.{Wrote}
+use Rattle.std.proofs.Common.{arith}
 use Rattle.table.proofs.Run.{wrote_none, wrote_end}
-use Rattle.strips.specs.Chunk.{listed}
 use Rattle.wheels.proofs.Steps.{kept_next}
 use Rattle.wheels.proofs.keep.Goals as goal
 

@@ -1,9 +1,7 @@
 -- `wheels::keep` meets its contract: the first i numbers are kept. Assumes nothing.
-use Rattle.std.proofs.Common.{◌-◌, ◌≤◌, arith, rules}
+use Rattle.std.proofs.Common.{◌-◌, ◌≤◌}
 use Rattle.table.specs.Run.{Wrote}
-use Rattle.table.proofs.Run.{wrote_none, wrote_end}
 use Rattle.strips.specs.Chunk.{listed}
-use Rattle.wheels.proofs.Steps.{kept_next}
 use Rattle.wheels.proofs.keep.Given as goal
 
 abbrev pub invariant-loop-i : goal.invariant-loop-i

@@ -1,5 +1,5 @@
 -- `wheels::weigh_by` meets its contract: by straight cuts nothing is weighed. Assumes nothing.
-use Rattle.std.proofs.Common.{sym, refl, ◌∙◌, rules}
+use Rattle.std.proofs.Common.{sym, refl, ◌∙◌}
 use Rattle.piece.proofs.Cuts.{straight-only}
 use Rattle.wheels.proofs.weigh_by.Goals as goal
 

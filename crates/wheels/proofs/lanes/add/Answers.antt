@@ -1,8 +1,6 @@
 -- `wheels::lanes::add` meets its contract: the lanes before the l-th are summed up. Assumes nothing.
-use Rattle.std.proofs.Common.{◌-◌, ◌≤◌, arith, rules}
-use Rattle.table.specs.Run.{Wrote}
+use Rattle.std.proofs.Common.{arith}
 use Rattle.table.proofs.Run.{wrote_none, wrote_end}
-use Rattle.wheels.specs.Wheel.{joined}
 use Rattle.wheels.proofs.Steps.{joined-more}
 use Rattle.wheels.proofs.lanes.add.Goals as goal
 

@@ -1,9 +1,7 @@
 -- `wheels::lanes::add` meets its contract: the lanes before the l-th are summed up. Assumes nothing.
-use Rattle.std.proofs.Common.{◌-◌, ◌≤◌, arith, rules}
+use Rattle.std.proofs.Common.{◌-◌, ◌≤◌}
 use Rattle.table.specs.Run.{Wrote}
-use Rattle.table.proofs.Run.{wrote_none, wrote_end}
 use Rattle.wheels.specs.Wheel.{joined}
-use Rattle.wheels.proofs.Steps.{joined-more}
 use Rattle.wheels.proofs.lanes.add.Given as goal
 
 abbrev pub invariant-loop-l : goal.invariant-loop-l

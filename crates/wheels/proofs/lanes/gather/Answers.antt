@@ -1,8 +1,6 @@
 -- `wheels::lanes::gather` meets its contract: the lanes before the l-th have one more line weighed. Assumes nothing.
-use Rattle.std.proofs.Common.{◌-◌, ◌≤◌, arith, rules}
-use Rattle.table.specs.Run.{Wrote}
+use Rattle.std.proofs.Common.{arith}
 use Rattle.table.proofs.Run.{wrote_none, wrote_end}
-use Rattle.wheels.specs.Wheel.{gathered}
 use Rattle.wheels.proofs.Steps.{gathered-more}
 use Rattle.wheels.proofs.lanes.gather.Goals as goal
 

@@ -1,9 +1,7 @@
 -- `wheels::lanes::gather` meets its contract: the lanes before the l-th have one more line weighed. Assumes nothing.
-use Rattle.std.proofs.Common.{◌-◌, ◌≤◌, arith, rules}
+use Rattle.std.proofs.Common.{◌-◌, ◌≤◌}
 use Rattle.table.specs.Run.{Wrote}
-use Rattle.table.proofs.Run.{wrote_none, wrote_end}
 use Rattle.wheels.specs.Wheel.{gathered}
-use Rattle.wheels.proofs.Steps.{gathered-more}
 use Rattle.wheels.proofs.lanes.gather.Given as goal
 
 abbrev pub invariant-loop-l : goal.invariant-loop-l

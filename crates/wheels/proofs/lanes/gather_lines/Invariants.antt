@@ -1,8 +1,6 @@
 -- `wheels::lanes::gather_lines` meets its contract: the other lines below x are weighed. Assumes nothing.
-use Rattle.std.proofs.Common.{◌≡◌, ◌-◌, ◌<◌, ◌≤◌, length, refl, ◌∙◌, arith}
-use Rattle.table.proofs.Entry.{count_most}
+use Rattle.std.proofs.Common.{◌≡◌, ◌-◌, ◌<◌, ◌≤◌, length}
 use Rattle.wheels.specs.Wheel.{LeastRest}
-use Rattle.wheels.proofs.Steps.{spot-room, inner_room, beside_of, pair_in, lines_none, lines_more, lines_end}
 use Rattle.wheels.proofs.lanes.gather_lines.Given as goal
 
 abbrev pub invariant-loop-x : goal.invariant-loop-x

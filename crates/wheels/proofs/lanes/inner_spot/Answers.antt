@@ -1,5 +1,5 @@
 -- `wheels::lanes::inner_spot` meets its contract. Assumes nothing.
-use Rattle.std.proofs.Common.{ℕ, ◌<◌, ◌≤◌, ◌⊎◌, ◌∙◌, inl, inr, arith, rules}
+use Rattle.std.proofs.Common.{ℕ, ◌<◌, ◌≤◌, ◌⊎◌, ◌∙◌, inl, inr, arith}
 use Rattle.wheels.proofs.Costs.{inner-low, inner-high}
 use Rattle.wheels.proofs.lanes.inner_spot.Goals as goal
 

@@ -1,8 +1,6 @@
 -- `wheels::lanes::lower` meets its contract: the pieces in the lanes before the l-th are lowered. Assumes nothing.
-use Rattle.std.proofs.Common.{◌-◌, ◌≤◌, arith, rules}
-use Rattle.table.specs.Run.{Wrote}
+use Rattle.std.proofs.Common.{arith}
 use Rattle.table.proofs.Run.{wrote_none, wrote_end}
-use Rattle.wheels.specs.Wheel.{lowered}
 use Rattle.wheels.proofs.Steps.{lowered-more}
 use Rattle.wheels.proofs.lanes.lower.Goals as goal
 

@@ -1,9 +1,7 @@
 -- `wheels::lanes::lower` meets its contract: the pieces in the lanes before the l-th are lowered. Assumes nothing.
-use Rattle.std.proofs.Common.{◌-◌, ◌≤◌, arith, rules}
+use Rattle.std.proofs.Common.{◌-◌, ◌≤◌}
 use Rattle.table.specs.Run.{Wrote}
-use Rattle.table.proofs.Run.{wrote_none, wrote_end}
 use Rattle.wheels.specs.Wheel.{lowered}
-use Rattle.wheels.proofs.Steps.{lowered-more}
 use Rattle.wheels.proofs.lanes.lower.Given as goal
 
 abbrev pub invariant-loop-l : goal.invariant-loop-l

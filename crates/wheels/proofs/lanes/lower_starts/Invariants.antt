@@ -1,10 +1,6 @@
 -- `wheels::lanes::lower_starts` meets its contract: the pieces that begin below b are lowered. Assumes nothing.
-use Rattle.std.proofs.Common.{◌≡◌, ◌-◌, ◌≤◌, length, sym, refl, ◌∙◌, arith}
-use Rattle.table.proofs.Entry.{count_most}
-use Rattle.widths.proofs.Lane.{pairs_small}
+use Rattle.std.proofs.Common.{◌≡◌, ◌-◌, ◌≤◌, length}
 use Rattle.wheels.specs.Wheel.{Weighed, Among, StartAt}
-use Rattle.wheels.proofs.Weighed.{among_none, among-end}
-use Rattle.wheels.proofs.Steps.{spot-room, pair_in, start-more}
 use Rattle.wheels.proofs.lanes.lower_starts.Given as goal
 
 abbrev pub invariant-loop-b : goal.invariant-loop-b

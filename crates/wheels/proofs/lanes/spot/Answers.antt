@@ -1,5 +1,5 @@
 -- `wheels::lanes::spot` meets its contract. Assumes nothing.
-use Rattle.std.proofs.Common.{arith, rules}
+use Rattle.std.proofs.Common.{arith}
 use Rattle.wheels.proofs.Steps.{spot-fits, spot-made}
 use Rattle.wheels.proofs.lanes.spot.Goals as goal
 

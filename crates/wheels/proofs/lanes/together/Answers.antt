@@ -1,5 +1,5 @@
 -- `wheels::lanes::together` meets its contract. Assumes nothing.
-use Rattle.std.proofs.Common.{◌+◌, ◌%◌, ◌^◌, ap, ◌∙◌, rules}
+use Rattle.std.proofs.Common.{◌+◌, ◌%◌, ◌^◌, ap, ◌∙◌}
 use Rattle.wheels.specs.Wheel.{wrapped}
 use Rattle.wheels.proofs.lanes.together.Goals as goal
 

@@ -1,5 +1,5 @@
 -- `wheels::lanes::weigh_lanes` meets its contract. Assumes nothing.
-use Rattle.std.proofs.Common.{replicate, arith, rules}
+use Rattle.std.proofs.Common.{replicate, arith}
 use lib.ListN.{get_or-replicate}
 use Rattle.wheels.proofs.Steps.{start_fits, wheels-weighed}
 use Rattle.wheels.proofs.lanes.weigh_lanes.Goals as goal

@@ -1,6 +1,6 @@
 -- `wheels::turning::weigh_line` meets its contract: the pinwheels whose inner parts begin below the line k are weighed. Assumes nothing.
-use Rattle.std.proofs.Common.{◌-◌, ◌<◌, ◌≤◌, ◌∙◌, arith}
-use Rattle.wheels.specs.Wheel.{Weighed, Among, FromTo}
+use Rattle.std.proofs.Common.{◌∙◌, arith}
+use Rattle.wheels.specs.Wheel.{FromTo}
 use Rattle.wheels.proofs.Weighed.{among_none, among-more}
 use Rattle.wheels.proofs.Turns.{line-end}
 use Rattle.wheels.proofs.turning.weigh_line.Goals as goal

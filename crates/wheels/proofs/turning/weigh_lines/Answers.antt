@@ -1,6 +1,6 @@
 -- `wheels::turning::weigh_lines` meets its contract: the pinwheels whose lower arms meet below a line are weighed. Assumes nothing.
-use Rattle.std.proofs.Common.{◌-◌, ◌<◌, ◌≤◌, ◌∙◌, arith}
-use Rattle.wheels.specs.Wheel.{Weighed, Among, OfLine}
+use Rattle.std.proofs.Common.{◌∙◌, arith}
+use Rattle.wheels.specs.Wheel.{OfLine}
 use Rattle.wheels.proofs.Weighed.{among_none, among-more, among-end}
 use Rattle.wheels.proofs.turning.weigh_lines.Goals as goal
 

@@ -1,8 +1,6 @@
 -- `wheels::turning::weigh_pairs` meets its contract: the pinwheels of both turns below the line m are weighed. Assumes nothing.
-use Rattle.std.proofs.Common.{◌+◌, ◌-◌, ◌<◌, ◌≤◌, ◌∙◌, arith}
+use Rattle.std.proofs.Common.{◌+◌, ◌-◌, ◌<◌, ◌≤◌}
 use Rattle.wheels.specs.Wheel.{Weighed, Among, BothTurns}
-use Rattle.wheels.proofs.Weighed.{among_none}
-use Rattle.wheels.proofs.Turns.{first_turning, second_turning, first_fitting, second_fitting, both-more, pairs_end}
 use Rattle.wheels.proofs.turning.weigh_pairs.Given as goal
 
 abbrev pub invariant-loop-m : goal.invariant-loop-m

@@ -1,8 +1,6 @@
 -- `wheels::turning::weigh_turn` meets its contract: the pinwheels that end below d are weighed. Assumes nothing.
-use Rattle.std.proofs.Common.{◌+◌, ◌-◌, ◌<◌, ◌≤◌, ◌∙◌, arith}
+use Rattle.std.proofs.Common.{◌+◌, ◌-◌, ◌<◌, ◌≤◌}
 use Rattle.wheels.specs.Wheel.{Weighed, Among, EndsAt}
-use Rattle.wheels.proofs.Weighed.{among_none, among-more}
-use Rattle.wheels.proofs.Turns.{turned_none, turned-end, fits-at}
 use Rattle.wheels.proofs.turning.weigh_turn.Given as goal
 
 abbrev pub invariant-loop-d : goal.invariant-loop-d
