@@ -3,9 +3,8 @@
 --
 --   worked           == the text of 0 0 10 10, byte by byte
 --   row-bytes        == how many bytes some texts have;   row-boxes == the longest box line, and one in the far corner
-use Prim.Native.Nat.{ℕ}
 use mathlib.Core.Path.{◌≡◌, refl}
-use mathlib.Core.List.{List, [], ◌∷◌, ◌++◌}
+use mathlib.Core.List.{[], ◌∷◌}
 use lib.ListN.{length}
 use Rattle.sum.specs.Sum.{join}
 use Rattle.shot.specs.Shot.{shots_in}

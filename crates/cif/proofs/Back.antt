@@ -8,10 +8,10 @@
 --   cif_only         == a text that is read is the one text of the list that it gives
 --   one_text         == two texts that are read to the same shots are the same
 --   fits             == a list that passes 21, each of its numbers of 16 bits, is one of shots that fit
-use Prim.Native.Nat.{ℕ, suc, ◌+◌, ◌*◌, ◌/◌, ◌%◌, ◌<◌, ◌≤◌}
+use Prim.Native.Nat.{ℕ, suc, ◌+◌, ◌*◌, ◌/◌, ◌%◌, ◌≤◌}
 use mathlib.Core.Path.{◌≡◌, ◌∙◌, refl, sym, ap, ap₂, subst}
 use mathlib.Core.Bool.{Bool, true, false, not, ◌||◌, true≢false}
-use mathlib.Core.Logic.{◌⊎◌, inl, inr}
+use mathlib.Core.Logic.{inl, inr}
 use mathlib.Core.List.{List, [], ◌∷◌, ◌++◌}
 use native.Mathlib.Omega.{arith}
 use lib.Dec.{eqb}
@@ -24,12 +24,12 @@ use Rattle.refusal.specs.Refusals.{refusal_no}
 use Rattle.shot.specs.Shot.{Shot, numbers, shots_in}
 use Rattle.shot.specs.Bad.{shot_of, empty, any_empty, bad_shots}
 use Rattle.shot.proofs.Shot.{numbers-length, shots-numbers}
-use Rattle.shot.proofs.Bad.{Good, full, good-shots, numbers-shots}
-use Rattle.number.proofs.Bytes.{stands-room, stands-front, stands-back, stands-whole}
+use Rattle.shot.proofs.Bad.{full, good-shots, numbers-shots}
+use Rattle.number.proofs.Bytes.{stands-front, stands-back, stands-whole}
 use Rattle.cif.specs.Text.{box_line, symbol, layer, finish, call, end, cif_text, cif_bytes, Fit}
 use Rattle.cif.specs.Faults.{Stands, NoBox, Stops, Extra, Closing, FaultAt}
 use Rattle.cif.specs.Calls.{ReadSaid, said, ReadSays, shots, room, line}
-use Rattle.cif.specs.Steps.{Boxes, Stored}
+use Rattle.cif.specs.Steps.{Stored}
 use Rattle.cif.proofs.Boxing.{boxes-one, box-not-finish}
 
 -- the parts of a text

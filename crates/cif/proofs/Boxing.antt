@@ -7,17 +7,17 @@
 --   boxes-one        == as many boxes as there are at a place: no other shots have theirs there
 --   walked-..        == the loop over boxes
 --   between-even     == the ends of a doubled side about a doubled centre
-use Prim.Native.Nat.{ℕ, zero, suc, ◌+◌, ◌-◌, ◌*◌, ◌/◌, ◌%◌, ◌<◌, ◌≤◌}
+use Prim.Native.Nat.{ℕ, ◌+◌, ◌-◌, ◌*◌, ◌/◌, ◌%◌, ◌<◌, ◌≤◌}
 use mathlib.Core.Path.{◌≡◌, ◌∙◌, refl, sym, ap, ap₂, subst}
-use mathlib.Core.Logic.{inl, inr}
+use mathlib.Core.Logic.{inr}
 use mathlib.Core.List.{List, [], ◌∷◌, ◌++◌, append_assoc, append-nil}
 use native.Mathlib.Omega.{arith}
-use lib.ListN.{length, get_or, take, drop, length-append}
+use lib.ListN.{length, length-append}
 use Rattle.sum.specs.Sum.{join, All}
 use Rattle.sum.proofs.Lists.{All-append, join-append}
 use Rattle.shot.specs.Shot.{Shot}
 use Rattle.shot.specs.Bad.{shot_of}
-use Rattle.number.proofs.Bytes.{stands_at, stands-first, stands-room, stands-join, stands-front, stands-back}
+use Rattle.number.proofs.Bytes.{stands-first, stands-room, stands-join, stands-front, stands-back}
 use Rattle.cif.specs.Text.{decimal, field, box_of, doubled_side, doubled_centre, box_line, finish, Fit}
 use Rattle.cif.specs.Faults.{Stands, NoBox}
 use Rattle.cif.specs.declared.numeral.Pair.{Pair}

@@ -13,8 +13,8 @@ use mathlib.Core.Logic.{◌⊎◌, inl, inr}
 use mathlib.Core.List.{List, [], ◌∷◌, ◌++◌}
 use native.Mathlib.Omega.{arith}
 use native.Mathlib.Nat.{add-zero}
-use lib.ListN.{length, get_or, take, drop, length-append, length-take, length-drop, get_or-append}
-use lib.Seq.{ext_get_or, get_or-take, get_or-drop, get_or-append-add, take_all, drop-nil}
+use lib.ListN.{length, get_or, take, drop, length-append, length-take, length-drop}
+use lib.Seq.{ext_get_or, get_or-take, get_or-drop}
 use Rattle.sum.proofs.Sum.{le-or}
 use Rattle.number.proofs.Bytes.{stands_at, stands-first, stands-room, stands-join, stands-front, stands-back}
 use Rattle.cif.specs.Text.{decimal, field}

@@ -9,10 +9,10 @@
 --   measure-.., putting-.. == the loops over a list
 --   text_length, text_put == a whole text
 --   write_bad, write_short, write_fits == the cases of `cif_written`
-use Prim.Native.Nat.{ℕ, zero, suc, ◌+◌, ◌-◌, ◌*◌, ◌/◌, ◌%◌, ◌<◌, ◌≤◌}
+use Prim.Native.Nat.{ℕ, suc, ◌+◌, ◌-◌, ◌*◌, ◌/◌, ◌%◌, ◌<◌, ◌≤◌}
 use mathlib.Core.Path.{◌≡◌, ◌∙◌, refl, sym, ap, ap₂, subst}
 use mathlib.Core.Bool.{true, false}
-use mathlib.Core.List.{List, [], ◌∷◌, ◌++◌, append_assoc}
+use mathlib.Core.List.{List, [], ◌∷◌, ◌++◌}
 use native.Mathlib.Omega.{arith}
 use native.Mathlib.Numerals.{add-one}
 use native.Mathlib.Nat.{add-zero}
@@ -25,12 +25,12 @@ use Rattle.refusal.specs.declared.Refusal.TheVariants as because
 use Rattle.refusal.specs.Refusals.{refusal_no}
 use Rattle.shot.specs.Shot.{Shot, shots_in}
 use Rattle.shot.specs.Bad.{shot_of, bad_shots}
-use Rattle.shot.proofs.Bad.{Good, good-shots, four-at}
+use Rattle.shot.proofs.Bad.{good-shots, four-at}
 use Rattle.cif.specs.Text.{decimal, field, box_of, box_line, symbol, layer, finish, call, end, cif_text, cif_bytes}
 use Rattle.cif.specs.Calls.{WriteSaid, unwritten, written_to, cif_written}
 use Rattle.cif.specs.declared.writing.Measured.{Measured}
 use Rattle.cif.specs.declared.writing.Measured.TheVariants as measured
-use Rattle.cif.specs.Steps.{Small, Reckoned, boxes_bytes, MeasureTold}
+use Rattle.cif.specs.Steps.{Reckoned, boxes_bytes, MeasureTold}
 use Rattle.cif.proofs.Decimal.{decimal-small, decimal_split}
 
 -- a number

@@ -6,7 +6,7 @@
 --   shot-put         == the four numbers of a shot
 --   Left, Storing, store_start, store_none, store_more, store_end == the loop that stores the shots
 --   word_room, alike-start, alike-other, alike-more, alike_end == no room for l; none yet; one that differs; one more; all
-use Prim.Native.Nat.{ℕ, zero, suc, ◌+◌, ◌-◌, ◌*◌, ◌<◌, ◌≤◌}
+use Prim.Native.Nat.{ℕ, suc, ◌+◌, ◌-◌, ◌*◌, ◌<◌, ◌≤◌}
 use mathlib.Core.Path.{◌≡◌, ◌∙◌, refl, sym, ap, ap₂, subst}
 use mathlib.Core.Bool.{true, false, true≢false}
 use mathlib.Core.Logic.{◌⊎◌, inl, inr}

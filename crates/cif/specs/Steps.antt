@@ -23,12 +23,12 @@
 --   Reckoned s a b x y   == these are the four numbers of the box of the shot s, of six digits at most
 --   boxes_bytes l         == the box lines of a list of numbers
 --   MeasureTold l room r == how many bytes these are, or that they are more than the room
-use Rattle.std.specs.Prelude.{ℕ, ◌+◌, ◌-◌, ◌*◌, ◌<◌, ◌≤◌, ◌≡◌, Bool, true, false, List, [], ◌∷◌, ◌++◌, length, get_or}
+use Rattle.std.specs.Prelude.{ℕ, ◌+◌, ◌<◌, ◌≤◌, ◌≡◌, Bool, true, false, List, [], ◌∷◌, ◌++◌, length, get_or}
 use Rattle.std.proofs.lemmas.List.Edits.{sets}
 use Rattle.sum.specs.Sum.{join, All}
 use Rattle.shot.specs.Shot.{Shot, numbers, shots_in}
 use Rattle.shot.specs.Bad.{shot_of}
-use Rattle.cif.specs.Text.{decimal, field, box_of, doubled_side, doubled_centre, box_line, cif_text, symbol, layer, finish, call, end, Fit}
+use Rattle.cif.specs.Text.{field, box_of, doubled_side, doubled_centre, box_line, cif_text, symbol, layer, finish, call, end, Fit}
 use Rattle.cif.specs.Faults.{Stands, NoBox, Stops, Extra, FaultAt}
 use Rattle.cif.specs.declared.numeral.Numeral.{Numeral}
 use Rattle.cif.specs.declared.numeral.Numeral.TheVariants as numeral

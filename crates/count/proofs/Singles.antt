@@ -5,8 +5,8 @@
 --   reach_made, reach_more, reach_range, reach_none   == the reach of a row from that of the next column, and that it is 1 to 15
 --   column-one, column-two, column-three     == a column of so many rows, by its cells and reaches
 --   spared-one, spared-two, spared-three     == the same of what the code adds up
-use Prim.Native.Nat.{ℕ, zero, suc, ◌+◌, ◌*◌, ◌-◌, ◌≤◌, ◌<◌, min}
-use mathlib.Core.Path.{◌≡◌, refl, sym, ◌∙◌, ap, ap₂, subst}
+use Prim.Native.Nat.{ℕ, suc, ◌+◌, ◌*◌, ◌-◌, ◌≤◌, ◌<◌, min}
+use mathlib.Core.Path.{◌≡◌, refl, sym, ◌∙◌, ap, ap₂}
 use mathlib.Core.Bool.{Bool, true, false, cond}
 use mathlib.Core.List.{List}
 use native.Mathlib.Omega.{arith}

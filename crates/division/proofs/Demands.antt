@@ -29,7 +29,7 @@ use Prim.Native.Nat.{ℕ, suc, ◌+◌, ◌*◌, ◌≤◌, ◌<◌}
 use mathlib.Core.Path.{◌≡◌, refl, sym, ◌∙◌, ap, subst}
 use mathlib.Core.Bool.{Bool, true, false}
 use mathlib.Core.Logic.{◌⊎◌, inl, inr}
-use mathlib.Core.List.{List, [], ◌∷◌, map, Memᴰ as Member}
+use mathlib.Core.List.{List, [], ◌∷◌, Memᴰ as Member}
 use native.Mathlib.Omega.{arith}
 use native.Mathlib.Nat.{mul-le-mul, mul-add}
 use lib.ListN.{length, take, get_or}
@@ -63,11 +63,11 @@ use Rattle.demands.proofs.Writable.{none-empty}
 use Rattle.demands.proofs.Demands as demands
 use Rattle.demands.proofs.Room as room
 use Rattle.division.specs.Division.{across, upward, divided, product}
-use Rattle.division.specs.Promise.{bad_largest, aside, parts, divided_outcome, Condition, First}
+use Rattle.division.specs.Promise.{aside, parts, divided_outcome, Condition, First}
 use Rattle.division.proofs.Division.{divided_cover, divided-fit, divided-sliver}
 use Rattle.division.proofs.Room.{divided-most}
 use Rattle.division.proofs.Written.{joined_length}
-use Rattle.division.proofs.Outcome.{largest-good, short_of, done_of, Passed, Short, Accepted, Stage, at-rule, at-largest, at-figure, at-list, at-end, stage, accepted, short}
+use Rattle.division.proofs.Outcome.{largest-good, short_of, done_of, Passed, Accepted, Stage, at-rule, at-largest, at-figure, at-list, at-end, stage, accepted, short}
 use Rattle.division.proofs.Refusals.{first_one, Answered, none, some, answered}
 
 -- the charges of some shots: a thousand each, and their sliver lengths by the weight

@@ -16,7 +16,7 @@ use Rattle.sum.proofs.Sum.{le-or}
 use Rattle.rule.specs.Rules.{in_range}
 use Rattle.shot.specs.Shot.{Shot, numbers}
 use Rattle.demands.specs.Promise.{Asked, Outcome, written, refused, outcome}
-use Rattle.demands.specs.Demands.{reported, answer}
+use Rattle.demands.specs.Demands.{answer}
 use Rattle.demands.proofs.Outcome.{with_buffers}
 use Rattle.demands.proofs.Demands as demands
 use Rattle.division.specs.Division.{divided}

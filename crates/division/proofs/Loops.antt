@@ -4,16 +4,14 @@
 --   Stacking, stack-..   : the rows are written as far as row i
 --   Filling, fill-..     : the shots are written as far as shot k
 --   Counting, counting-..: the parts are counted as far as shot k
-use Prim.Native.Nat.{ℕ, suc, ◌+◌, ◌*◌, ◌-◌, ◌≤◌, ◌<◌}
-use mathlib.Core.Path.{◌≡◌, refl, sym, ◌∙◌, ap, ap₂, subst}
+use Prim.Native.Nat.{ℕ, suc, ◌+◌, ◌*◌, ◌≤◌, ◌<◌}
+use mathlib.Core.Path.{◌≡◌, sym, ◌∙◌, ap, ap₂}
 use mathlib.Core.List.{List, [], ◌∷◌, ◌++◌}
 use native.Mathlib.Omega.{arith}
-use native.Mathlib.Numerals.{add-one}
 use native.Mathlib.Nat.{mul_comm, mul-le-mul}
-use lib.ListN.{length, get_or}
+use lib.ListN.{length}
 use lib.Seq.{sets}
 use Rattle.sum.specs.Sum.{sum_of, join}
-use Rattle.shot.specs.Shot.{Shot}
 use Rattle.shot.specs.Bad.{shot_of}
 use Rattle.piece.specs.Cuts.{run}
 use Rattle.division.specs.declared.side.Side.{Side}

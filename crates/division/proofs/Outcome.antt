@@ -11,9 +11,8 @@ use Prim.Native.Nat.{ℕ, ◌+◌, ◌*◌, ◌≤◌, ◌<◌}
 use mathlib.Core.Path.{◌≡◌, refl, sym, ◌∙◌, ap, ap₂}
 use mathlib.Core.Bool.{Bool, true, false, cond, ◌||◌, true≢false}
 use mathlib.Core.Logic.{◌⊎◌, inl, inr}
-use mathlib.Core.List.{List}
 use native.Mathlib.Omega.{arith}
-use lib.Dec.{ltb, eqb}
+use lib.Dec.{ltb}
 use lib.ListN.{length, length-replicate}
 use borrow.Author.Tests.{lt-ltb, le-ltb, ltb-true, ltb-false, eq-eqb, ne_eqb}
 use Rattle.sum.proofs.Sum.{le-or}
@@ -24,7 +23,6 @@ use Rattle.refusal.specs.Refusals.{refusal_no}
 use Rattle.refusal.proofs.Refusals.{refusal-some}
 use Rattle.rule.specs.Rules.{in_range}
 use Rattle.shot.specs.Shot.{numbers}
-use Rattle.figure.specs.Figure.{Figure}
 use Rattle.piece.specs.Piece.{frame}
 use Rattle.piece.proofs.Bound.{count_most}
 use Rattle.demands.specs.Promise.{Asked, drawn, rule_of, frame_shots, Outcome, written, refused, outcome}

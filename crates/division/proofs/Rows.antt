@@ -5,13 +5,13 @@
 --   full-square        == the full square of 65,535 nm has 107,584 parts at 200 nm, more than 16 bits count
 --   range-rows         == the ends of the range of the largest side, by thresholds of 25, 101, 1,000 and 0 nm
 --   nose_200, nose_210 == the block with a nose by 25 nm and 40: at 200 nm four shots, cost 4,000; at 210 nm three, as without
-use Prim.Native.Nat.{ℕ, ◌*◌, ◌≤◌, ◌<◌}
+use Prim.Native.Nat.{ℕ, ◌*◌, ◌≤◌}
 use mathlib.Core.Path.{◌≡◌, refl, sym, ◌∙◌, ap}
 use mathlib.Core.Bool.{true, false}
 use mathlib.Core.List.{List, [], ◌∷◌}
 use native.Mathlib.Omega.{arith}
 use lib.ListN.{length, take}
-use Rattle.sum.specs.Sum.{All, join}
+use Rattle.sum.specs.Sum.{join}
 use Rattle.rule.specs.Rules.{in_range}
 use Rattle.shot.specs.Shot.{Shot, numbers, shots_in}
 use Rattle.shot.specs.Bad.{shot_of}
@@ -20,7 +20,7 @@ use Rattle.piece.specs.declared.Mode.TheVariants.{Straight}
 use Rattle.piece.specs.Cuts.{run}
 use Rattle.demands.specs.Promise.{Asked, Outcome, written, outcome}
 use Rattle.demands.specs.Demands.{reported}
-use Rattle.demands.specs.Rows.{B, Says}
+use Rattle.demands.specs.Rows.{B}
 use Rattle.demands.proofs.Outcome.{written-front}
 use Rattle.demands.proofs.Rows.{rows-hold}
 use Rattle.division.specs.Division.{part_count, start, part, divided, product}

@@ -9,10 +9,9 @@
 use Prim.Native.Nat.{ℕ, ◌+◌, ◌*◌, ◌≤◌, ◌<◌}
 use mathlib.Core.Path.{◌≡◌, refl, sym, ◌∙◌, ap, ap₂, subst}
 use mathlib.Core.Bool.{Bool, true, false, cond}
-use mathlib.Core.Logic.{◌⊎◌, inl, inr}
+use mathlib.Core.Logic.{inl, inr}
 use mathlib.Core.List.{List}
 use native.Mathlib.Omega.{arith}
-use lib.Dec.{ltb}
 use lib.ListN.{length}
 use borrow.Author.Tests.{lt-ltb, le-ltb}
 use Rattle.sum.specs.Sum.{sum_of, All, join}
@@ -21,9 +20,8 @@ use Rattle.refusal.specs.declared.Refusal.{Refusal}
 use Rattle.refusal.specs.declared.Refusal.TheVariants as because
 use Rattle.refusal.specs.Refusals.{refusal_no}
 use Rattle.refusal.proofs.Refusals.{refusal-some}
-use Rattle.rule.specs.declared.Rule.{Rule}
 use Rattle.rule.specs.Rules.{in_range, Told, given, refused as unknown, rule_told}
-use Rattle.shot.specs.Shot.{Shot, numbers, shots_in}
+use Rattle.shot.specs.Shot.{Shot, numbers}
 use Rattle.piece.specs.declared.Mode.{Mode}
 use Rattle.demands.specs.Promise.{Asked, asked, drawn, rule_of, frame_shots, Outcome, written, refused, outcome}
 use Rattle.demands.specs.Refusals as undivided
@@ -37,7 +35,7 @@ use Rattle.fracture.specs.declared.Fractured.TheVariants.{Done, Refused}
 use Rattle.fracture.specs.Told.{told}
 use Rattle.fracture.proofs.Settled.{fracture_unique}
 use Rattle.division.specs.Division.{divided, product}
-use Rattle.division.specs.Promise.{bad_largest, room_aside, aside, parts, listed, after, divided_outcome}
+use Rattle.division.specs.Promise.{bad_largest, room_aside, aside, parts, listed, divided_outcome}
 use Rattle.division.specs.Steps.{in_front, Wrote, Divisible}
 use Rattle.division.proofs.Written.{wrote_front, joined_length}
 use Rattle.division.proofs.Outcome.{room-aside, largest-good, Passed, outcome-rule, outcome-largest, outcome-after, after-refused, after-listed}

@@ -11,18 +11,18 @@
 --   front-none, front-next, front-at   : no shot, the next shot, all shots, of a list of numbers
 --   area-at, product_at  : the shot at hand has area, and few parts together with those before it
 --   joined_length        : how many parts some shots have
-use Prim.Native.Nat.{ℕ, zero, suc, ◌+◌, ◌*◌, ◌-◌, ◌/◌, ◌%◌, ◌≤◌, ◌<◌, min}
+use Prim.Native.Nat.{ℕ, zero, suc, ◌+◌, ◌*◌, ◌-◌, ◌≤◌, ◌<◌}
 use mathlib.Core.Path.{◌≡◌, refl, sym, ◌∙◌, ap, ap₂, subst}
-use mathlib.Core.List.{List, [], ◌∷◌, ◌++◌, map, append_assoc, append-nil}
+use mathlib.Core.List.{List, [], ◌∷◌, ◌++◌, map, append-nil}
 use mathlib.Core.Logic.{inl, inr}
 use native.Mathlib.Omega.{arith}
-use native.Mathlib.Nat.{mul_comm, mul-add, mul-suc, mul-le-mul_left}
-use lib.ListN.{length, take, drop, get_or, set, length-append, length-take, length-map}
+use native.Mathlib.Nat.{mul_comm, mul-suc, mul-le-mul_left}
+use lib.ListN.{length, take, drop, get_or, set, length-append, length-map}
 use lib.Seq.{sets, take-add, length-sets, length-take-le}
 use Rattle.sum.specs.Sum.{sum_of, All, join}
 use Rattle.sum.proofs.Sum.{le-or}
 use Rattle.sum.proofs.Lists.{sum_of-append, sum_of-join, sum_of_ones, sum_of-same, All-parts, All-all, join-append, sets_append, sets_front}
-use Rattle.shot.specs.Shot.{Shot, four, numbers, shots_in}
+use Rattle.shot.specs.Shot.{Shot, numbers, shots_in}
 use Rattle.shot.specs.Bad.{shot_of}
 use Rattle.shot.proofs.Shot.{numbers-length, numbers-append}
 use Rattle.shot.proofs.Bad.{four-at}
@@ -31,8 +31,8 @@ use Rattle.table.proofs.Entry.{run_length}
 use Rattle.demands.specs.Promise.{written}
 use Rattle.division.specs.declared.side.Side.{Side}
 use Rattle.division.specs.Division.{part_count, start, part, divided, product}
-use Rattle.division.specs.Steps.{side_of, edge, row_of, rows_of, in_front, Wrote, Divisible}
-use Rattle.division.proofs.Evenly.{count_low, count-high, count-some, start-last}
+use Rattle.division.specs.Steps.{side_of, edge, row_of, rows_of, in_front, Wrote}
+use Rattle.division.proofs.Evenly.{count-high, count-some, start-last}
 use Rattle.division.proofs.Division.{divided-count}
 
 -- Sides

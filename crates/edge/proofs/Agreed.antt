@@ -14,7 +14,7 @@
 use Prim.Native.Nat.{ℕ, suc}
 use mathlib.Core.Path.{◌≡◌, refl}
 use mathlib.Core.List.{List, [], ◌∷◌}
-use Rattle.sum.specs.Sum.{only, sum_of, over, join}
+use Rattle.sum.specs.Sum.{sum_of, over, join}
 use Rattle.figure.specs.Corners.{corners, coordinate, last, steps, around, any, edges, threes, last_but_one, turns, changes, odd, both, neither, same, alike as bends, slanted, unturned, still, origin}
 use Rattle.figure.specs.Figure.{Figure, figure, share, bad_length, bad_figure, fault}
 use Rattle.figure.specs.Inside.{wall, walls, covers, count, within, inside_at}

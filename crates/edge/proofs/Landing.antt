@@ -6,7 +6,7 @@
 --   wall-lands           == with a list that covers the figure, each stretch on a side of the figure ends up on a shot, and no other
 --                           shot has that side there
 --   not_landed           == one that lies on no side of the figure ends up on none
-use Prim.Native.Nat.{ℕ, zero, suc, ◌+◌, ◌-◌, ◌<◌}
+use Prim.Native.Nat.{ℕ, zero, suc, ◌+◌, ◌<◌}
 use mathlib.Core.Path.{◌≡◌, refl, sym, ◌∙◌, ap}
 use mathlib.Core.Bool.{Bool, true, false, not, cond}
 use mathlib.Core.List.{List, [], ◌∷◌, Memᴰ as Member}

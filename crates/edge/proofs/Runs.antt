@@ -6,7 +6,7 @@
 --   runs-right, runs_unique      == the runs do all three, and no other list does
 --   shared_le                    == they go upwards
 --   runs-most                    == one more than there are marks, if a mark stands wherever neighbours end up differently
-use Prim.Native.Nat.{ℕ, zero, suc, ◌+◌, ◌-◌, ◌≤◌, ◌<◌}
+use Prim.Native.Nat.{ℕ, zero, suc, ◌+◌, ◌≤◌, ◌<◌}
 use mathlib.Core.Path.{◌≡◌, refl, sym, ◌∙◌, ap, ap₂, subst}
 use mathlib.Core.Bool.{Bool, true, false, cond, ◌&&◌, true≢false}
 use mathlib.Core.List.{List, [], ◌∷◌}

@@ -26,7 +26,7 @@ use Rattle.demands.proofs.Outcome.{written-past}
 use Rattle.edge.specs.declared.Walked.{Walked}
 use Rattle.edge.specs.declared.Walked.TheVariants as answer
 use Rattle.edge.specs.Edge.{across, stands_at, low_along, high_along, low, high, edge_at}
-use Rattle.edge.specs.Landing.{Run, landing, runs, edge_runs}
+use Rattle.edge.specs.Landing.{Run, landing, edge_runs}
 use Rattle.edge.specs.Promise.{EdgeSaid, run_numbers, unwalked, handed, edge_walked, edge_told}
 use Rattle.edge.proofs.Runs.{Right, runs-right, runs_unique}
 use Rattle.edge.proofs.Writing.{run-numbers-length}

@@ -4,7 +4,7 @@
 --   in_span a s k         == k lies between its ends along the other axis
 --   facing-shot          == a stretch lies on the low side of a shot exactly if it stands where the shot begins, within its span; on the
 --                           high side exactly if it stands where it ends
-use Prim.Native.Nat.{ℕ, zero, suc, ◌-◌, ◌≤◌, ◌<◌}
+use Prim.Native.Nat.{ℕ, zero, suc, ◌≤◌, ◌<◌}
 use mathlib.Core.Path.{◌≡◌, refl, ◌∙◌, ap₂}
 use mathlib.Core.Bool.{Bool, true, false, not, cond, ◌&&◌}
 use mathlib.Core.Logic.{◌⊎◌, inl, inr}

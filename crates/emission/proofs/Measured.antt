@@ -19,7 +19,7 @@ use Rattle.sum.proofs.Sum.{le-or}
 use Rattle.outline.specs.Grid.{Grid}
 use Rattle.rule.specs.declared.Rule.{Rule}
 use Rattle.rule.specs.Charge.{charge_of}
-use Rattle.piece.specs.Piece.{Piece, box, sliver, charge}
+use Rattle.piece.specs.Piece.{Piece, sliver, charge}
 use Rattle.piece.specs.Meant.{meant}
 use Rattle.piece.specs.Cuts.{numbers_of}
 use Rattle.piece.specs.declared.Piece as stored

@@ -31,7 +31,7 @@ use Rattle.piece.specs.Cuts.{shots, cost, numbers_of}
 use Rattle.piece.proofs.Cells.{cells-product}
 use Rattle.piece.proofs.Cuts.{Part, shots-part}
 use Rattle.piece.proofs.Choice.{numbers-length}
-use Rattle.table.specs.Entry.{Valid, pair_count, pair_no, entry_of}
+use Rattle.table.specs.Entry.{Valid, pair_no, entry_of}
 use Rattle.table.proofs.Entry.{below-zero, count_most, entry-below}
 use Rattle.verdict.specs.declared.Plan.{Plan}
 use Rattle.verdict.specs.declared.Numbered.{Numbered}

@@ -6,7 +6,6 @@ use mathlib.Core.Path.{◌≡◌, ◌∙◌, refl, sym, ap, ap₂}
 use mathlib.Core.List.{List}
 use lib.IntN.{ℤ}
 use Rattle.refusal.specs.declared.Refusal.{Refusal}
-use Rattle.refusal.specs.Refusals.{refusal_no}
 use Rattle.refusal.proofs.Refusals.{refusal-one, never}
 use Rattle.gdsii.specs.declared.Boundary.{Boundary}
 use Rattle.gdsii.specs.declared.Boundary.TheVariants as reading

@@ -2,7 +2,7 @@
 --
 --   join-settled    == two outcomes that the promise allows are the same
 --   answer-settled  == so are two answers of the call, and the tables that they leave
-use Prim.Native.Nat.{ℕ, ◌+◌, ◌-◌, ◌<◌}
+use Prim.Native.Nat.{ℕ, ◌-◌, ◌<◌}
 use native.Mathlib.Omega.{arith}
 use mathlib.Core.Path.{◌≡◌, refl, sym, ◌∙◌, ap, ap₂}
 use mathlib.Core.Bool.{Bool, true, false}

@@ -4,7 +4,7 @@
 --   no-two_free      == no two free shots could still be joined
 --   flashes-pairs    == the flashes and the pairs are together the shots
 --   pair-corners     == the union of a shot and its partner has six corners or four
-use Prim.Native.Nat.{ℕ, ◌+◌, ◌*◌, ◌-◌, ◌<◌, ◌≤◌}
+use Prim.Native.Nat.{ℕ, ◌+◌, ◌*◌, ◌<◌, ◌≤◌}
 use native.Mathlib.Omega.{arith}
 use mathlib.Core.Path.{◌≡◌, ap}
 use mathlib.Core.Logic.{◌⊎◌}

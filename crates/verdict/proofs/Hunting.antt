@@ -25,7 +25,7 @@ use Rattle.piece.specs.declared.Turn.TheVariants.{First, Second}
 use Rattle.piece.specs.declared.Piece as stored
 use Rattle.piece.specs.Piece.{Piece, box}
 use Rattle.piece.specs.Meant.{meant}
-use Rattle.piece.specs.Cuts.{wheel, parts, Inner, Lower, Then}
+use Rattle.piece.specs.Cuts.{wheel, parts, Inner, Lower}
 use Rattle.piece.proofs.Cuts.{Part, parts-part, cuts-at}
 use Rattle.table.specs.Entry.{Valid, entry_of}
 use Rattle.table.proofs.Entry.{entry-below}

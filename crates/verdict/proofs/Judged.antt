@@ -10,7 +10,7 @@
 --   turnable                            : where there is none, a pinwheel can be sought and found
 --   made-wheel                          : the first pinwheel whose parts do
 --   level_found                         : by straight cuts alone a line is found
-use Prim.Native.Nat.{ℕ, ◌+◌, ◌*◌, ◌-◌, ◌≤◌, ◌<◌}
+use Prim.Native.Nat.{ℕ, ◌+◌, ◌*◌, ◌≤◌, ◌<◌}
 use mathlib.Core.Path.{◌≡◌, refl, ap, ap₂, sym, ◌∙◌}
 use mathlib.Core.Bool.{Bool, true, false}
 use mathlib.Core.List.{List}
@@ -39,7 +39,6 @@ use Rattle.table.specs.Entry.{pair_count, pair_no, entry_of, Valid}
 use Rattle.table.proofs.Entry.{entry-below, count_most}
 use Rattle.piece.specs.declared.Piece as stored
 use Rattle.verdict.specs.declared.Plan.{Plan}
-use Rattle.verdict.specs.declared.Numbered.{Numbered}
 use Rattle.verdict.specs.declared.pinwheel.Wheel.{Wheel}
 use Rattle.verdict.specs.declared.pinwheel.Turned.TheVariants as verdict
 use Rattle.verdict.specs.declared.Cuts.{Cuts}

@@ -2,7 +2,6 @@
 use mathlib.Core.Path.{◌∙◌, sym, ap}
 use Rattle.fracture.specs.Told.{told}
 use Rattle.capi.specs.Lent.{fracture_lent}
-use borrow.Author.Rules.{rules}
 use Rattle.capi.proofs.lend.Goals as goal
 
 pub returns-in-Done : goal.returns-in-Done

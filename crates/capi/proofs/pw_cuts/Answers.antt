@@ -1,9 +1,7 @@
 -- `pw_cuts` meets its contract: it lends on what is told ahead. Assumes nothing.
-use Rattle.refusal.proofs.Refusals.{told_as}
 use Rattle.fracture.specs.Told.{ahead_told}
 use Rattle.capi.specs.Lent.{cuts_lent}
 use Rattle.capi.proofs.Lent.{renumbered}
-use borrow.Author.Rules.{rules}
 use Rattle.capi.proofs.pw_cuts.Goals as goal
 
 pub returns-in-Cuts : goal.returns-in-Cuts

@@ -1,6 +1,5 @@
 -- `pw_fracture` meets its contract: it lends on what the fracture tells. Assumes nothing.
 use mathlib.Core.Path.{◌∙◌}
-use borrow.Author.Rules.{rules}
 use Rattle.capi.proofs.pw_fracture.Goals as goal
 
 pub returns : goal.returns

@@ -4,7 +4,6 @@ use Rattle.capi.proofs.Lent.{renumbered, signed_lent}
 use Rattle.gdsii.specs.Calls.{plate_told}
 use Rattle.capi.specs.Lent.{plate_lent}
 use lib.IntN.{pos}
-use borrow.Author.Rules.{rules}
 use Rattle.capi.proofs.pw_gdsii_fracture.Goals as goal
 
 pub returns-in-Done : goal.returns-in-Done

@@ -4,7 +4,6 @@ use Rattle.capi.proofs.Lent.{renumbered, signed_lent}
 use Rattle.gdsii.specs.Calls.{boundary_told}
 use Rattle.capi.specs.Lent.{boundary_lent}
 use lib.IntN.{pos}
-use borrow.Author.Rules.{rules}
 use Rattle.capi.proofs.pw_gdsii_read.Goals as goal
 
 pub returns-in-Corners : goal.returns-in-Corners

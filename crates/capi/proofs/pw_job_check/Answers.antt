@@ -1,9 +1,6 @@
 -- `pw_job_check` meets its contract: it lends on what the check tells. Assumes nothing.
-use Rattle.refusal.proofs.Refusals.{told_as}
 use Rattle.capi.proofs.Lent.{renumbered}
-use Rattle.job.specs.Calls.{check_told}
 use Rattle.capi.specs.Lent.{check_lent}
-use borrow.Author.Rules.{rules}
 use Rattle.capi.proofs.pw_job_check.Goals as goal
 
 pub returns-in-Job : goal.returns-in-Job

@@ -1,10 +1,7 @@
 -- `pw_job_outline` meets its contract: the job's fault, or 13, or the place that `locate` finds, which is outline k's. Assumes nothing.
 use native.Mathlib.Omega.{arith}
-use Rattle.refusal.proofs.Refusals.{told_as}
-use Rattle.job.specs.Steps.{head_told, located_told}
 use Rattle.job.proofs.Calls.{located-within, taken_never}
 use Rattle.capi.proofs.Lent.{outline-fault, outline_missing, outline-part}
-use borrow.Author.Rules.{rules}
 use Rattle.capi.proofs.pw_job_outline.Goals as goal
 
 pub returns-then-count-k : goal.returns-then-count-k

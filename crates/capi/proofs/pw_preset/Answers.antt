@@ -1,9 +1,6 @@
 -- `pw_preset` meets its contract: it lends on what the preset call tells. Assumes nothing.
-use Rattle.refusal.proofs.Refusals.{told_as}
-use Rattle.rule.specs.Rules.{row_told}
 use Rattle.capi.specs.Lent.{preset_lent}
 use Rattle.capi.proofs.Lent.{renumbered}
-use borrow.Author.Rules.{rules}
 use Rattle.capi.proofs.pw_preset.Goals as goal
 
 pub returns-in-Row : goal.returns-in-Row

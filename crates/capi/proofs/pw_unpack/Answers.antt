@@ -3,7 +3,6 @@ use Rattle.refusal.proofs.Refusals.{told_as}
 use Rattle.capi.proofs.Lent.{renumbered}
 use Rattle.job.specs.Calls.{unpack_told}
 use Rattle.capi.specs.Lent.{unpack_lent}
-use borrow.Author.Rules.{rules}
 use Rattle.capi.proofs.pw_unpack.Goals as goal
 
 pub returns-in-Figure : goal.returns-in-Figure

@@ -3,7 +3,6 @@ use Rattle.refusal.proofs.Refusals.{told_as}
 use Rattle.capi.proofs.Lent.{renumbered}
 use Rattle.job.specs.Calls.{write_told}
 use Rattle.capi.specs.Lent.{write_lent}
-use borrow.Author.Rules.{rules}
 use Rattle.capi.proofs.pw_write_header.Goals as goal
 
 pub returns-in-Bytes : goal.returns-in-Bytes

@@ -4,7 +4,6 @@ use mathlib.Core.Path.{refl}
 use Rattle.cif.specs.Calls.{room, line}
 use Rattle.cif.proofs.Words.{scan_as, unscan_as}
 use Rattle.cif.proofs.Back.{text_room, read_done}
-use borrow.Author.Rules.{rules}
 use Rattle.cif.proofs.read.Goals as goal
 
 pub returns-then-list-n : goal.returns-then-list-n

@@ -2,7 +2,6 @@
 use native.Mathlib.Omega.{arith}
 use mathlib.Core.Path.{sym, ◌∙◌}
 use Rattle.cif.proofs.Putting.{measure_as, unmeasure_as, write_bad, write_short, write_fits}
-use borrow.Author.Rules.{rules}
 use Rattle.cif.proofs.write.Goals as goal
 
 pub returns-then-bad_shots : goal.returns-then-bad_shots

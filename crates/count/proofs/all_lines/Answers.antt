@@ -3,8 +3,6 @@ use Prim.Native.Nat.{◌*◌, ◌+◌, ◌-◌, ◌≤◌}
 use native.Mathlib.Omega.{arith}
 use native.Mathlib.Nat.{mul-le-mul}
 use Rattle.count.proofs.Climbing.{lines_thirds}
-use borrow.Author.Rules.{rules}
-use Rattle.table.proofs.numbering.pair_count.Reads as pair-count-reads
 use Rattle.count.proofs.all_lines.Goals as goal
 
 pub overflow_mul-lines : goal.overflow_mul-lines

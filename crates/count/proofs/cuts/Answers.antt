@@ -1,6 +1,5 @@
 -- `count::cuts` meets its contract. Assumes nothing.
 use native.Mathlib.Omega.{arith}
-use borrow.Author.Rules.{rules}
 use Rattle.count.proofs.Climbing.{cuts-rest}
 use Rattle.count.proofs.cuts.Goals as goal
 

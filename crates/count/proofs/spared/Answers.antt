@@ -1,11 +1,6 @@
 -- `count::spared` meets its contract: it chooses by the number of rows. Assumes nothing.
 use mathlib.Core.Path.{sym, ◌∙◌, ap}
-use borrow.Author.Rules.{rules}
 use Rattle.count.specs.Corners.{spared_all}
-use Rattle.count.proofs.corners.spared.Reads as spared-reads
-use Rattle.count.proofs.flat.spared_of_one.Reads as spared-of-one-reads
-use Rattle.count.proofs.flat.spared_of_three.Reads as spared-of-three-reads
-use Rattle.count.proofs.flat.spared_of_two.Reads as spared-of-two-reads
 use Rattle.count.proofs.spared.Goals as goal
 
 pub returns-then-rows-eq1 : goal.returns-then-rows-eq1

@@ -1,7 +1,6 @@
 -- `division::bad_largest` meets its contract. Assumes nothing.
 use mathlib.Core.Path.{sym}
 use mathlib.Core.Logic.{inl, inr}
-use borrow.Author.Rules.{rules}
 use Rattle.division.proofs.Outcome.{bad_largest_lem, bad_above}
 use Rattle.division.proofs.bad_largest.Goals as goal
 

@@ -1,8 +1,6 @@
 -- `division::count_parts` meets its contract. The invariant: the parts are counted as far as shot k. Assumes nothing.
-use Prim.Native.Nat.{◌-◌, ◌≤◌}
-use native.Mathlib.Omega.{arith}
-use borrow.Author.Rules.{rules}
-use Rattle.division.proofs.Loops.{at_solid, Counting, counting-start, counting-fits, counting-next, counting-end}
+use Prim.Native.Nat.{◌-◌}
+use Rattle.division.proofs.Loops.{Counting}
 use Rattle.division.proofs.count_parts.Given as goal
 
 abbrev pub invariant-loop-k : goal.invariant-loop-k

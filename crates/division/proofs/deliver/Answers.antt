@@ -1,7 +1,6 @@
 -- `division::deliver` meets its contract. Assumes nothing.
 use native.Mathlib.Omega.{arith}
 use native.Mathlib.Nat.{mul-le-mul}
-use borrow.Author.Rules.{rules}
 use Rattle.division.proofs.Settled.{told-short, told-listed}
 use Rattle.division.proofs.deliver.Goals as goal
 

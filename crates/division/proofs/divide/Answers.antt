@@ -1,6 +1,4 @@
 -- `division::divide` meets its contract: the shots are written aside, and delivered divided. Assumes nothing.
-use mathlib.Core.Path.{◌≡◌}
-use borrow.Author.Rules.{rules}
 use Rattle.demands.specs.Promise.{Asked, asked}
 use Rattle.division.specs.Promise.{room_aside}
 use Rattle.division.proofs.Outcome.{Passed}

@@ -1,7 +1,6 @@
 -- `division::fracture_divided` meets its contract. Assumes nothing.
 use mathlib.Core.Path.{◌≡◌, sym, ◌∙◌, ap}
 use mathlib.Core.Bool.{true}
-use borrow.Author.Rules.{rules}
 use Rattle.rule.specs.Rules.{made_told, in_range}
 use Rattle.rule.proofs.Rules.{rule-made, range_true}
 use Rattle.demands.specs.Promise.{asked}

@@ -1,5 +1,4 @@
 -- `division::undivided` meets its contract: each mode has its call, and the corners are numbers of the type u16. Assumes nothing.
-use borrow.Author.Rules.{rules}
 use Rattle.figure.specs.Figure.{figure}
 use Rattle.piece.specs.declared.Mode.TheVariants.{Straight, Pinwheel}
 use Rattle.demands.specs.Demands.{Words}

@@ -1,9 +1,6 @@
 -- `edge::edge_shots` meets its contract: each exit by its law. Assumes nothing.
 use mathlib.Core.Path.{sym, ◌∙◌}
-use borrow.Author.Rules.{rules}
-use Rattle.refusal.proofs.Refusals.{told_as}
-use Rattle.outline.specs.Promise.{answer_no}
-use Rattle.edge.proofs.Answers.{accepted-right, good_solid, spanned_order, walk-figure, walk-shots, walk-edge, walk-room, walk-fits, walk-runs, walk-length}
+use Rattle.edge.proofs.Answers.{accepted-right, good_solid, spanned_order, walk-figure, walk-shots, walk-edge, walk-room, walk-fits, walk-runs}
 use Rattle.edge.proofs.edge_shots.Goals as goal
 
 pub returns-then-bad_shots : goal.returns-then-bad_shots

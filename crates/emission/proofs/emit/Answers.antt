@@ -1,6 +1,5 @@
 -- `emission::emit` meets its contract: a piece is settled, or it is mixed. Assumes nothing.
 use mathlib.Core.Path.{refl}
-use borrow.Author.Rules.{rules}
 use Rattle.emission.proofs.Emitted.{ask_mixed, settled-behind, settled-mixed, written_met}
 use Rattle.emission.proofs.emit.Goals as goal
 

@@ -1,7 +1,6 @@
 -- `emission::settle` meets its contract: each exit by one law of Emitted. Assumes nothing.
 use mathlib.Core.Path.{sym, ◌∙◌, ap}
 use native.Mathlib.Omega.{arith}
-use borrow.Author.Rules.{rules}
 use Rattle.piece.specs.declared.Mode.TheVariants.{Straight}
 use Rattle.piece.specs.Meant.{meant}
 use Rattle.verdict.specs.Verdict.{kind_of}

@@ -1,7 +1,6 @@
 -- `emission::write_shot` meets its contract. Assumes nothing.
 use mathlib.Core.Path.{refl}
 use native.Mathlib.Omega.{arith}
-use borrow.Author.Rules.{rules}
 use lib.ListN.{length-set}
 use Rattle.emission.proofs.Emitted.{sets_four}
 use Rattle.emission.proofs.write_shot.Goals as goal

@@ -1,6 +1,5 @@
 -- `fracture::cuts` meets its contract. Assumes nothing.
 use mathlib.Core.Path.{◌≡◌, sym}
-use borrow.Author.Rules.{rules}
 use Rattle.figure.specs.Figure.{figure}
 use Rattle.outline.specs.Promise.{refusal, sheet}
 use Rattle.outline.proofs.Memory.{drawing-lengths}

@@ -1,6 +1,5 @@
 -- `fracture::fracture` meets its contract. Assumes nothing.
 use mathlib.Core.Path.{◌≡◌, sym, ◌∙◌, ap}
-use borrow.Author.Rules.{rules}
 use Rattle.rule.specs.Rules.{made_told, given, rule_told}
 use Rattle.piece.specs.declared.Mode.TheVariants.{Straight}
 use Rattle.demands.specs.Promise.{asked}

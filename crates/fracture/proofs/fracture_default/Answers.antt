@@ -1,6 +1,5 @@
 -- `fracture::fracture_default` meets its contract. Assumes nothing.
 use mathlib.Core.Path.{◌≡◌, sym, ◌∙◌, ap}
-use borrow.Author.Rules.{rules}
 use Rattle.rule.specs.Rules.{row_told, given, preset_told, default_preset}
 use Rattle.fracture.proofs.Settled.{preset_range, preset_outcome, preset_known}
 use Rattle.fracture.proofs.fracture_default.Goals as goal

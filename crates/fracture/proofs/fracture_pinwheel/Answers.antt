@@ -1,7 +1,6 @@
 -- `fracture::fracture_pinwheel` meets its contract. Assumes nothing.
 use mathlib.Core.Path.{◌≡◌, sym, ◌∙◌, ap}
 use native.Mathlib.Omega.{arith}
-use borrow.Author.Rules.{rules}
 use Rattle.rule.specs.Rules.{made_told, given, rule_told}
 use Rattle.piece.specs.declared.Mode.TheVariants.{Pinwheel}
 use Rattle.demands.specs.Promise.{asked}

@@ -1,9 +1,7 @@
 -- `fracture_boundary` meets its contract: each exit by its law. Assumes nothing.
 use mathlib.Core.Path.{sym}
 use native.Mathlib.Omega.{arith}
-use borrow.Author.Rules.{rules}
 use Rattle.refusal.proofs.Refusals.{told_as}
-use Rattle.gdsii.specs.Steps.{scan_told}
 use Rattle.fracture.specs.Told.{told}
 use Rattle.gdsii.proofs.Measured.{measured-fit, fractured-refused}
 use Rattle.gdsii.proofs.Answers.{stored-room, stored-front, exit_refused, exit_done}

@@ -1,6 +1,5 @@
 -- `fracture_qualified` meets its contract: the rule is that of preset 0, which is a row. Assumes nothing.
 use mathlib.Core.Path.{◌≡◌, sym, ◌∙◌, ap}
-use borrow.Author.Rules.{rules}
 use Rattle.rule.specs.Rules.{row_told, given, preset_told}
 use Rattle.gdsii.proofs.Answers.{qualified-by, qualified-known}
 use Rattle.gdsii.proofs.fracture_qualified.Goals as goal

@@ -1,6 +1,5 @@
 -- `judge` meets its contract: what the drawing answers. Assumes nothing.
 use Rattle.outline.specs.Promise.{sheet}
-use borrow.Author.Rules.{rules}
 use Rattle.gdsii.proofs.judge.Goals as goal
 
 pub returns : goal.returns

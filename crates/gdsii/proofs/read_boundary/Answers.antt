@@ -1,12 +1,8 @@
 -- `read_boundary` meets its contract: each exit by its law. Assumes nothing.
 use mathlib.Core.Path.{sym}
 use native.Mathlib.Omega.{arith}
-use borrow.Author.Rules.{rules}
-use Rattle.refusal.proofs.Refusals.{told_as}
-use Rattle.gdsii.specs.Steps.{scan_told}
-use Rattle.outline.specs.Promise.{answer_no}
 use Rattle.gdsii.proofs.Measured.{measured-fit, read-refused}
-use Rattle.gdsii.proofs.Answers.{stored-length, stored-room, stored-front, exit_shape, exit_room, exit_stored}
+use Rattle.gdsii.proofs.Answers.{stored-room, stored-front, exit_shape, exit_room, exit_stored}
 use Rattle.gdsii.proofs.read_boundary.Goals as goal
 
 pub overflow_sub-corners : goal.overflow_sub-corners

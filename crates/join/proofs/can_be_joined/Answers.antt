@@ -1,10 +1,6 @@
 use mathlib.Core.Path.{sym, ◌∙◌}
 use Rattle.join.proofs.Laws.{join-right, join-left, join-top, join-bottom}
 use Rattle.join.specs.Join.{beside, below, as_shot}
-use borrow.Author.Rules.{rules}
-use Rattle.join.proofs.can_be_joined.Reads as reads
-use Rattle.join.proofs.can_be_joined.Lts as lts
-use Rattle.join.proofs.touch.Reads as Touch-reads
 use Rattle.join.proofs.can_be_joined.Goals as goal
 
 pub returns-then-touch : goal.returns-then-touch

@@ -1,10 +1,6 @@
 use native.Mathlib.Omega.{arith}
 use mathlib.Core.Path.{sym, ◌∙◌}
-use borrow.Author.Rules.{rules}
 use Rattle.join.proofs.Laws.{check_bad, check_room, check_all}
-use Rattle.join.proofs.check.Reads as reads
-use Rattle.join.proofs.check.Lts as lts
-use Rattle.shot.proofs.bad_shots.Reads as bad-shots-reads
 use Rattle.join.proofs.check.Goals as goal
 
 pub returns-then-bad_shots : goal.returns-then-bad_shots

@@ -2,7 +2,6 @@
 use mathlib.Core.Path.{refl, ◌∙◌}
 use native.Mathlib.Omega.{arith}
 use lib.ListN.{length-set}
-use borrow.Author.Rules.{rules}
 use Rattle.join.specs.Steps.{filled}
 use Rattle.join.proofs.Tables.{filled_more, filled-all}
 use Rattle.join.proofs.fill.Goals as goal

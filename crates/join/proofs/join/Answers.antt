@@ -1,5 +1,4 @@
 -- `join::join` meets its contract. Assumes nothing.
-use borrow.Author.Rules.{rules}
 use Rattle.join.proofs.Calls.{fillable, pairable, pairs-fit}
 use Rattle.join.proofs.Promised.{call_ends}
 use Rattle.join.proofs.join.Goals as goal

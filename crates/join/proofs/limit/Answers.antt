@@ -1,7 +1,5 @@
 use native.Mathlib.Omega.{arith}
 use Rattle.join.proofs.Laws.{limit_free, limit-paired}
-use Rattle.join.proofs.limit.Reads as reads
-use Rattle.join.proofs.limit.Lts as lts
 use Rattle.join.proofs.limit.Goals as goal
 
 pub returns-then-a-i : goal.returns-then-a-i

@@ -1,11 +1,7 @@
 -- `join::mate` meets its contract. Assumes nothing.
-use Prim.Native.Nat.{◌<◌}
-use mathlib.Core.Path.{refl, sym, ◌∙◌, ap}
+use mathlib.Core.Path.{refl, ◌∙◌}
 use native.Mathlib.Omega.{arith}
-use lib.ListN.{length}
-use borrow.Author.Rules.{rules}
 use Rattle.join.specs.Join.{at}
-use Rattle.join.specs.Steps.{seek_from, nearer_of, settled}
 use Rattle.join.proofs.Tables.{search_starts, search_goes, search_ends}
 use Rattle.join.proofs.mate.Goals as goal
 

@@ -1,10 +1,6 @@
 use native.Mathlib.Omega.{arith}
 use mathlib.Core.Path.{sym, ◌∙◌}
 use Rattle.join.proofs.Laws.{nearer_paired, nearer_joins, nearer_apart}
-use borrow.Author.Rules.{rules}
-use Rattle.join.proofs.nearer.Reads as reads
-use Rattle.join.proofs.nearer.Lts as lts
-use Rattle.join.proofs.can_be_joined.Reads as can-be-joined-reads
 use Rattle.join.proofs.nearer.Goals as goal
 
 pub returns-then-b-j : goal.returns-then-b-j

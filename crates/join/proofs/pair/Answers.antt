@@ -1,6 +1,5 @@
 -- `join::pair` meets its contract. Assumes nothing.
 use native.Mathlib.Omega.{arith}
-use borrow.Author.Rules.{rules}
 use Rattle.join.proofs.Pairs.{turned-starts, turned-within, turned-low, turned_mate, turned-few, turned-goes, turned-ends}
 use Rattle.join.proofs.pair.Goals as goal
 

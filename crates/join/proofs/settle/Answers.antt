@@ -1,7 +1,5 @@
 use native.Mathlib.Omega.{arith}
 use Rattle.join.proofs.Laws.{settle_found, settle_alone, settle_paired}
-use Rattle.join.proofs.settle.Reads as reads
-use Rattle.join.proofs.settle.Lts as lts
 use Rattle.join.proofs.settle.Goals as goal
 
 pub returns-then-found-n : goal.returns-then-found-n

@@ -1,9 +1,6 @@
 use native.Mathlib.Omega.{arith}
 use mathlib.Core.Path.{sym, ap}
-use borrow.Author.Rules.{rules}
 use Rattle.join.specs.Steps.{to_join, answered}
-use Rattle.join.proofs.tell.Reads as reads
-use Rattle.join.proofs.tell.Lts as lts
 use Rattle.join.proofs.tell.Goals as goal
 
 pub overflow_sub-result : goal.overflow_sub-result

@@ -1,7 +1,5 @@
 use native.Mathlib.Omega.{arith}
 use Rattle.join.proofs.Laws.{touches-apart, touches-above, touches-under, touches-low, touches-high}
-use Rattle.join.proofs.touch.Reads as reads
-use Rattle.join.proofs.touch.Lts as lts
 use Rattle.join.proofs.touch.Goals as goal
 
 pub returns-then-end-start : goal.returns-then-end-start

@@ -2,13 +2,10 @@
 -- the lines passed. Assumes nothing.
 use Prim.Native.Nat.{ℕ, ◌<◌, ◌≤◌, ◌+◌, ◌*◌, ◌-◌}
 use native.Mathlib.Omega.{arith}
-use borrow.Author.Rules.{rules}
 use lib.ListN.{length}
-use Rattle.table.specs.Run.{Lowest}
 use Rattle.table.proofs.Run.{lowest-none}
-use Rattle.verdict.specs.Search.{across}
 use Rattle.verdict.specs.declared.Cuts.{Cuts}
-use Rattle.verdict.proofs.Across.{At, entry-within, stride_few, lower-first, at_first, at_next, lower-within, upper-within, across-at, across-small}
+use Rattle.verdict.proofs.Across.{entry-within, stride_few, lower-first, at_first, at_next, lower-within, upper-within, across-at, across-small}
 use Rattle.lowering.proofs.Costs.{lowest-next, lowest-end}
 use Rattle.lowering.proofs.least_cut.Goals as goal
 

@@ -1,15 +1,10 @@
 -- `lowering::least_cut` meets its contract. The loop's invariant: the two entries are those of the parts at j, and what is kept is the least of
 -- the lines passed. Assumes nothing.
-use Prim.Native.Nat.{ℕ, ◌<◌, ◌≤◌, ◌+◌, ◌*◌, ◌-◌}
-use native.Mathlib.Omega.{arith}
-use borrow.Author.Rules.{rules}
-use lib.ListN.{length}
+use Prim.Native.Nat.{ℕ, ◌≤◌, ◌-◌}
 use Rattle.table.specs.Run.{Lowest}
-use Rattle.table.proofs.Run.{lowest-none}
 use Rattle.verdict.specs.Search.{across}
 use Rattle.verdict.specs.declared.Cuts.{Cuts}
-use Rattle.verdict.proofs.Across.{At, entry-within, stride_few, lower-first, at_first, at_next, lower-within, upper-within, across-at, across-small}
-use Rattle.lowering.proofs.Costs.{lowest-next, lowest-end}
+use Rattle.verdict.proofs.Across.{At}
 use Rattle.lowering.proofs.least_cut.Given as goal
 
 abbrev cuts-of : ℕ → ℕ → ℕ → ℕ → ℕ → Cuts

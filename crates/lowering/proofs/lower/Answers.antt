@@ -1,15 +1,6 @@
 -- `lowering::lower` meets its contract. The loop's invariant: the strips that begin at a or above are lowered. Assumes nothing.
-use Prim.Native.Nat.{◌+◌, ◌-◌, ◌≤◌}
 use native.Mathlib.Omega.{arith}
-use borrow.Author.Rules.{rules}
-use Rattle.outline.specs.Grid.{Grid}
-use Rattle.rule.specs.declared.Rule.{Rule}
-use Rattle.piece.specs.declared.Mode.TheVariants.{Straight}
-use Rattle.table.specs.Entry.{entry_count}
-use Rattle.table.specs.Fill.{Beyond}
 use Rattle.table.proofs.Fill.{beyond-none, beyond_trans}
-use Rattle.verdict.specs.Memory.{Costed}
-use Rattle.lowering.specs.Lowering.{Lowering}
 use Rattle.lowering.proofs.Steps.{lowering_first, lowering_down, lowering_all}
 use Rattle.lowering.proofs.lower.Goals as goal
 

@@ -1,6 +1,5 @@
 -- `lowering::lower_piece` meets its contract: each exit by one law of Costs. Assumes nothing.
 use native.Mathlib.Omega.{arith}
-use borrow.Author.Rules.{rules}
 use Rattle.verdict.proofs.Search.{inside-said}
 use Rattle.lowering.proofs.Costs.{here-within, weighable_x, weighable_y, priced-outside, priced-full, priced-cut}
 use Rattle.lowering.proofs.lower_piece.Goals as goal

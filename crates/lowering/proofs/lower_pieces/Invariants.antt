@@ -1,18 +1,10 @@
 -- `lowering::lower_pieces` meets its contract. The loop's invariant: the pieces that begin at b and end below d are lowered. Assumes nothing.
-use Prim.Native.Nat.{◌+◌, ◌*◌, ◌-◌, ◌≤◌, ◌<◌}
-use mathlib.Core.Path.{◌≡◌, ap}
-use lib.ListN.{get_or}
-use native.Mathlib.Omega.{arith}
-use borrow.Author.Rules.{rules}
+use Prim.Native.Nat.{◌+◌, ◌-◌, ◌≤◌}
 use Rattle.outline.specs.Grid.{Grid}
 use Rattle.rule.specs.declared.Rule.{Rule}
-use Rattle.piece.specs.Piece.{box}
-use Rattle.table.specs.Entry.{pair_no, entry_of, entry_count}
+use Rattle.table.specs.Entry.{entry_count}
 use Rattle.table.specs.Fill.{Beyond}
-use Rattle.table.proofs.Fill.{beyond-none, beyond_trans}
 use Rattle.lowering.specs.Lowering.{Standing}
-use Rattle.lowering.proofs.Costs.{plan-small}
-use Rattle.lowering.proofs.Steps.{number-few, strip_few, entry_at, at_piece, piece_step, standing-last}
 use Rattle.lowering.proofs.lower_pieces.Given as goal
 
 abbrev pub invariant-loop-d : goal.invariant-loop-d

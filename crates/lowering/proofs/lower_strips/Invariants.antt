@@ -1,15 +1,10 @@
 -- `lowering::lower_strips` meets its contract. The loop's invariant: the strips that begin at a and end below c are lowered. Assumes nothing.
 use Prim.Native.Nat.{◌+◌, ◌-◌, ◌≤◌}
-use native.Mathlib.Omega.{arith}
-use borrow.Author.Rules.{rules}
 use Rattle.outline.specs.Grid.{Grid}
 use Rattle.rule.specs.declared.Rule.{Rule}
 use Rattle.table.specs.Entry.{entry_count}
 use Rattle.table.specs.Fill.{Beyond}
-use Rattle.table.proofs.Fill.{beyond-none, beyond_trans}
 use Rattle.lowering.specs.Lowering.{Lowering}
-use Rattle.lowering.proofs.Costs.{plan-small}
-use Rattle.lowering.proofs.Steps.{lowering_last}
 use Rattle.lowering.proofs.lower_strips.Given as goal
 
 abbrev pub invariant-loop-c : goal.invariant-loop-c

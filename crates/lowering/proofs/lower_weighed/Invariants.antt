@@ -1,14 +1,10 @@
 -- `lowering::lower_weighed` meets its contract. The loop's invariant: the pieces that begin at b or above are lowered. Assumes nothing.
 use Prim.Native.Nat.{◌+◌, ◌-◌, ◌≤◌}
-use native.Mathlib.Omega.{arith}
-use borrow.Author.Rules.{rules}
 use Rattle.outline.specs.Grid.{Grid}
 use Rattle.rule.specs.declared.Rule.{Rule}
 use Rattle.table.specs.Entry.{entry_count}
 use Rattle.table.specs.Fill.{Beyond}
-use Rattle.table.proofs.Fill.{beyond-none, beyond_trans}
 use Rattle.lowering.specs.Lowering.{Standing}
-use Rattle.lowering.proofs.Steps.{standing-high, standing_down, standing-all}
 use Rattle.lowering.proofs.lower_weighed.Given as goal
 
 abbrev pub invariant-loop-b : goal.invariant-loop-b

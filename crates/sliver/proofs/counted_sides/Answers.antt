@@ -1,6 +1,5 @@
 -- `sliver::counted_sides` meets its contract. Assumes nothing.
 use native.Mathlib.Omega.{arith}
-use borrow.Author.Rules.{rules}
 use Rattle.sliver.proofs.Sides.{counted_none, counted-both}
 use Rattle.sliver.proofs.counted_sides.Goals as goal
 

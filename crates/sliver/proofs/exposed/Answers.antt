@@ -1,10 +1,6 @@
 -- `sliver::exposed` meets its contract. The loop's invariant: the sum is the exposed length of the stretches passed.
 -- Assumes nothing.
-use Prim.Native.Nat.{◌≤◌, ◌*◌, ◌-◌}
-use mathlib.Core.Path.{◌≡◌}
 use native.Mathlib.Omega.{arith}
-use borrow.Author.Rules.{rules}
-use Rattle.sliver.specs.Sides.{exposed_in}
 use Rattle.sliver.proofs.Sides.{exposed-none, exposed-more, exposed-all}
 use Rattle.sliver.proofs.exposed.Goals as goal
 

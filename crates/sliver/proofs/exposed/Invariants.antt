@@ -2,10 +2,7 @@
 -- Assumes nothing.
 use Prim.Native.Nat.{◌≤◌, ◌*◌, ◌-◌}
 use mathlib.Core.Path.{◌≡◌}
-use native.Mathlib.Omega.{arith}
-use borrow.Author.Rules.{rules}
 use Rattle.sliver.specs.Sides.{exposed_in}
-use Rattle.sliver.proofs.Sides.{exposed-none, exposed-more, exposed-all}
 use Rattle.sliver.proofs.exposed.Given as goal
 
 abbrev pub invariant-loop-k : goal.invariant-loop-k

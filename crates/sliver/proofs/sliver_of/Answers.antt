@@ -1,7 +1,6 @@
 -- `sliver::sliver_of` meets its contract. Assumes nothing.
 use mathlib.Core.Path.{◌≡◌}
 use Prim.Native.Nat.{◌-◌}
-use borrow.Author.Rules.{rules}
 use Rattle.outline.specs.Grid.{Grid}
 use Rattle.piece.specs.Meant.{meant}
 use Rattle.piece.specs.Piece.{width, height}

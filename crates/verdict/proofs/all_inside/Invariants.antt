@@ -1,8 +1,6 @@
 -- `verdict::all_inside` meets its contract. The loop's invariant: every cell of the columns passed is inside. Assumes nothing.
 use Prim.Native.Nat.{◌≤◌, ◌-◌}
-use native.Mathlib.Omega.{arith}
-use borrow.Author.Rules.{rules}
-use Rattle.verdict.proofs.Search.{Clear, clear_none, clear_more, inside-not, inside-all}
+use Rattle.verdict.proofs.Search.{Clear}
 use Rattle.verdict.proofs.all_inside.Given as goal
 
 abbrev pub invariant-loop-i : goal.invariant-loop-i

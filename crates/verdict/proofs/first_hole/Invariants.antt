@@ -1,10 +1,8 @@
 -- `verdict::first_hole` meets its contract. The loop's invariant: no cell passed is outside. Assumes nothing.
 use Prim.Native.Nat.{◌≤◌, ◌+◌, ◌*◌, ◌-◌}
 use mathlib.Core.Path.{◌≡◌}
-use native.Mathlib.Omega.{arith}
-use borrow.Author.Rules.{rules}
 use lib.ListN.{get_or}
-use Rattle.verdict.proofs.Search.{Passed, passed_none, passed-more, first-here, first-none}
+use Rattle.verdict.proofs.Search.{Passed}
 use Rattle.verdict.proofs.first_hole.Given as goal
 
 abbrev pub invariant-loop-j : goal.invariant-loop-j

@@ -1,14 +1,11 @@
 -- `verdict::first_line` meets its contract. The loop's invariant: the two entries are those of the parts at j, and
 -- no line passed has the cost. Assumes nothing.
-use Prim.Native.Nat.{ℕ, ◌<◌, ◌+◌, ◌-◌}
-use mathlib.Core.Path.{◌≡◌, sym, ◌∙◌}
-use native.Mathlib.Omega.{arith}
-use borrow.Author.Rules.{rules}
-use lib.ListN.{length}
+use Prim.Native.Nat.{ℕ, ◌+◌, ◌-◌}
+use mathlib.Core.Path.{◌≡◌}
 use Rattle.verdict.specs.Search.{across}
 use Rattle.verdict.specs.declared.Cuts.{Cuts}
-use Rattle.verdict.proofs.Search.{Passed, passed_none, passed-more, first-here, first-none}
-use Rattle.verdict.proofs.Across.{At, entry-within, stride_few, lower-first, at_first, at_next, upper-at, lower-within, upper-within, across-at, across-small}
+use Rattle.verdict.proofs.Search.{Passed}
+use Rattle.verdict.proofs.Across.{At}
 use Rattle.verdict.proofs.first_line.Given as goal
 
 abbrev cuts-of : ℕ → ℕ → ℕ → ℕ → ℕ → Cuts

@@ -1,7 +1,6 @@
 -- `verdict::halves` meets its contract: each exit by one law of Judged. Assumes nothing.
 use native.Mathlib.Omega.{arith}
 use mathlib.Core.Path.{refl}
-use borrow.Author.Rules.{rules}
 use Rattle.piece.specs.declared.Mode.TheVariants.{Straight}
 use Rattle.verdict.proofs.Judged.{entry-within, weighable_x, weighable_y, made_vertical, made_horizontal, level_found}
 use Rattle.verdict.proofs.halves.Goals as goal

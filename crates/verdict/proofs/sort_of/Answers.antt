@@ -1,7 +1,6 @@
 -- `verdict::sort_of` meets its contract: each exit by one law of Judged. Assumes nothing.
 use mathlib.Core.Path.{sym}
 use native.Mathlib.Omega.{arith}
-use borrow.Author.Rules.{rules}
 use Rattle.verdict.proofs.Search.{inside-said}
 use Rattle.verdict.proofs.Judged.{entry-within, is-outside, is-full, is-mixed}
 use Rattle.verdict.proofs.sort_of.Goals as goal

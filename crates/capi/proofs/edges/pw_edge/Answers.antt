@@ -3,7 +3,6 @@ use Rattle.refusal.proofs.Refusals.{told_as}
 use Rattle.capi.proofs.Lent.{renumbered}
 use Rattle.edge.specs.Promise.{edge_told}
 use Rattle.capi.specs.EdgeLent.{edge_lent}
-use borrow.Author.Rules.{rules}
 use Rattle.capi.proofs.edges.pw_edge.Goals as goal
 
 pub returns-in-Runs : goal.returns-in-Runs

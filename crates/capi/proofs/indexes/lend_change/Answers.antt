@@ -2,7 +2,6 @@
 use mathlib.Core.Path.{◌∙◌, sym, ap}
 use Rattle.index.specs.Index.{change_told}
 use Rattle.capi.specs.IndexLent.{change_lent}
-use borrow.Author.Rules.{rules}
 use Rattle.capi.proofs.indexes.lend_change.Goals as goal
 
 pub returns-in-Job : goal.returns-in-Job

@@ -3,7 +3,6 @@ use Rattle.refusal.proofs.Refusals.{told_as}
 use Rattle.index.specs.Index.{open_told}
 use Rattle.capi.specs.IndexLent.{open_lent}
 use Rattle.capi.proofs.Lent.{renumbered}
-use borrow.Author.Rules.{rules}
 use Rattle.capi.proofs.indexes.pw_index_open.Goals as goal
 
 pub returns-in-Outlines : goal.returns-in-Outlines

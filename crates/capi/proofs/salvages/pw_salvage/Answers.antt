@@ -3,7 +3,6 @@ use Rattle.refusal.proofs.Refusals.{told_as}
 use Rattle.saving.specs.Salvage.{save_told}
 use Rattle.capi.specs.SaveLent.{save_lent}
 use Rattle.capi.proofs.Lent.{renumbered}
-use borrow.Author.Rules.{rules}
 use Rattle.capi.proofs.salvages.pw_salvage.Goals as goal
 
 pub returns-in-Job : goal.returns-in-Job

@@ -1,6 +1,5 @@
 -- `texts::pw_cif_read` meets its contract: it lends on what the reader tells. Assumes nothing.
 use Rattle.capi.proofs.TextLent.{read-shots, read-refused}
-use borrow.Author.Rules.{rules}
 use Rattle.capi.proofs.texts.pw_cif_read.Goals as goal
 
 pub returns-in-Shots : goal.returns-in-Shots

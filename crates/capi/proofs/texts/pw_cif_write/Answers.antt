@@ -3,7 +3,6 @@ use Rattle.refusal.proofs.Refusals.{told_as}
 use Rattle.capi.proofs.Lent.{renumbered}
 use Rattle.cif.specs.Calls.{write_told}
 use Rattle.capi.specs.TextLent.{text_lent}
-use borrow.Author.Rules.{rules}
 use Rattle.capi.proofs.texts.pw_cif_write.Goals as goal
 
 pub returns-in-Bytes : goal.returns-in-Bytes

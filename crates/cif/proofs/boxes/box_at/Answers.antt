@@ -1,7 +1,5 @@
 -- `cif::boxes::box_at` meets its contract. Assumes nothing.
-use native.Mathlib.Omega.{arith}
 use Rattle.cif.proofs.Boxing.{line_as, unline_as, between_as, nowhere_as, box_missing, box-x, box-y, box-found}
-use borrow.Author.Rules.{rules}
 use Rattle.cif.proofs.boxes.box_at.Goals as goal
 
 pub ends-requires : goal.ends-requires

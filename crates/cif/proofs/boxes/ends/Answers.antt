@@ -1,7 +1,6 @@
 -- `cif::boxes::ends` meets its contract. Assumes nothing.
 use Rattle.cif.proofs.Boxing.{between-even}
 use native.Mathlib.Omega.{arith}
-use borrow.Author.Rules.{rules}
 use Rattle.cif.proofs.boxes.ends.Goals as goal
 
 pub returns-then-twice-ne0 : goal.returns-then-twice-ne0

@@ -3,7 +3,6 @@ use borrow.Author.Tests.{not-true, not-false}
 use Prim.Native.Nat.{◌+◌}
 use native.Mathlib.Omega.{arith}
 use Rattle.cif.proofs.Boxing.{two_as, untwo_as, line_other, line-none, line-half, line_open, line-found}
-use borrow.Author.Rules.{rules}
 use Rattle.cif.proofs.boxes.line.Goals as goal
 
 pub returns-then-not-stands : goal.returns-then-not-stands

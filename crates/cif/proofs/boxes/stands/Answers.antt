@@ -1,9 +1,6 @@
 -- `cif::boxes::stands` meets its contract. The invariant: the bytes passed are equal. Assumes nothing.
-use Prim.Native.Nat.{◌-◌}
 use native.Mathlib.Omega.{arith}
-use borrow.Author.Rules.{rules}
-use lib.ListN.{length}
-use Rattle.cif.proofs.Words.{Alike, word_room, alike-start, alike-other, alike-more, alike_end}
+use Rattle.cif.proofs.Words.{word_room, alike-start, alike-other, alike-more, alike_end}
 use Rattle.cif.proofs.boxes.stands.Goals as goal
 
 pub returns-then-text-at : goal.returns-then-text-at

@@ -1,9 +1,7 @@
 -- `cif::boxes::stands` meets its contract. The invariant: the bytes passed are equal. Assumes nothing.
 use Prim.Native.Nat.{◌-◌}
-use native.Mathlib.Omega.{arith}
-use borrow.Author.Rules.{rules}
 use lib.ListN.{length}
-use Rattle.cif.proofs.Words.{Alike, word_room, alike-start, alike-other, alike-more, alike_end}
+use Rattle.cif.proofs.Words.{Alike}
 use Rattle.cif.proofs.boxes.stands.Given as goal
 
 abbrev pub invariant-loop-i : goal.invariant-loop-i

@@ -1,7 +1,6 @@
 -- `cif::numeral::put_number` meets its contract. Assumes nothing.
 use lib.ListN.{length}
 use native.Mathlib.Omega.{arith}
-use borrow.Author.Rules.{rules}
 use mathlib.Core.Path.{ap}
 use lib.Seq.{length-sets}
 use Rattle.cif.proofs.Decimal.{decimal-some}

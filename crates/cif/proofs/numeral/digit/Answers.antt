@@ -1,7 +1,6 @@
 -- `cif::numeral::digit` meets its contract. Assumes nothing.
 use native.Mathlib.Omega.{arith}
 use Rattle.cif.proofs.Numerals.{digit_past, digit_there}
-use borrow.Author.Rules.{rules}
 use Rattle.cif.proofs.numeral.digit.Goals as goal
 
 pub returns-then-text-at : goal.returns-then-text-at

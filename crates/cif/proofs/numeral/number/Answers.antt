@@ -1,9 +1,6 @@
 -- `cif::numeral::number` meets its contract. The invariant: the digits so far are those of a number above 0. Assumes nothing.
-use Prim.Native.Nat.{◌-◌}
 use native.Mathlib.Omega.{arith}
-use borrow.Author.Rules.{rules}
-use lib.ListN.{length}
-use Rattle.cif.proofs.Numerals.{Reading, number_missing, number-zero, number-start, number_more, number_six, number-ended}
+use Rattle.cif.proofs.Numerals.{number_missing, number-zero, number-start, number_more, number_six, number-ended}
 use Rattle.cif.proofs.numeral.number.Goals as goal
 
 pub returns-then-first-eq-NO_DIGIT : goal.returns-then-first-eq-NO_DIGIT

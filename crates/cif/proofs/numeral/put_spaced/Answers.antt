@@ -1,8 +1,6 @@
 -- `cif::numeral::put_spaced` meets its contract. Assumes nothing.
-use lib.Seq.{length-sets}
-use mathlib.Core.Path.{◌∙◌, ap}
 use native.Mathlib.Omega.{arith}
-use lib.ListN.{length, length-set}
+use lib.ListN.{length-set}
 use Rattle.cif.proofs.Putting.{put-field}
 use borrow.Author.Rules.{rules}
 use Rattle.cif.proofs.numeral.put_spaced.Goals as goal

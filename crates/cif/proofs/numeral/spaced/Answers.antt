@@ -1,7 +1,6 @@
 -- `cif::numeral::spaced` meets its contract. Assumes nothing.
 use native.Mathlib.Omega.{arith}
 use Rattle.cif.proofs.Numerals.{spaced_past, spaced_other, spaced_told}
-use borrow.Author.Rules.{rules}
 use Rattle.cif.proofs.numeral.spaced.Goals as goal
 
 pub returns-then-text-at : goal.returns-then-text-at

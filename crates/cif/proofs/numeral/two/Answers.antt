@@ -1,7 +1,6 @@
 -- `cif::numeral::two` meets its contract. Assumes nothing.
 use Rattle.cif.specs.Text.{field}
 use Rattle.cif.proofs.Numerals.{found_as, missing_as, two_none, two-one, two-found}
-use borrow.Author.Rules.{rules}
 use Rattle.cif.proofs.numeral.two.Goals as goal
 
 pub returns-in-Missing : goal.returns-in-Missing

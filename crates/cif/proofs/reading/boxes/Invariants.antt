@@ -1,9 +1,7 @@
 -- `cif::reading::boxes` meets its contract. The invariant: these boxes stand behind the place where it began. Assumes nothing.
 use Prim.Native.Nat.{◌-◌}
-use native.Mathlib.Omega.{arith}
-use borrow.Author.Rules.{rules}
 use lib.ListN.{length}
-use Rattle.cif.proofs.Boxing.{Walked, walked_start, walked_more, walked_end, box_as, unbox_as}
+use Rattle.cif.proofs.Boxing.{Walked}
 use Rattle.cif.proofs.reading.boxes.Given as goal
 
 abbrev pub invariant-loop-past : goal.invariant-loop-past

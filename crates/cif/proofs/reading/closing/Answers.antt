@@ -5,7 +5,6 @@ use borrow.Author.Tests.{not-true, not-false}
 use Rattle.number.proofs.Bytes.{stands-room}
 use Rattle.cif.specs.Text.{finish, call, end}
 use Rattle.cif.proofs.Words.{closing_finish, closing_call, closing_end, closing_extra, closing_done}
-use borrow.Author.Rules.{rules}
 use Rattle.cif.proofs.reading.closing.Goals as goal
 
 pub returns-then-not-stands : goal.returns-then-not-stands

@@ -4,7 +4,6 @@ use borrow.Author.Tests.{not-true, not-false}
 use Rattle.number.proofs.Bytes.{stands-room}
 use Rattle.cif.specs.Text.{symbol}
 use Rattle.cif.proofs.Words.{opening_symbol, opening_layer, opening_done}
-use borrow.Author.Rules.{rules}
 use Rattle.cif.proofs.reading.opening.Goals as goal
 
 pub returns-then-not-stands : goal.returns-then-not-stands

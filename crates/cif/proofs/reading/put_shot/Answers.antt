@@ -2,7 +2,6 @@
 use native.Mathlib.Omega.{arith}
 use lib.ListN.{length-set}
 use Rattle.cif.proofs.Words.{shot-put}
-use borrow.Author.Rules.{rules}
 use Rattle.cif.proofs.reading.put_shot.Goals as goal
 
 pub bounds-list-at-2 : goal.bounds-list-at-2

@@ -1,6 +1,5 @@
 -- `cif::reading::scan` meets its contract. Assumes nothing.
 use Rattle.cif.proofs.Words.{opening_as, unopening_as, closing_as, unclosing_as, scan_opening, scanned_wrong, scanned_shots}
-use borrow.Author.Rules.{rules}
 use Rattle.cif.proofs.reading.scan.Goals as goal
 
 pub boxes-run-requires : goal.boxes-run-requires

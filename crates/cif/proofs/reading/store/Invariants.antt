@@ -1,12 +1,8 @@
 -- `cif::reading::store` meets its contract. The invariant: the shots passed are stored, and the boxes of those left stand here. Assumes nothing.
 use Prim.Native.Nat.{◌≤◌, ◌-◌}
-use mathlib.Core.Path.{◌≡◌, ◌∙◌, refl, ap}
-use native.Mathlib.Omega.{arith}
-use borrow.Author.Rules.{rules}
+use mathlib.Core.Path.{◌≡◌}
 use lib.ListN.{length}
-use lib.Seq.{length-sets}
-use Rattle.cif.proofs.Boxing.{box_as, unbox_as}
-use Rattle.cif.proofs.Words.{Storing, store_start, store_none, store_more, store_end}
+use Rattle.cif.proofs.Words.{Storing}
 use Rattle.cif.proofs.reading.store.Given as goal
 
 abbrev pub invariant-loop-i : goal.invariant-loop-i

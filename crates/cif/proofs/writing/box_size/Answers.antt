@@ -1,6 +1,5 @@
 -- `cif::writing::box_size` meets its contract. Assumes nothing.
 use Rattle.cif.proofs.Putting.{box-sized}
-use borrow.Author.Rules.{rules}
 use Rattle.cif.proofs.writing.box_size.Goals as goal
 
 pub size-length-requires : goal.size-length-requires

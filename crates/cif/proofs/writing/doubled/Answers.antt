@@ -1,6 +1,5 @@
 -- `cif::writing::doubled` meets its contract. Assumes nothing.
 use Rattle.cif.proofs.Putting.{doubled_line}
-use borrow.Author.Rules.{rules}
 use Rattle.cif.proofs.writing.doubled.Goals as goal
 
 pub returns : goal.returns

@@ -1,9 +1,6 @@
 -- `cif::writing::measure` meets its contract. The invariant: what is used and what the boxes left need is what all need. Assumes nothing.
-use Prim.Native.Nat.{◌-◌}
 use native.Mathlib.Omega.{arith}
-use borrow.Author.Rules.{rules}
-use lib.ListN.{length}
-use Rattle.cif.proofs.Putting.{Measuring, upright, measure_start, measure_short, measure_more, measure_end}
+use Rattle.cif.proofs.Putting.{upright, measure_start, measure_short, measure_more, measure_end}
 use Rattle.cif.proofs.writing.measure.Goals as goal
 
 pub loop-at-init : goal.loop-at-init

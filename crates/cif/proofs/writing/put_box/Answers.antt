@@ -4,7 +4,6 @@ use native.Mathlib.Omega.{arith}
 use lib.ListN.{length}
 use lib.Seq.{length-sets}
 use Rattle.cif.proofs.Putting.{box-room, box-put, box-written}
-use borrow.Author.Rules.{rules}
 use Rattle.cif.proofs.writing.put_box.Goals as goal
 
 pub put_word-sides-requires : goal.put_word-sides-requires

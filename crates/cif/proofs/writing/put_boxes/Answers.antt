@@ -1,9 +1,6 @@
 -- `cif::writing::put_boxes` meets its contract. The invariant: the boxes put and those still to be put give the whole. Assumes nothing.
-use Prim.Native.Nat.{◌-◌}
 use native.Mathlib.Omega.{arith}
-use borrow.Author.Rules.{rules}
-use lib.ListN.{length}
-use Rattle.cif.proofs.Putting.{Boxing, upright, boxing_start, boxing_room, boxing_more, boxing_end}
+use Rattle.cif.proofs.Putting.{upright, boxing_start, boxing_room, boxing_more, boxing_end}
 use Rattle.cif.proofs.writing.put_boxes.Goals as goal
 
 pub loop-at-init : goal.loop-at-init

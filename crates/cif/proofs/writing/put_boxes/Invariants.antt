@@ -1,9 +1,7 @@
 -- `cif::writing::put_boxes` meets its contract. The invariant: the boxes put and those still to be put give the whole. Assumes nothing.
 use Prim.Native.Nat.{◌-◌}
-use native.Mathlib.Omega.{arith}
-use borrow.Author.Rules.{rules}
 use lib.ListN.{length}
-use Rattle.cif.proofs.Putting.{Boxing, upright, boxing_start, boxing_room, boxing_more, boxing_end}
+use Rattle.cif.proofs.Putting.{Boxing}
 use Rattle.cif.proofs.writing.put_boxes.Given as goal
 
 abbrev pub invariant-loop-at : goal.invariant-loop-at

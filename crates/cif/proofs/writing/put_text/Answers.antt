@@ -1,6 +1,5 @@
 -- `cif::writing::put_text` meets its contract. Assumes nothing.
 use Rattle.cif.proofs.Putting.{text_put}
-use borrow.Author.Rules.{rules}
 use Rattle.cif.proofs.writing.put_text.Goals as goal
 
 pub returns : goal.returns

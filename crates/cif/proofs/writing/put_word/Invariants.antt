@@ -1,9 +1,7 @@
 -- `cif::writing::put_word` meets its contract. The invariant: what is put and what is still to be put give the whole. Assumes nothing.
 use Prim.Native.Nat.{◌-◌}
-use native.Mathlib.Omega.{arith}
-use borrow.Author.Rules.{rules}
 use lib.ListN.{length}
-use Rattle.cif.proofs.Putting.{Copying, word_start, word_more, word_end}
+use Rattle.cif.proofs.Putting.{Copying}
 use Rattle.cif.proofs.writing.put_word.Given as goal
 
 abbrev pub invariant-loop-i : goal.invariant-loop-i

@@ -1,11 +1,7 @@
 -- `count::corners::corner` meets its contract: the shares of the rows passed. Assumes nothing.
-use Prim.Native.Nat.{◌-◌, ◌≤◌}
-use mathlib.Core.Path.{refl}
-use native.Mathlib.Omega.{arith}
-use borrow.Author.Rules.{rules}
+use Prim.Native.Nat.{◌-◌}
 use Rattle.count.specs.Corners.{cell_at, number_at}
-use Rattle.count.proofs.Climbing.{Climbing, climbing_none, climbing_more, climbing_stop, climbing_end, share-fits}
-use Rattle.count.proofs.corners.least.Reads as least-reads
+use Rattle.count.proofs.Climbing.{Climbing}
 use Rattle.count.proofs.corners.corner.Given as goal
 
 abbrev pub invariant-loop-j : goal.invariant-loop-j

@@ -1,9 +1,7 @@
 -- `count::corners::corners_at` meets its contract: the corners of the rows passed. Assumes nothing.
 use Prim.Native.Nat.{◌-◌}
-use native.Mathlib.Omega.{arith}
-use borrow.Author.Rules.{rules}
 use Rattle.count.specs.Corners.{cell_at, number_at, corner}
-use Rattle.count.proofs.Summing.{Summed, summed-none, summed-more, summed-end}
+use Rattle.count.proofs.Summing.{Summed}
 use Rattle.count.proofs.corners.corners_at.Given as goal
 
 abbrev pub invariant-loop-b : goal.invariant-loop-b

@@ -1,5 +1,4 @@
 -- `count::corners::farther` meets its contract. Assumes nothing.
-use borrow.Author.Rules.{rules}
 use Rattle.count.proofs.Climbing.{farther-same, farther-other}
 use Rattle.count.proofs.corners.farther.Goals as goal
 

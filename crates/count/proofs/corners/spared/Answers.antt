@@ -1,7 +1,6 @@
 -- `count::corners::spared` meets its contract: the columns from the last one back. Assumes nothing.
 use native.Mathlib.Omega.{arith}
-use borrow.Author.Rules.{rules}
-use Rattle.count.proofs.Climbing.{Widening, widening_none, widening_ready, widening_climbable, widening_more, passing_end}
+use Rattle.count.proofs.Climbing.{widening_none, widening_ready, widening_climbable, widening_more, passing_end}
 use Rattle.count.proofs.corners.spared.Goals as goal
 
 pub loop-column-init : goal.loop-column-init

@@ -1,7 +1,5 @@
 -- `count::corners::spared` meets its contract: the columns from the last one back. Assumes nothing.
-use native.Mathlib.Omega.{arith}
-use borrow.Author.Rules.{rules}
-use Rattle.count.proofs.Climbing.{Widening, widening_none, widening_ready, widening_climbable, widening_more, passing_end}
+use Rattle.count.proofs.Climbing.{Widening}
 use Rattle.count.proofs.corners.spared.Given as goal
 
 abbrev pub invariant-loop-column : goal.invariant-loop-column

@@ -1,12 +1,7 @@
 -- `count::corners::widen` meets its contract: the rows before the j-th have their reach. Assumes nothing.
-use Prim.Native.Nat.{◌-◌, ◌≤◌}
 use native.Mathlib.Omega.{arith}
-use borrow.Author.Rules.{rules}
-use Rattle.table.specs.Run.{Wrote}
 use Rattle.table.proofs.Run.{wrote_none, wrote_end}
-use Rattle.count.specs.Corners.{widened}
 use Rattle.count.proofs.Climbing.{widen_more, widen_few}
-use Rattle.count.proofs.corners.farther.Reads as farther-reads
 use Rattle.count.proofs.corners.widen.Goals as goal
 
 pub overflow_mul-first : goal.overflow_mul-first

@@ -1,6 +1,5 @@
 -- `count::flat::of_one` meets its contract. Assumes nothing.
 use native.Mathlib.Omega.{arith}
-use borrow.Author.Rules.{rules}
 use Rattle.count.proofs.Singles.{one-ends}
 use Rattle.count.proofs.flat.of_one.Goals as goal
 

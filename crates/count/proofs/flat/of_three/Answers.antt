@@ -1,11 +1,7 @@
 -- `count::flat::of_three` meets its contract. Assumes nothing.
 use Prim.Native.Nat.{◌+◌, ◌*◌, ◌≤◌}
 use native.Mathlib.Omega.{arith}
-use borrow.Author.Rules.{rules}
 use Rattle.count.proofs.Singles.{product, three-apart, three-lower, three-alike}
-use Rattle.count.proofs.corners.least.Reads as least-reads
-use Rattle.count.proofs.flat.of_one.Reads as of-one-reads
-use Rattle.count.proofs.flat.of_two.Reads as of-two-reads
 use Rattle.count.proofs.flat.of_three.Goals as goal
 
 pub returns-then-middle-low : goal.returns-then-middle-low

@@ -1,10 +1,7 @@
 -- `count::flat::of_two` meets its contract. Assumes nothing.
 use Prim.Native.Nat.{◌+◌, ◌*◌, ◌≤◌}
 use native.Mathlib.Omega.{arith}
-use borrow.Author.Rules.{rules}
 use Rattle.count.proofs.Singles.{product, two-apart, two-alike}
-use Rattle.count.proofs.corners.least.Reads as least-reads
-use Rattle.count.proofs.flat.of_one.Reads as of-one-reads
 use Rattle.count.proofs.flat.of_two.Goals as goal
 
 pub returns-then-high-low : goal.returns-then-high-low

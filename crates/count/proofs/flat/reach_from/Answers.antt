@@ -1,9 +1,6 @@
 -- `count::flat::reach_from` meets its contract. Assumes nothing.
 use mathlib.Core.Path.{refl}
-use native.Mathlib.Omega.{arith}
-use borrow.Author.Rules.{rules}
 use Rattle.count.proofs.Singles.{reach_made}
-use Rattle.count.proofs.corners.farther.Reads as farther-reads
 use Rattle.count.proofs.flat.reach_from.Goals as goal
 
 pub returns : goal.returns

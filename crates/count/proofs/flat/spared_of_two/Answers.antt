@@ -2,12 +2,9 @@
 use Prim.Native.Nat.{◌-◌, ◌<◌}
 use mathlib.Core.Path.{◌≡◌, refl}
 use native.Mathlib.Omega.{arith}
-use borrow.Author.Rules.{rules}
 use Rattle.count.specs.Corners.{reach_at}
-use Rattle.count.proofs.Climbing.{Passing, passing_none, passing_more, passing_end}
+use Rattle.count.proofs.Climbing.{passing_none, passing_more, passing_end}
 use Rattle.count.proofs.Singles.{reach_none, reach_few, reach_more, reach_range, spared-two}
-use Rattle.count.proofs.flat.reach_from.Reads as reach-from-reads
-use Rattle.count.proofs.flat.of_two.Reads as of-two-reads
 use Rattle.count.proofs.flat.spared_of_two.Goals as goal
 
 pub loop-column-init : goal.loop-column-init

@@ -1,7 +1,5 @@
 -- `division::side::edge_at` meets its contract. Assumes nothing.
-use mathlib.Core.Path.{◌≡◌, ap}
 use native.Mathlib.Omega.{arith}
-use borrow.Author.Rules.{rules}
 use Rattle.division.specs.Steps.{edge}
 use Rattle.division.proofs.side.edge_at.Goals as goal
 

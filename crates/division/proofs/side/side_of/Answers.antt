@@ -1,10 +1,8 @@
 -- `division::side::side_of` meets its contract. Assumes nothing.
 use mathlib.Core.Path.{refl}
 use native.Mathlib.Omega.{arith}
-use borrow.Author.Rules.{rules}
 use Rattle.division.specs.Division.{part_count}
-use Rattle.division.specs.Steps.{side_of, edge}
-use Rattle.division.proofs.Evenly.{count-some}
+use Rattle.division.specs.Steps.{side_of}
 use Rattle.division.proofs.Written.{edge-last}
 use Rattle.division.proofs.side.side_of.Goals as goal
 

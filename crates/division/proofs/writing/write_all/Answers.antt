@@ -1,8 +1,5 @@
 -- `division::writing::write_all` meets its contract. The invariant: the shots are written as far as shot k. Assumes nothing.
-use Prim.Native.Nat.{◌-◌, ◌≤◌}
-use native.Mathlib.Omega.{arith}
-use borrow.Author.Rules.{rules}
-use Rattle.division.proofs.Loops.{at_solid, Filling, fill_start, fill_room, fill_next, fill_kept, fill_end}
+use Rattle.division.proofs.Loops.{at_solid, fill_start, fill_room, fill_next, fill_end}
 use Rattle.division.proofs.writing.write_all.Goals as goal
 
 pub loop-k-init : goal.loop-k-init

@@ -1,8 +1,6 @@
 -- `division::writing::write_all` meets its contract. The invariant: the shots are written as far as shot k. Assumes nothing.
-use Prim.Native.Nat.{◌-◌, ◌≤◌}
-use native.Mathlib.Omega.{arith}
-use borrow.Author.Rules.{rules}
-use Rattle.division.proofs.Loops.{at_solid, Filling, fill_start, fill_room, fill_next, fill_kept, fill_end}
+use Prim.Native.Nat.{◌-◌}
+use Rattle.division.proofs.Loops.{Filling}
 use Rattle.division.proofs.writing.write_all.Given as goal
 
 abbrev pub invariant-loop-k : goal.invariant-loop-k

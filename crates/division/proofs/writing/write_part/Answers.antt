@@ -1,7 +1,5 @@
 -- `division::writing::write_part` meets its contract. Assumes nothing.
-use mathlib.Core.Path.{refl}
 use native.Mathlib.Omega.{arith}
-use borrow.Author.Rules.{rules}
 use lib.ListN.{length-set}
 use Rattle.division.proofs.Written.{sets_four}
 use Rattle.division.proofs.writing.write_part.Goals as goal

@@ -1,8 +1,5 @@
 -- `division::writing::write_parts` meets its contract. The invariant: the rows are written as far as row i. Assumes nothing.
-use Prim.Native.Nat.{◌-◌, ◌≤◌}
-use native.Mathlib.Omega.{arith}
-use borrow.Author.Rules.{rules}
-use Rattle.division.proofs.Loops.{Stacking, stack_start, stack_bottom, stack_top, stack_room, stack_next, stack_kept, stack_end}
+use Rattle.division.proofs.Loops.{stack_start, stack_bottom, stack_top, stack_room, stack_next, stack_end}
 use Rattle.division.proofs.writing.write_parts.Goals as goal
 
 pub loop-i-init : goal.loop-i-init

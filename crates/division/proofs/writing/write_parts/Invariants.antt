@@ -1,8 +1,6 @@
 -- `division::writing::write_parts` meets its contract. The invariant: the rows are written as far as row i. Assumes nothing.
-use Prim.Native.Nat.{◌-◌, ◌≤◌}
-use native.Mathlib.Omega.{arith}
-use borrow.Author.Rules.{rules}
-use Rattle.division.proofs.Loops.{Stacking, stack_start, stack_bottom, stack_top, stack_room, stack_next, stack_kept, stack_end}
+use Prim.Native.Nat.{◌-◌}
+use Rattle.division.proofs.Loops.{Stacking}
 use Rattle.division.proofs.writing.write_parts.Given as goal
 
 abbrev pub invariant-loop-i : goal.invariant-loop-i

@@ -1,8 +1,6 @@
 -- `division::writing::write_row` meets its contract. The invariant: the row is written as far as column j. Assumes nothing.
-use Prim.Native.Nat.{◌-◌, ◌≤◌}
-use native.Mathlib.Omega.{arith}
-use borrow.Author.Rules.{rules}
-use Rattle.division.proofs.Loops.{Rowing, row-start, row-left, row-right, row_room, row_next, row_kept, row-end}
+use Prim.Native.Nat.{◌-◌}
+use Rattle.division.proofs.Loops.{Rowing}
 use Rattle.division.proofs.writing.write_row.Given as goal
 
 abbrev pub invariant-loop-j : goal.invariant-loop-j

@@ -1,14 +1,11 @@
 -- `edge::along::count_runs` meets its contract. The invariant: those counted and those from here on are all of them. Assumes nothing.
 use Prim.Native.Nat.{◌+◌, ◌-◌, ◌≤◌}
 use mathlib.Core.Path.{◌≡◌}
-use native.Mathlib.Omega.{arith}
-use borrow.Author.Rules.{rules}
 use Rattle.figure.specs.Figure.{figure}
 use Rattle.shot.specs.Shot.{shots_in}
 use Rattle.figure.specs.Inside.{inside_at}
 use Rattle.edge.specs.Landing.{landing}
 use Rattle.edge.specs.Steps.{run_count}
-use Rattle.edge.proofs.Laws.{count-start, count-more, count-end}
 use Rattle.edge.proofs.along.count_runs.Given as goal
 
 abbrev pub invariant-loop-k : goal.invariant-loop-k

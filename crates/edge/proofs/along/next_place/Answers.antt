@@ -1,6 +1,5 @@
 -- `edge::along::next_place` meets its contract. The invariant: no corner passed lies between. Assumes nothing.
-use Prim.Native.Nat.{◌-◌}
-use Rattle.edge.specs.Steps.{place_of, Free}
+use Rattle.edge.specs.Steps.{place_of}
 use Rattle.edge.proofs.Laws.{free_none, free_more, free_all}
 use borrow.Author.Rules.{rules}
 use Rattle.edge.proofs.along.next_place.Goals as goal

@@ -1,8 +1,6 @@
 -- `edge::along::next_place` meets its contract. The invariant: no corner passed lies between. Assumes nothing.
 use Prim.Native.Nat.{◌-◌}
-use Rattle.edge.specs.Steps.{place_of, Free}
-use Rattle.edge.proofs.Laws.{free_none, free_more, free_all}
-use borrow.Author.Rules.{rules}
+use Rattle.edge.specs.Steps.{Free}
 use Rattle.edge.proofs.along.next_place.Given as goal
 
 abbrev pub invariant-loop-i : goal.invariant-loop-i

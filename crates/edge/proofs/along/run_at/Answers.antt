@@ -1,12 +1,6 @@
 -- `edge::along::run_at` meets its contract. The invariant: from where the first steady part ends, all end up alike. Assumes nothing.
-use Prim.Native.Nat.{◌-◌}
-use borrow.Author.Rules.{rules}
-use Rattle.figure.specs.Figure.{figure}
-use Rattle.shot.specs.Shot.{shots_in}
-use Rattle.figure.specs.Inside.{inside_at}
-use Rattle.edge.specs.Landing.{landing}
 use Rattle.edge.specs.Steps.{told}
-use Rattle.edge.proofs.Laws.{Onward, onward-none, onward-more, whole-stop, whole-end}
+use Rattle.edge.proofs.Laws.{onward-none, onward-more, whole-stop, whole-end}
 use Rattle.edge.proofs.along.run_at.Goals as goal
 
 pub loop-to-init : goal.loop-to-init

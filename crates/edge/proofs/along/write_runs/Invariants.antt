@@ -1,14 +1,13 @@
 -- `edge::along::write_runs` meets its contract. The invariant: what is written and what is still to come give the whole. Assumes nothing.
 use Prim.Native.Nat.{◌-◌, ◌≤◌}
-use mathlib.Core.Path.{◌≡◌, ◌∙◌}
+use mathlib.Core.Path.{◌≡◌}
 use lib.ListN.{length}
-use borrow.Author.Rules.{rules}
 use Rattle.figure.specs.Figure.{figure}
 use Rattle.shot.specs.Shot.{shots_in}
 use Rattle.figure.specs.Inside.{inside_at}
 use Rattle.edge.specs.Landing.{landing}
 use Rattle.edge.specs.Steps.{runs_written}
-use Rattle.edge.proofs.Writing.{Ahead, ahead-start, ahead-room, ahead_more, ahead-end, ahead-length}
+use Rattle.edge.proofs.Writing.{Ahead}
 use Rattle.edge.proofs.along.write_runs.Given as goal
 
 abbrev pub invariant-loop-k : goal.invariant-loop-k

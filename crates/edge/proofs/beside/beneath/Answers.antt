@@ -1,6 +1,5 @@
 -- `edge::beside::beneath` meets its contract. Assumes nothing.
 use Rattle.edge.proofs.Laws.{beneath-first, beneath-next}
-use borrow.Author.Rules.{rules}
 use Rattle.edge.proofs.beside.beneath.Goals as goal
 
 pub returns-then-at-eq0 : goal.returns-then-at-eq0

@@ -1,6 +1,5 @@
 -- `edge::beside::face` meets its contract. Assumes nothing.
 use Rattle.edge.proofs.Laws.{face_both, face_low, face_high, face_none}
-use borrow.Author.Rules.{rules}
 use Rattle.edge.proofs.beside.face.Goals as goal
 
 pub returns-then-beneath : goal.returns-then-beneath

@@ -1,9 +1,8 @@
 -- `edge::beside::inside_at` meets its contract. The invariant: what is told by the rings passed, turned by those from this one on. Assumes nothing.
-use Prim.Native.Nat.{◌-◌, ◌≤◌}
 use mathlib.Core.Path.{refl}
 use native.Mathlib.Omega.{arith}
 use borrow.Author.Rules.{rules}
-use Rattle.edge.proofs.Laws.{Turning, turning_start, turning_room, turning_some, turning_more, turning_end}
+use Rattle.edge.proofs.Laws.{turning_start, turning_room, turning_some, turning_more, turning_end}
 use Rattle.edge.proofs.beside.inside_at.Goals as goal
 
 pub loop-k-init : goal.loop-k-init

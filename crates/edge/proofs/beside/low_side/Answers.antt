@@ -1,6 +1,5 @@
 -- `edge::beside::low_side` meets its contract. Assumes nothing.
 use Rattle.edge.proofs.Laws.{low_x, low-y}
-use borrow.Author.Rules.{rules}
 use Rattle.edge.proofs.beside.low_side.Goals as goal
 
 pub returns-in-X : goal.returns-in-X

@@ -1,6 +1,5 @@
 -- `edge::beside::ring_holds` meets its contract. The invariant: an odd number of the edges passed stand left of the square. Assumes nothing.
-use Prim.Native.Nat.{◌-◌}
-use Rattle.edge.proofs.Laws.{Round, round_none, round_more, round_all}
+use Rattle.edge.proofs.Laws.{round_none, round_more, round_all}
 use borrow.Author.Rules.{rules}
 use Rattle.edge.proofs.beside.ring_holds.Goals as goal
 

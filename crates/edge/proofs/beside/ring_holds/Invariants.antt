@@ -1,7 +1,6 @@
 -- `edge::beside::ring_holds` meets its contract. The invariant: an odd number of the edges passed stand left of the square. Assumes nothing.
 use Prim.Native.Nat.{◌-◌}
-use Rattle.edge.proofs.Laws.{Round, round_none, round_more, round_all}
-use borrow.Author.Rules.{rules}
+use Rattle.edge.proofs.Laws.{Round}
 use Rattle.edge.proofs.beside.ring_holds.Given as goal
 
 abbrev pub invariant-loop-end : goal.invariant-loop-end

@@ -1,6 +1,5 @@
 -- `edge::beside::seen` meets its contract. Assumes nothing.
 use Rattle.edge.proofs.Laws.{seen-x, seen-y}
-use borrow.Author.Rules.{rules}
 use Rattle.edge.proofs.beside.seen.Goals as goal
 
 pub returns-in-X : goal.returns-in-X

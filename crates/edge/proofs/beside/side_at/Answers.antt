@@ -1,6 +1,5 @@
 -- `edge::beside::side_at` meets its contract. Assumes nothing.
 use Rattle.edge.proofs.Laws.{side-told, low_small}
-use borrow.Author.Rules.{rules}
 use Rattle.edge.proofs.beside.side_at.Goals as goal
 
 pub face-requires : goal.face-requires

@@ -1,6 +1,5 @@
 -- `edge::beside::stands` meets its contract. Assumes nothing.
 use mathlib.Core.Path.{◌∙◌}
-use borrow.Author.Rules.{rules}
 use Rattle.edge.proofs.Laws.{stands_level, stands-right, stands_up, stands_down}
 use Rattle.edge.proofs.beside.stands.Goals as goal
 

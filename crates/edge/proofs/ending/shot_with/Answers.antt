@@ -1,10 +1,7 @@
 -- `edge::ending::shot_with` meets its contract. The invariant: no shot passed so far has the side there. Assumes nothing.
-use Prim.Native.Nat.{ℕ, ◌<◌, ◌-◌}
-use mathlib.Core.Path.{◌≡◌}
-use mathlib.Core.Bool.{false}
 use borrow.Author.Count.{below_none, below_more}
 use borrow.Author.Rules.{rules}
-use Rattle.edge.proofs.Laws.{has, found_at, passed-at, not_found}
+use Rattle.edge.proofs.Laws.{found_at, passed-at, not_found}
 use Rattle.edge.proofs.ending.shot_with.Goals as goal
 
 pub loop-i-init : goal.loop-i-init

@@ -2,9 +2,7 @@
 use Prim.Native.Nat.{ℕ, ◌<◌, ◌-◌}
 use mathlib.Core.Path.{◌≡◌}
 use mathlib.Core.Bool.{false}
-use borrow.Author.Count.{below_none, below_more}
-use borrow.Author.Rules.{rules}
-use Rattle.edge.proofs.Laws.{has, found_at, passed-at, not_found}
+use Rattle.edge.proofs.Laws.{has}
 use Rattle.edge.proofs.ending.shot_with.Given as goal
 
 abbrev pub invariant-loop-i : goal.invariant-loop-i

@@ -1,6 +1,5 @@
 -- `edge::ending::side_of` meets its contract. Assumes nothing.
 use mathlib.Core.Path.{◌∙◌}
-use borrow.Author.Rules.{rules}
 use Rattle.edge.proofs.Laws.{by-x, by-y}
 use Rattle.edge.proofs.ending.side_of.Goals as goal
 

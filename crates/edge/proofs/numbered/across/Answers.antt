@@ -1,5 +1,4 @@
 -- `edge::numbered::across` meets its contract. Assumes nothing.
-use borrow.Author.Rules.{rules}
 use Rattle.edge.proofs.Numbering.{across-upright, across_level}
 use Rattle.edge.proofs.numbered.across.Goals as goal
 

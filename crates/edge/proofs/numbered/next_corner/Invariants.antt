@@ -1,9 +1,6 @@
 -- `edge::numbered::next_corner` meets its contract. The invariant: the edge is one of the rings from this one on. Assumes nothing.
-use Prim.Native.Nat.{◌-◌, ◌≤◌}
-use mathlib.Core.Path.{refl}
-use native.Mathlib.Omega.{arith}
-use borrow.Author.Rules.{rules}
-use Rattle.edge.proofs.Numbering.{Coming, coming_start, coming_room, coming_next, coming_close, coming_more, coming_end, past-edge}
+use Prim.Native.Nat.{◌≤◌}
+use Rattle.edge.proofs.Numbering.{Coming}
 use Rattle.edge.proofs.numbered.next_corner.Given as goal
 
 abbrev pub invariant-loop-k : goal.invariant-loop-k

@@ -1,5 +1,4 @@
 -- `edge::numbered::span_of` meets its contract. Assumes nothing.
-use borrow.Author.Rules.{rules}
 use Rattle.edge.proofs.Numbering.{spanned_up, spanned_down}
 use Rattle.edge.proofs.numbered.span_of.Goals as goal
 

@@ -1,10 +1,8 @@
 -- `emission::measuring::line_at` meets its contract. The invariant: no line passed lies at the place. Assumes nothing.
-use Prim.Native.Nat.{◌≤◌, ◌-◌}
-use mathlib.Core.Path.{◌≡◌, sym, ◌∙◌}
+use mathlib.Core.Path.{sym, ◌∙◌}
 use native.Mathlib.Omega.{arith}
 use borrow.Author.Rules.{rules}
-use lib.ListN.{get_or}
-use Rattle.verdict.proofs.Search.{Passed, passed_none, passed-more, first-here, first-none}
+use Rattle.verdict.proofs.Search.{passed_none, passed-more, first-here, first-none}
 use Rattle.emission.proofs.measuring.line_at.Goals as goal
 
 pub loop-i-init : goal.loop-i-init

@@ -1,10 +1,8 @@
 -- `emission::measuring::line_at` meets its contract. The invariant: no line passed lies at the place. Assumes nothing.
 use Prim.Native.Nat.{◌≤◌, ◌-◌}
-use mathlib.Core.Path.{◌≡◌, sym, ◌∙◌}
-use native.Mathlib.Omega.{arith}
-use borrow.Author.Rules.{rules}
+use mathlib.Core.Path.{◌≡◌}
 use lib.ListN.{get_or}
-use Rattle.verdict.proofs.Search.{Passed, passed_none, passed-more, first-here, first-none}
+use Rattle.verdict.proofs.Search.{Passed}
 use Rattle.emission.proofs.measuring.line_at.Given as goal
 
 abbrev pub invariant-loop-i : goal.invariant-loop-i

@@ -1,15 +1,12 @@
 -- `emission::measuring::measured` meets its contract. The invariant: the sum so far and that of the shots left are the whole. Assumes nothing.
-use Prim.Native.Nat.{ℕ, ◌+◌, ◌-◌}
+use Prim.Native.Nat.{◌+◌, ◌-◌}
 use mathlib.Core.Path.{◌≡◌}
 use mathlib.Core.List.{List}
-use native.Mathlib.Omega.{arith}
-use borrow.Author.Rules.{rules}
 use lib.ListN.{drop}
 use Rattle.sum.specs.Sum.{sum_of}
 use Rattle.outline.specs.Grid.{Grid}
 use Rattle.piece.specs.Piece.{Piece, sliver}
 use Rattle.emission.specs.Measuring.{Listed}
-use Rattle.emission.proofs.Measured.{shot-shown, sum_next, left-none}
 use Rattle.emission.proofs.measuring.measured.Given as goal
 
 abbrev pub invariant-loop-k : goal.invariant-loop-k

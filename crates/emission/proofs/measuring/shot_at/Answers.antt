@@ -1,5 +1,4 @@
 -- `emission::measuring::shot_at` meets its contract. Assumes nothing.
-use borrow.Author.Rules.{rules}
 use Rattle.emission.proofs.Measured.{shot-found}
 use Rattle.emission.proofs.measuring.shot_at.Goals as goal
 

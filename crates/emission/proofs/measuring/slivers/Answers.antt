@@ -1,6 +1,5 @@
 -- `emission::measuring::slivers` meets its contract. Assumes nothing.
 use native.Mathlib.Omega.{arith}
-use borrow.Author.Rules.{rules}
 use Rattle.emission.proofs.Measured.{charges, sliver-told}
 use Rattle.emission.proofs.measuring.slivers.Goals as goal
 

@@ -1,13 +1,10 @@
 -- `emission::pinwheel::emit` meets its contract. The measure is the number of cells of the piece. Assumes nothing.
-use Prim.Native.Nat.{ℕ, ◌<◌}
 use mathlib.Core.Path.{refl, sym, ◌∙◌, ap}
 use native.Mathlib.Omega.{arith}
-use borrow.Author.Rules.{rules}
 use lib.ListN.{length}
 use Rattle.outline.specs.Grid.{Grid}
 use Rattle.rule.specs.declared.Rule.{Rule}
 use Rattle.piece.specs.declared.Mode.TheVariants.{Pinwheel}
-use Rattle.piece.specs.Piece.{cells}
 use Rattle.piece.specs.Meant.{meant}
 use Rattle.verdict.specs.Memory.{Costed}
 use Rattle.emission.proofs.Emitted.{Halves, halves, Fifths, fifths, count_halves, count_fifths, told-outside, told-shot, less_cells, emit_one, emit_part, written_none, written_one, written-join, written_fifths, written_as}

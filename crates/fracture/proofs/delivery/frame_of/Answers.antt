@@ -1,7 +1,6 @@
 -- `fracture::delivery::frame_of` meets its contract. Assumes nothing.
 use mathlib.Core.Path.{refl}
 use native.Mathlib.Omega.{arith}
-use borrow.Author.Rules.{rules}
 use Rattle.fracture.proofs.Delivered.{frame-few, frame-known}
 use Rattle.fracture.proofs.delivery.frame_of.Goals as goal
 

@@ -1,6 +1,5 @@
 -- `fracture::delivery::room_for` meets its contract. Assumes nothing.
 use native.Mathlib.Omega.{arith}
-use borrow.Author.Rules.{rules}
 use Rattle.fracture.proofs.Delivered.{area-few, room-all, room_fits, room-short, count-written}
 use Rattle.fracture.proofs.delivery.room_for.Goals as goal
 

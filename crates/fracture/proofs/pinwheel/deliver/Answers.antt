@@ -1,7 +1,6 @@
 -- `fracture::pinwheel::deliver` meets its contract. Assumes nothing.
 use mathlib.Core.Path.{sym, ◌∙◌}
 use native.Mathlib.Omega.{arith}
-use borrow.Author.Rules.{rules}
 use Rattle.fracture.proofs.Delivered.{walk-sized, count-written, short-says, frame-few-shots, frame-aside, frame-emittable, frame-within, frame-listed, frame_charged, walk-shaded, told_lacking, told-listed}
 use Rattle.fracture.proofs.pinwheel.deliver.Goals as goal
 

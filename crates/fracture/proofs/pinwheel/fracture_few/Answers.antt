@@ -1,7 +1,6 @@
 -- `fracture::pinwheel::fracture_few` meets its contract. Assumes nothing.
 use Prim.Native.Nat.{◌≤◌}
 use native.Mathlib.Omega.{arith}
-use borrow.Author.Rules.{rules}
 use lib.ListN.{length}
 use mathlib.Core.Path.{◌≡◌}
 use Rattle.outline.specs.Grid.{Grid, memory, stored}

@@ -1,7 +1,6 @@
 -- `fracture::pinwheel::fracture_grid` meets its contract. Assumes nothing.
 use Prim.Native.Nat.{◌≤◌}
 use native.Mathlib.Omega.{arith}
-use borrow.Author.Rules.{rules}
 use lib.ListN.{length}
 use Rattle.outline.specs.Grid.{stored}
 use Rattle.piece.specs.declared.Mode.TheVariants.{Pinwheel}

@@ -1,6 +1,5 @@
 -- `fracture::pinwheel::fracture_sized` meets its contract. Assumes nothing.
 use mathlib.Core.Path.{◌∙◌, sym, subst}
-use borrow.Author.Rules.{rules}
 use Rattle.demands.proofs.Few.{few-gridded}
 use Rattle.fracture.specs.Delivery.{Sizes}
 use Rattle.fracture.proofs.Handed.{few-laid}

@@ -1,6 +1,5 @@
 -- `broad` meets its contract: the lowest and the highest place compared. Assumes nothing.
 use Rattle.gdsii.proofs.Points.{broad-points}
-use borrow.Author.Rules.{rules}
 use Rattle.gdsii.proofs.places.broad.Goals as goal
 
 pub returns : goal.returns

@@ -1,10 +1,7 @@
 -- `highest` meets its contract: the highest so far, and the points still to come. Assumes nothing.
-use mathlib.Core.Path.{◌∙◌, ◌≡◌, refl}
-use native.Mathlib.Omega.{arith}
-use Rattle.gdsii.proofs.Points.{highest-more, highest-none}
+use mathlib.Core.Path.{◌≡◌}
 use Prim.Native.Nat.{◌+◌, ◌*◌, ◌≤◌}
 use lib.ListN.{length}
-use borrow.Author.Rules.{rules}
 use Rattle.gdsii.specs.Boundary.{highest_from, highest, points_from}
 use Rattle.gdsii.proofs.places.highest.Given as goal
 

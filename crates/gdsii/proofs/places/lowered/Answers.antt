@@ -1,5 +1,4 @@
 -- `lowered` meets its contract: the difference fits 64 bits, and then 32. Assumes nothing.
-use borrow.Author.Rules.{rules}
 use mathlib.Core.Path.{◌∙◌, sym, subst, ap}
 use lib.IntN.{ℤ, sub_ℕ}
 use mir.Syntax.{w32, w64}

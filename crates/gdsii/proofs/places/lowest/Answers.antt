@@ -1,11 +1,7 @@
 -- `lowest` meets its contract: the lowest so far, and the points still to come. Assumes nothing.
-use mathlib.Core.Path.{◌∙◌, ◌≡◌, refl}
+use mathlib.Core.Path.{◌∙◌, refl}
 use native.Mathlib.Omega.{arith}
 use Rattle.gdsii.proofs.Points.{lowest-more, lowest-none}
-use Prim.Native.Nat.{◌+◌, ◌*◌, ◌≤◌}
-use lib.ListN.{length}
-use borrow.Author.Rules.{rules}
-use Rattle.gdsii.specs.Boundary.{lowest_from, lowest, points_from}
 use Rattle.gdsii.proofs.places.lowest.Goals as goal
 
 pub loop-left-init : goal.loop-left-init

@@ -1,10 +1,7 @@
 -- `lowest` meets its contract: the lowest so far, and the points still to come. Assumes nothing.
-use mathlib.Core.Path.{◌∙◌, ◌≡◌, refl}
-use native.Mathlib.Omega.{arith}
-use Rattle.gdsii.proofs.Points.{lowest-more, lowest-none}
+use mathlib.Core.Path.{◌≡◌}
 use Prim.Native.Nat.{◌+◌, ◌*◌, ◌≤◌}
 use lib.ListN.{length}
-use borrow.Author.Rules.{rules}
 use Rattle.gdsii.specs.Boundary.{lowest_from, lowest, points_from}
 use Rattle.gdsii.proofs.places.lowest.Given as goal
 

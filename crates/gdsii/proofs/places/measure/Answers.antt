@@ -1,11 +1,8 @@
 -- `measure` meets its contract: 8 and 16, then 17, 18 along x and y, and 2, one after the other. Assumes nothing.
 use mathlib.Core.Path.{sym, ◌∙◌}
 use native.Mathlib.Omega.{arith}
-use Rattle.refusal.proofs.Refusals.{told_as}
-use Rattle.gdsii.specs.Steps.{scan_told}
 use Rattle.gdsii.proofs.Records.{element-within}
 use Rattle.gdsii.proofs.Measured.{measured-fault, measured_open, measured-broad, measured-high, measured-long, measured-read}
-use borrow.Author.Rules.{rules}
 use Rattle.gdsii.proofs.places.measure.Goals as goal
 
 pub unclosed-requires : goal.unclosed-requires

@@ -1,6 +1,5 @@
 -- `place_at` meets its contract: x in the first four bytes, y in the last. Assumes nothing.
 use Rattle.gdsii.proofs.Points.{place-x, place-y}
-use borrow.Author.Rules.{rules}
 use Rattle.gdsii.proofs.places.place_at.Goals as goal
 
 pub returns-in-X : goal.returns-in-X

@@ -1,7 +1,6 @@
 -- `raise` meets its contract: below 2^31 and from there on. Assumes nothing.
 use native.Mathlib.Omega.{arith}
 use Rattle.gdsii.proofs.Points.{raise-low, raise-high}
-use borrow.Author.Rules.{rules}
 use Rattle.gdsii.proofs.places.raise.Goals as goal
 
 pub returns-then-word-lt-HALF : goal.returns-then-word-lt-HALF

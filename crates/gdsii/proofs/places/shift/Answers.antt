@@ -2,7 +2,6 @@
 use Rattle.gdsii.proofs.Points.{shift-told}
 use mathlib.Core.Path.{◌∙◌, ap}
 use lib.IntN.{sub_ℕ}
-use borrow.Author.Rules.{rules}
 use Rattle.gdsii.proofs.places.shift.Goals as goal
 
 pub returns : goal.returns

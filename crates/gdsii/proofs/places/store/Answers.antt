@@ -2,8 +2,7 @@
 use mathlib.Core.Path.{refl}
 use native.Mathlib.Omega.{arith}
 use lib.ListN.{length-set}
-use borrow.Author.Rules.{rules}
-use Rattle.gdsii.proofs.Storing.{Storing, storing_start, storing_near, storing_more, storing_done}
+use Rattle.gdsii.proofs.Storing.{storing_start, storing_near, storing_more, storing_done}
 use Rattle.gdsii.proofs.places.store.Goals as goal
 
 pub loop-left-init : goal.loop-left-init

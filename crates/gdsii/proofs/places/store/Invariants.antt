@@ -1,9 +1,5 @@
 -- `store` meets its contract: what is stored and what is still to come give the whole. Assumes nothing.
-use mathlib.Core.Path.{refl}
-use native.Mathlib.Omega.{arith}
-use lib.ListN.{length-set}
-use borrow.Author.Rules.{rules}
-use Rattle.gdsii.proofs.Storing.{Storing, storing_start, storing_near, storing_more, storing_done}
+use Rattle.gdsii.proofs.Storing.{Storing}
 use Rattle.gdsii.proofs.places.store.Given as goal
 
 abbrev pub invariant-loop-left : goal.invariant-loop-left

@@ -2,7 +2,6 @@
 use mathlib.Core.Path.{refl}
 use native.Mathlib.Omega.{arith}
 use Rattle.gdsii.proofs.Points.{unclosed-same, unclosed-other}
-use borrow.Author.Rules.{rules}
 use Rattle.gdsii.proofs.places.unclosed.Goals as goal
 
 pub returns-then-same_x : goal.returns-then-same_x

@@ -2,7 +2,6 @@
 use mathlib.Core.Path.{ap₂}
 use Prim.Native.Nat.{◌+◌, ◌*◌}
 use Rattle.gdsii.specs.Boundary.{word_at}
-use borrow.Author.Rules.{rules}
 use Rattle.gdsii.proofs.places.word_at.Goals as goal
 
 pub returns : goal.returns

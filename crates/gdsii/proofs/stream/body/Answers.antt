@@ -2,9 +2,6 @@
 use mathlib.Core.Path.{sym}
 use native.Mathlib.Omega.{arith}
 use Rattle.gdsii.proofs.Records.{body-points, body-fault, body-read, xy-within}
-use Rattle.refusal.proofs.Refusals.{told_as}
-use Rattle.gdsii.specs.Steps.{past_told, scan_told}
-use borrow.Author.Rules.{rules}
 use Rattle.gdsii.proofs.stream.body.Goals as goal
 
 pub overflow_mul-next : goal.overflow_mul-next

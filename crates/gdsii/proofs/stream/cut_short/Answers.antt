@@ -1,7 +1,6 @@
 -- `cut_short` meets its contract: by the first four bytes, and by the length that they announce. Assumes nothing.
 use native.Mathlib.Omega.{arith}
 use Rattle.gdsii.proofs.Records.{short-few, short-whole}
-use borrow.Author.Rules.{rules}
 use Rattle.gdsii.proofs.stream.cut_short.Goals as goal
 
 pub returns-then-len-at : goal.returns-then-len-at

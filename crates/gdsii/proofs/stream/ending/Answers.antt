@@ -1,8 +1,5 @@
 -- `ending` meets its contract: ENDEL, and no byte after it. Assumes nothing.
 use Rattle.gdsii.proofs.Records.{ending-first, ending_extra, ending-end}
-use Rattle.refusal.proofs.Refusals.{told_as}
-use Rattle.gdsii.specs.Steps.{past_told}
-use borrow.Author.Rules.{rules}
 use borrow.Author.Tests.{eq-eqb, ne_eqb}
 use Rattle.gdsii.proofs.stream.ending.Goals as goal
 

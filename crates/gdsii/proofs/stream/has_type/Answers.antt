@@ -1,7 +1,6 @@
 -- `has_type` meets its contract: the third byte. Assumes nothing.
 use mathlib.Core.Path.{refl}
 use Rattle.gdsii.specs.Record.{typed}
-use borrow.Author.Rules.{rules}
 use Rattle.gdsii.proofs.stream.has_type.Goals as goal
 
 pub returns : goal.returns

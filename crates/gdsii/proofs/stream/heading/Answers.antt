@@ -1,8 +1,5 @@
 -- `heading` meets its contract: BOUNDARY, ELFLAGS, PLEX, the first fault deciding. Assumes nothing.
 use Rattle.gdsii.proofs.Records.{heading-first, heading-second, heading-third}
-use Rattle.refusal.proofs.Refusals.{told_as}
-use Rattle.gdsii.specs.Steps.{past_told}
-use borrow.Author.Rules.{rules}
 use Rattle.gdsii.proofs.stream.heading.Goals as goal
 
 pub returns-in-Stopped : goal.returns-in-Stopped

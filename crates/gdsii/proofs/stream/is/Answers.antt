@@ -1,6 +1,5 @@
 -- `is` meets its contract: type, data type and length, one test after the other. Assumes nothing.
 use Rattle.gdsii.proofs.Records.{is_type, is_form, is_last}
-use borrow.Author.Rules.{rules}
 use Rattle.gdsii.proofs.stream.is.Goals as goal
 
 pub returns-then-of_form : goal.returns-then-of_form

@@ -1,8 +1,5 @@
 -- `layering` meets its contract: LAYER, DATATYPE, the first fault deciding. Assumes nothing.
 use Rattle.gdsii.proofs.Records.{layering-first, layering-second}
-use Rattle.refusal.proofs.Refusals.{told_as}
-use Rattle.gdsii.specs.Steps.{past_told}
-use borrow.Author.Rules.{rules}
 use Rattle.gdsii.proofs.stream.layering.Goals as goal
 
 pub returns-in-Stopped : goal.returns-in-Stopped

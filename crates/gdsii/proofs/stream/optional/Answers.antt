@@ -1,7 +1,6 @@
 -- `optional` meets its contract: 8, then whether the record is there. Assumes nothing.
 use mathlib.Core.Path.{sym, ◌∙◌}
 use Rattle.gdsii.proofs.Records.{short_false, optional-short, optional-there, optional-other}
-use borrow.Author.Rules.{rules}
 use Rattle.gdsii.proofs.stream.optional.Goals as goal
 
 pub returns-then-cut_short : goal.returns-then-cut_short

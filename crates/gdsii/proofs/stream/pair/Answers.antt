@@ -1,7 +1,6 @@
 -- `pair` meets its contract: the high byte counts 256 times. Assumes nothing.
 use mathlib.Core.Path.{refl}
 use native.Mathlib.Omega.{arith}
-use borrow.Author.Rules.{rules}
 use Rattle.gdsii.proofs.stream.pair.Goals as goal
 
 pub returns : goal.returns

@@ -1,5 +1,4 @@
 -- `pair_at` meets its contract: the bytes at the place and after it. Assumes nothing.
-use borrow.Author.Rules.{rules}
 use Rattle.gdsii.specs.Record.{pair_at}
 use Rattle.gdsii.proofs.stream.pair_at.Goals as goal
 

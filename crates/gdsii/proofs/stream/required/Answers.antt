@@ -2,7 +2,6 @@
 use mathlib.Core.Path.{sym, ◌∙◌}
 use native.Mathlib.Omega.{arith}
 use Rattle.gdsii.proofs.Records.{short_false, is-size, required-short, required-is, required-wrong}
-use borrow.Author.Rules.{rules}
 use Rattle.gdsii.proofs.stream.required.Goals as goal
 
 pub returns-then-cut_short : goal.returns-then-cut_short

@@ -1,8 +1,5 @@
 -- `scan` meets its contract: what stands before the points, and the points with the end after them. Assumes nothing.
 use Rattle.gdsii.proofs.Records.{element-heading, element-layering, element-body}
-use Rattle.refusal.proofs.Refusals.{told_as}
-use Rattle.gdsii.specs.Steps.{past_told}
-use borrow.Author.Rules.{rules}
 use Rattle.gdsii.proofs.stream.scan.Goals as goal
 
 pub returns-in-Stopped : goal.returns-in-Stopped

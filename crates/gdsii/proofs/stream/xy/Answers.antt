@@ -2,7 +2,6 @@
 use mathlib.Core.Path.{sym, ◌∙◌, refl}
 use native.Mathlib.Omega.{arith}
 use Rattle.gdsii.proofs.Records.{short_false, xy-short, xy-few, xy-wrong, xy-is}
-use borrow.Author.Rules.{rules}
 use Rattle.gdsii.proofs.stream.xy.Goals as goal
 
 pub returns-then-cut_short : goal.returns-then-cut_short

@@ -1,6 +1,5 @@
 -- `lowering::weighing::cheaper` meets its contract. Assumes nothing.
 use native.Mathlib.Omega.{arith}
-use borrow.Author.Rules.{rules}
 use Rattle.lowering.proofs.Wheels.{Numbers, first_addable, second_addable, inner_in, cheaper_fits, cheaper_is}
 use Rattle.lowering.proofs.weighing.cheaper.Goals as goal
 

@@ -1,5 +1,4 @@
 -- `lowering::weighing::take` meets its contract. Assumes nothing.
-use borrow.Author.Rules.{rules}
 use Rattle.lowering.proofs.Wheels.{place_in, take_lowers}
 use Rattle.lowering.proofs.weighing.take.Goals as goal
 

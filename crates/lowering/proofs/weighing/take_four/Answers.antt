@@ -1,7 +1,6 @@
 -- `lowering::weighing::take_four` meets its contract. Assumes nothing.
 use mathlib.Core.Path.{◌∙◌}
 use native.Mathlib.Omega.{arith}
-use borrow.Author.Rules.{rules}
 use Rattle.lowering.proofs.Wheels.{four_lowers}
 use Rattle.lowering.proofs.weighing.take_four.Goals as goal
 

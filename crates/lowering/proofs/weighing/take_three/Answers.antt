@@ -1,5 +1,4 @@
 -- `lowering::weighing::take_three` meets its contract. Assumes nothing.
-use borrow.Author.Rules.{rules}
 use Rattle.lowering.proofs.Wheels.{three_lowers}
 use Rattle.lowering.proofs.weighing.take_three.Goals as goal
 

@@ -1,10 +1,6 @@
 -- `lowering::weighing::weigh` meets its contract: the pinwheels with a lower x line below j are weighed. Assumes nothing.
 use Prim.Native.Nat.{◌+◌, ◌-◌, ◌≤◌}
-use mathlib.Core.Path.{◌∙◌}
-use native.Mathlib.Omega.{arith}
 use Rattle.lowering.specs.Lowered.{Lowered, Among, OfLine}
-use Rattle.lowering.proofs.Weighed.{among_none, among-more, among-end}
-use Rattle.lowering.proofs.Wheels.{least-wheel}
 use Rattle.lowering.proofs.weighing.weigh.Given as goal
 
 abbrev pub invariant-loop-j : goal.invariant-loop-j

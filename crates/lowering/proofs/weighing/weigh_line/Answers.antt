@@ -1,8 +1,8 @@
 -- `lowering::weighing::weigh_line` meets its contract: the pinwheels with an upper x line below l are weighed. Assumes nothing.
-use Prim.Native.Nat.{◌+◌, ◌*◌, ◌-◌, ◌≤◌}
+use Prim.Native.Nat.{◌+◌, ◌*◌}
 use mathlib.Core.Path.{◌∙◌}
 use native.Mathlib.Omega.{arith}
-use Rattle.lowering.specs.Lowered.{Lowered, Among, OfLines}
+use Rattle.lowering.specs.Lowered.{OfLines}
 use Rattle.lowering.proofs.Weighed.{among_none, among-more}
 use Rattle.lowering.proofs.Wheels.{Stands, stands, row_fits, placed_in, lines-lower, line-end}
 use Rattle.lowering.proofs.weighing.weigh_line.Goals as goal

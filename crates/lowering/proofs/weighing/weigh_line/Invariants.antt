@@ -1,10 +1,6 @@
 -- `lowering::weighing::weigh_line` meets its contract: the pinwheels with an upper x line below l are weighed. Assumes nothing.
-use Prim.Native.Nat.{◌+◌, ◌*◌, ◌-◌, ◌≤◌}
-use mathlib.Core.Path.{◌∙◌}
-use native.Mathlib.Omega.{arith}
+use Prim.Native.Nat.{◌+◌, ◌-◌, ◌≤◌}
 use Rattle.lowering.specs.Lowered.{Lowered, Among, OfLines}
-use Rattle.lowering.proofs.Weighed.{among_none, among-more}
-use Rattle.lowering.proofs.Wheels.{Stands, stands, row_fits, placed_in, lines-lower, line-end}
 use Rattle.lowering.proofs.weighing.weigh_line.Given as goal
 
 abbrev pub invariant-loop-l : goal.invariant-loop-l

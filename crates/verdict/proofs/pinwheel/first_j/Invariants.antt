@@ -1,10 +1,7 @@
 -- `verdict::pinwheel::first_j` meets its contract. The invariant: no line passed has one. Assumes nothing.
 use Prim.Native.Nat.{◌≤◌, ◌-◌}
-use native.Mathlib.Omega.{arith}
-use borrow.Author.Rules.{rules}
 use Rattle.verdict.specs.Pinwheels.{WithL}
-use Rattle.verdict.proofs.Search.{Passed, passed_none, passed-more, first-here, first-none}
-use Rattle.verdict.proofs.Hunting.{with_l, without-l}
+use Rattle.verdict.proofs.Search.{Passed}
 use Rattle.verdict.proofs.pinwheel.first_j.Given as goal
 
 abbrev pub invariant-loop-j : goal.invariant-loop-j

@@ -1,10 +1,7 @@
 -- `verdict::pinwheel::first_k` meets its contract. The invariant: no line passed has one. Assumes nothing.
 use Prim.Native.Nat.{◌≤◌, ◌-◌}
-use native.Mathlib.Omega.{arith}
-use borrow.Author.Rules.{rules}
 use Rattle.verdict.specs.Pinwheels.{WithM}
-use Rattle.verdict.proofs.Search.{Passed, passed_none, passed-more, first-here, first-none}
-use Rattle.verdict.proofs.Hunting.{with_m, without-m}
+use Rattle.verdict.proofs.Search.{Passed}
 use Rattle.verdict.proofs.pinwheel.first_k.Given as goal
 
 abbrev pub invariant-loop-k : goal.invariant-loop-k

@@ -1,6 +1,5 @@
 -- `verdict::pinwheel::first_wheel` meets its contract. Assumes nothing.
 use mathlib.Core.Logic.{inl, inr}
-use borrow.Author.Rules.{rules}
 use Rattle.verdict.proofs.Hunting.{none_of, second-found}
 use Rattle.verdict.proofs.pinwheel.first_wheel.Goals as goal
 

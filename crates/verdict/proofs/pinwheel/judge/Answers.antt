@@ -1,7 +1,6 @@
 -- `verdict::pinwheel::judge` meets its contract: each exit by one law of Judged. Assumes nothing.
 use mathlib.Core.Path.{◌≡◌, ◌∙◌}
 use native.Mathlib.Omega.{arith}
-use borrow.Author.Rules.{rules}
 use Rattle.recurrence.specs.Scheme.{mixed}
 use Rattle.outline.specs.Grid.{Grid}
 use Rattle.rule.specs.declared.Rule.{Rule}

@@ -1,6 +1,5 @@
 -- `verdict::pinwheel::lowest_wheel` meets its contract. Assumes nothing.
 use native.Mathlib.Omega.{arith}
-use borrow.Author.Rules.{rules}
 use Rattle.verdict.proofs.Hunting.{lines_of, below-l, below-k, these_lines, leads}
 use Rattle.verdict.proofs.pinwheel.lowest_wheel.Goals as goal
 

@@ -1,5 +1,4 @@
 -- `verdict::pinwheel::numbered` meets its contract. Assumes nothing.
-use borrow.Author.Rules.{rules}
 use Rattle.verdict.proofs.pinwheel.numbered.Goals as goal
 
 pub returns : goal.returns

@@ -1,6 +1,5 @@
 -- `verdict::pinwheel::wheel_of` meets its contract. Assumes nothing.
 use native.Mathlib.Omega.{arith}
-use borrow.Author.Rules.{rules}
 use Rattle.piece.specs.Meant.{meant}
 use Rattle.verdict.proofs.Hunting.{box-valid, first-parts, second_parts}
 use Rattle.verdict.proofs.pinwheel.wheel_of.Goals as goal
