@@ -87,10 +87,8 @@ fn with_word<H: Host>(host: &H, options: Options, i: usize) -> Options {
 // The options of all words from one on.
 pub fn options_from<H: Host>(host: &H, first: usize, words: usize) -> Options {
     let mut options = no_options();
-    let mut i = first;
-    while i < words {
+    for i in first..words {
         options = with_word(host, options, i);
-        i += 1;
     }
     let awaited = options.awaited;
     if awaited {
