@@ -1,5 +1,6 @@
 // Copying: numbers of one list at a place of another, in order. Nothing else of the other moves.
 #![tactic(auto)]
+
 ghost use Rattle.std.specs.Prelude.{◌≡◌, ◌≤◌, ◌+◌, length};
 ghost use Rattle.std.proofs.lemmas.List.Edits.{sets};
 

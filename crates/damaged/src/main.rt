@@ -1,5 +1,6 @@
 // The bytes of jobs, sound and damaged: what the number reader and the job check answer, line by line.
 #![tactic(auto)]
+
 use job::read;
 use job::read::Checked;
 use number::{Cursor, Read};

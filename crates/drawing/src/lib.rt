@@ -4,6 +4,7 @@
 //   ring            a ring of it begins
 //   0 0             a corner of the ring
 #![tactic(auto)]
+
 mod figures;
 mod lines;
 mod listing;
@@ -20,6 +21,7 @@ use job::MOST_BYTES;
 use job::read::{Checked, check};
 use lines::{Says, first_line};
 use listing::print_job;
+use std::rt::Stderr;
 use telling::say_expected;
 use terminal::errors::{say, say_number};
 use terminal::output::Output;
@@ -146,12 +148,12 @@ pub fn list(job: &[u8], out: Output) -> Listed
 }
 
 // Tells a bad line on standard error, in one line.
-pub fn tell_line(program: &[u8], name: &[u8], line: usize, why: Expected) {
-    say(program);
-    say(b": ");
-    say(name);
-    say_number(b": line ", line as u64);
-    say(b": ");
-    say_expected(why);
-    say(b"\n");
+pub fn tell_line(err: Stderr, program: &[u8], name: &[u8], line: usize, why: Expected) {
+    say(err, program);
+    say(err, b": ");
+    say(err, name);
+    say_number(err, b": line ", line as u64);
+    say(err, b": ");
+    say_expected(err, why);
+    say(err, b"\n");
 }

@@ -410,6 +410,12 @@ unfolding beneath_by beneath seen_by
 beneath-next a f zero k r e h = absurd (e refl)
 beneath-next a f (suc p) k r e h = let z : suc p - 1 ≡ p = omega arith in h ∙ ap (λ n. seen_by a f n k) z
 
+faced : (a : Axis) (f : Figure) (p k : ℕ)
+    → cond (exposed (seen_by a f p k) (beneath_by a f p k)) (low_side a) (cond (exposed (beneath_by a f p k) (seen_by a f p k)) (high_side a) 0)
+    ≡ facing a (inside_at f) p k
+unfolding facing seen_by beneath_by beyond
+faced a f p k = refl
+
 pub side-told : (a : Axis) (f : Figure) (p k : ℕ) (u v : Bool) (n r : ℕ) → u ≡ seen_by a f p k → v ≡ beneath_by a f p k → n ≡ low_of a
     → r ≡ face_of u v n → r ≡ facing a (inside_at f) p k
 side-told a f p k u v n r d e g h = h ∙ go u v n a d e g
@@ -430,7 +436,7 @@ side-told a f p k u v n r d e g h = h ∙ go u v n a d e g
         ap (face_of u v) g
         ∙ table a u v
         ∙ ap₂ (λ u v. cond (exposed u v) (low_side a) (cond (exposed v u) (high_side a) 0)) d e
-        ∙ (unfold facing seen_by beneath_by beyond in refl)
+        ∙ faced a f p k
 
 pub low_small : (a : Axis) (n : ℕ) → n ≡ low_of a → n ≤ 3
 unfolding low_of

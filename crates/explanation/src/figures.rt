@@ -4,6 +4,7 @@ ghost use Rattle.std.specs.Prelude.{◌≤◌};
 use crate::texts::say_text;
 use figure::rings::wide;
 use refusal::{Refusal, refusal_no};
+use std::rt::Stderr;
 use terminal::errors::{say, say_number};
 
 // What can be wrong with an edge: it changes both coordinates, or neither, or the one that the edge before it changes.
@@ -100,29 +101,29 @@ fn first_at_fault(ring: &[u16], fault: Fault) -> usize {
 }
 
 // Some words, and corner k with its coordinates.
-fn say_corner(words: &[u8], ring: &[u16], k: usize) {
+fn say_corner(err: Stderr, words: &[u8], ring: &[u16], k: usize) {
     let here = corner_of(ring, k);
-    say(words);
-    say_number(b" corner ", k as u64);
-    say_number(b" (", here.x as u64);
-    say_number(b", ", here.y as u64);
-    say(b")");
+    say(err, words);
+    say_number(err, b" corner ", k as u64);
+    say_number(err, b" (", here.x as u64);
+    say_number(err, b", ", here.y as u64);
+    say(err, b")");
 }
 
 // The edge from corner k.
-fn say_edge(ring: &[u16], k: usize) {
-    say_corner(b"the edge from", ring, k);
-    say_corner(b" to", ring, next(k, ring.len() / 2));
+fn say_edge(err: Stderr, ring: &[u16], k: usize) {
+    say_corner(err, b"the edge from", ring, k);
+    say_corner(err, b" to", ring, next(k, ring.len() / 2));
 }
 
 // An edge that changes neither coordinate: most often the closing one, of a ring whose first corner is repeated at its end.
-fn say_idle(ring: &[u16], k: usize) {
-    say_edge(ring, k);
-    say(b" changes neither coordinate: is ");
+fn say_idle(err: Stderr, ring: &[u16], k: usize) {
+    say_edge(err, ring, k);
+    say(err, b" changes neither coordinate: is ");
     if next(k, ring.len() / 2) == 0 {
-        say(b"the first corner repeated at the end?");
+        say(err, b"the first corner repeated at the end?");
     } else {
-        say(b"a corner drawn twice?");
+        say(err, b"a corner drawn twice?");
     }
 }
 
@@ -132,42 +133,45 @@ fn passes(a: u16, b: u16, c: u16) -> bool {
 }
 
 // A corner between two edges of the same direction: they go on through it, or back.
-fn say_no_turn(ring: &[u16], k: usize) {
+fn say_no_turn(err: Stderr, ring: &[u16], k: usize) {
     let count = ring.len() / 2;
     let from = corner_of(ring, previous(k, count));
     let here = corner_of(ring, k);
     let to = corner_of(ring, next(k, count));
-    say_corner(b"the edges before and after", ring, k);
+    say_corner(err, b"the edges before and after", ring, k);
     if passes(from.x, here.x, to.x) || passes(from.y, here.y, to.y) {
-        say(b" run the same way: is a corner drawn on a straight edge?");
+        say(
+            err,
+            b" run the same way: is a corner drawn on a straight edge?",
+        );
     } else {
-        say(b" run forth and back: is there a corner too many?");
+        say(err, b" run forth and back: is there a corner too many?");
     }
 }
 
 // What is wrong with the edge from corner k.
-fn say_fault(ring: &[u16], k: usize, fault: Fault) {
+fn say_fault(err: Stderr, ring: &[u16], k: usize, fault: Fault) {
     match fault {
         Fault::Slanted => {
-            say_edge(ring, k);
-            say(b" changes both coordinates");
+            say_edge(err, ring, k);
+            say(err, b" changes both coordinates");
         }
-        Fault::Idle => say_idle(ring, k),
-        Fault::Unturned => say_no_turn(ring, k),
+        Fault::Idle => say_idle(err, ring, k),
+        Fault::Unturned => say_no_turn(err, ring, k),
     }
 }
 
 // Ring r of so many, if it has an edge with this fault; whether it has one.
-fn say_in_ring(ring: &[u16], r: usize, rings: usize, fault: Fault) -> bool {
+fn say_in_ring(err: Stderr, ring: &[u16], r: usize, rings: usize, fault: Fault) -> bool {
     let k = first_at_fault(ring, fault);
     if ring.len() / 2 <= k {
         return false;
     }
     if 1 < rings {
-        say_number(b"ring ", r as u64);
-        say(b", ");
+        say_number(err, b"ring ", r as u64);
+        say(err, b", ");
     }
-    say_fault(ring, k, fault);
+    say_fault(err, ring, k, fault);
     true
 }
 
@@ -185,13 +189,13 @@ fn ring_end(from: usize, length: u16, end: usize) -> usize
 }
 
 // The first edge of the figure that has this fault; whether there is one.
-fn say_first(corners: &[u16], lengths: &[u16], fault: Fault) -> bool {
+fn say_first(err: Stderr, corners: &[u16], lengths: &[u16], fault: Fault) -> bool {
     let mut from = 0;
     let mut r = 0;
     while r < lengths.len() {
         let to = ring_end(from, lengths[r], corners.len());
         if from <= to {
-            if say_in_ring(&corners[from..to], r, lengths.len(), fault) {
+            if say_in_ring(err, &corners[from..to], r, lengths.len(), fault) {
                 return true;
             }
         }
@@ -202,32 +206,32 @@ fn say_first(corners: &[u16], lengths: &[u16], fault: Fault) -> bool {
 }
 
 // Why a figure is not right_angled though none of its edges is slanted.
-fn say_unturned(corners: &[u16], lengths: &[u16]) {
-    if !say_first(corners, lengths, Fault::Idle) {
-        say_first(corners, lengths, Fault::Unturned);
+fn say_unturned(err: Stderr, corners: &[u16], lengths: &[u16]) {
+    if !say_first(err, corners, lengths, Fault::Idle) {
+        say_first(err, corners, lengths, Fault::Unturned);
     }
 }
 
 // Why a figure was refused: with the edge at fault where there is one, else by the refusal's short text.
-fn say_reason(why: Refusal, corners: &[u16], lengths: &[u16]) {
+fn say_reason(err: Stderr, why: Refusal, corners: &[u16], lengths: &[u16]) {
     match why {
         Refusal::Slanted => {
-            say_first(corners, lengths, Fault::Slanted);
+            say_first(err, corners, lengths, Fault::Slanted);
         }
-        Refusal::Unturned => say_unturned(corners, lengths),
+        Refusal::Unturned => say_unturned(err, corners, lengths),
         Refusal::Empty => {
-            say_text(why);
-            say(b": rings that lie on each other cancel");
+            say_text(err, why);
+            say(err, b": rings that lie on each other cancel");
         }
-        _ => say_text(why),
+        _ => say_text(err, why),
     }
 }
 
 // The line of outline k, which a fracture refused.
-pub fn explain(k: usize, why: Refusal, corners: &[u16], lengths: &[u16]) {
-    say_number(b"outline ", k as u64);
-    say_number(b" refused ", refusal_no(why) as u64);
-    say(b": ");
-    say_reason(why, corners, lengths);
-    say(b"\n");
+pub fn explain(err: Stderr, k: usize, why: Refusal, corners: &[u16], lengths: &[u16]) {
+    say_number(err, b"outline ", k as u64);
+    say_number(err, b" refused ", refusal_no(why) as u64);
+    say(err, b": ");
+    say_reason(err, why, corners, lengths);
+    say(err, b"\n");
 }

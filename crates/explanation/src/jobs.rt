@@ -7,6 +7,7 @@ use job::{MOST_BYTES, MOST_OUTLINES};
 use number::{Cursor, Read};
 use refusal::{Refusal, refusal_no};
 use rule::Rule;
+use std::rt::Stderr;
 use terminal::errors::{say, say_number};
 
 // A number's limits.
@@ -54,99 +55,103 @@ fn fits(wanted: Wanted, v: u32) -> bool {
 }
 
 // In which outline a number stands; of an outline of several rings, in which ring too.
-fn say_spot(spot: Spot) {
-    say_number(b"outline ", spot.outline as u64);
+fn say_spot(err: Stderr, spot: Spot) {
+    say_number(err, b"outline ", spot.outline as u64);
     if 1 < spot.rings {
-        say_number(b", ring ", spot.ring as u64);
+        say_number(err, b", ring ", spot.ring as u64);
     }
-    say(b", ");
+    say(err, b", ");
 }
 
 // Which coordinate of which corner.
-fn say_coordinate(spot: Spot) {
-    say_spot(spot);
+fn say_coordinate(err: Stderr, spot: Spot) {
+    say_spot(err, spot);
     if spot.coordinate % 2 == 0 {
-        say(b"x");
+        say(err, b"x");
     } else {
-        say(b"y");
+        say(err, b"y");
     }
-    say_number(b" of corner ", (spot.coordinate / 2) as u64);
+    say_number(err, b" of corner ", (spot.coordinate / 2) as u64);
 }
 
 // Where some number of an outline stands, and its name.
-fn say_named(spot: Spot, name: &[u8]) {
-    say_spot(spot);
-    say(name);
+fn say_named(err: Stderr, spot: Spot, name: &[u8]) {
+    say_spot(err, spot);
+    say(err, name);
 }
 
 // The name of the number that was wanted, and where it stands.
-fn say_wanted(wanted: Wanted) {
+fn say_wanted(err: Stderr, wanted: Wanted) {
     match wanted {
-        Wanted::Threshold => say(b"threshold"),
-        Wanted::Weight => say(b"weight"),
-        Wanted::Outlines => say(b"number of outlines"),
-        Wanted::Corners(spot) => say_named(spot, b"number of corners"),
-        Wanted::Rings(spot) => say_named(spot, b"number of rings"),
-        Wanted::RingCorners(ring) => say_named(ring, b"number of corners"),
-        Wanted::Coordinate(spot) => say_coordinate(spot),
-        Wanted::Nothing => say(b"what follows the last outline"),
+        Wanted::Threshold => say(err, b"threshold"),
+        Wanted::Weight => say(err, b"weight"),
+        Wanted::Outlines => say(err, b"number of outlines"),
+        Wanted::Corners(spot) => say_named(err, spot, b"number of corners"),
+        Wanted::Rings(spot) => say_named(err, spot, b"number of rings"),
+        Wanted::RingCorners(ring) => say_named(err, ring, b"number of corners"),
+        Wanted::Coordinate(spot) => say_coordinate(err, spot),
+        Wanted::Nothing => say(err, b"what follows the last outline"),
     }
-    say(b": ");
+    say(err, b": ");
 }
 
 // What is wrong with bytes that are no number.
-fn say_unread(why: Refusal) {
+fn say_unread(err: Stderr, why: Refusal) {
     match why {
-        Refusal::Ends => say(b"the bytes end"),
-        Refusal::Padded => say(b"its last byte is 0 and not its only one"),
-        _ => say(b"it has over three bytes"),
+        Refusal::Ends => say(err, b"the bytes end"),
+        Refusal::Padded => say(err, b"its last byte is 0 and not its only one"),
+        _ => say(err, b"it has over three bytes"),
     }
 }
 
 // Limits that a number is not within.
-fn say_limits(v: u32, held: Limits) {
-    say_number(b"", v as u64);
-    say_number(b" is not ", held.low as u64);
-    say_number(b" to ", held.high as u64);
+fn say_limits(err: Stderr, v: u32, held: Limits) {
+    say_number(err, b"", v as u64);
+    say_number(err, b" is not ", held.low as u64);
+    say_number(err, b" to ", held.high as u64);
 }
 
 // The corners of a ring that are out of range: by themselves, or together with those of the rings before it.
-fn say_ring(v: u32, spot: Spot) {
+fn say_ring(err: Stderr, v: u32, spot: Spot) {
     let held = between(LEAST_CORNERS as u32, MOST_CORNERS as u32);
     if held.low <= v && v <= held.high {
-        say_number(b"", v as u64);
-        say_number(b" and the ", spot.before as u64);
-        say_number(b" of the rings before it are more than ", held.high as u64);
+        say_number(err, b"", v as u64);
+        say_number(err, b" and the ", spot.before as u64);
+        say_number(
+            err,
+            b" of the rings before it are more than ",
+            held.high as u64,
+        );
     } else {
-        say_limits(v, held);
+        say_limits(err, v, held);
     }
 }
 
 // What is wrong with a number that is out of range.
-fn say_range(wanted: Wanted, v: u32) {
+fn say_range(err: Stderr, wanted: Wanted, v: u32) {
     match wanted {
-        Wanted::RingCorners(spot) => say_ring(v, spot),
-        _ => say_limits(v, limits_of(wanted)),
+        Wanted::RingCorners(spot) => say_ring(err, v, spot),
+        _ => say_limits(err, v, limits_of(wanted)),
     }
 }
 
 // The first number of the job that is at fault: reads number by number, each by what the ones before it say. A job has no more numbers than
 // bytes, and one more is read where they end.
-fn say_first_fault(job: &[u8]) {
+fn say_first_fault(err: Stderr, job: &[u8]) {
     let mut wanted = Wanted::Threshold;
     let mut c = Cursor { at: 0 };
     let mut done = 0;
     while done <= MOST_BYTES {
         match c.number(job) {
             Read::Fault(why, _) => {
-                say_wanted(wanted);
-                say_unread(why);
+                say_wanted(err, wanted);
+                say_unread(err, why);
                 return;
             }
             Read::Number(v, next) => {
                 if !fits(wanted, v) {
-                    say_wanted(wanted);
-                    say_range(wanted, v);
+                    say_wanted(err, wanted);
+                    say_range(err, wanted, v);
                     return;
                 }
                 wanted = after(wanted, v);
@@ -158,43 +163,46 @@ fn say_first_fault(job: &[u8]) {
 }
 
 // How many bytes follow the last outline.
-fn say_extra(job: &[u8], at: usize) {
+fn say_extra(err: Stderr, job: &[u8], at: usize) {
     if job.len() <= at {
         return;
     }
     let extra = job.len() - at;
-    say_number(b"", extra as u64);
+    say_number(err, b"", extra as u64);
     if extra == 1 {
-        say(b" byte follows the last outline");
+        say(err, b" byte follows the last outline");
     } else {
-        say(b" bytes follow the last outline");
+        say(err, b" bytes follow the last outline");
     }
 }
 
 // Why a job is refused: with the number at fault where there is one, else by the refusal's short text.
-fn say_reason(job: &[u8], why: Refusal, at: usize) {
+fn say_reason(err: Stderr, job: &[u8], why: Refusal, at: usize) {
     match why {
-        Refusal::Ends => say_first_fault(job),
-        Refusal::Padded => say_first_fault(job),
-        Refusal::Range => say_first_fault(job),
-        Refusal::Extra => say_extra(job, at),
-        _ => say_text(why),
+        Refusal::Ends => say_first_fault(err, job),
+        Refusal::Padded => say_first_fault(err, job),
+        Refusal::Range => say_first_fault(err, job),
+        Refusal::Extra => say_extra(err, job, at),
+        _ => say_text(err, why),
     }
 }
 
 // A line for whoever hands a text drawing to a program that wants a job: the number at fault means nothing to them.
-pub fn say_if_drawing(job: &[u8]) {
+pub fn say_if_drawing(err: Stderr, job: &[u8]) {
     if is_drawing(job) {
-        say(b"this is a text drawing: pinarewhemi pack makes a job of it\n");
+        say(
+            err,
+            b"this is a text drawing: pinarewhemi pack makes a job of it\n",
+        );
     }
 }
 
 // The line of a job that was refused, by this refusal at this byte.
-pub fn explain(job: &[u8], why: Refusal, at: usize) {
-    say_number(b"refused ", refusal_no(why) as u64);
-    say_number(b" at ", at as u64);
-    say(b": ");
-    say_reason(job, why, at);
-    say(b"\n");
-    say_if_drawing(job);
+pub fn explain(err: Stderr, job: &[u8], why: Refusal, at: usize) {
+    say_number(err, b"refused ", refusal_no(why) as u64);
+    say_number(err, b" at ", at as u64);
+    say(err, b": ");
+    say_reason(err, job, why, at);
+    say(err, b"\n");
+    say_if_drawing(err, job);
 }

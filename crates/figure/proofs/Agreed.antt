@@ -5,8 +5,7 @@
 --                      the frame from its second corner on: the two lists of numbers, and that the second is `Redrawn` of the first
 use Prim.Native.Nat.{ℕ}
 use mathlib.Core.Path.{◌≡◌, refl}
-use mathlib.Core.List.{List, [], ◌∷◌, ◌++◌, map, reverse}
-use lib.ListN.{length}
+use mathlib.Core.List.{List, [], ◌∷◌}
 use Rattle.sum.specs.Sum.{join, sum_of}
 use Rattle.figure.specs.Corners.{Corner, any, slanted, edges, around, corners, steps, both, changes, coordinate, last}
 use Rattle.figure.specs.Figure.{figure, fault, bad_figure, bad_length, share}

@@ -12,7 +12,7 @@ use mathlib.Core.Bool.{Bool, true, false, not, cond, ◌&&◌, ◌||◌}
 use mathlib.Core.List.{List, [], ◌∷◌, ◌++◌, map, reverse, reverse-cons}
 use native.Mathlib.Omega.{arith}
 use lib.Dec.{ltb, eqb}
-use lib.ListN.{length, take, drop, length-append, length-reverse, length-map, length-drop, length-take, take-append-drop}
+use lib.ListN.{length, take, drop, length-append, length-reverse, length-map, length-drop, take-append-drop}
 use lib.Seq.{take_at, drop_at, length-take-le}
 use borrow.Author.Tests.{eqb-true, eqb-false, eq-eqb, ne_eqb}
 use Rattle.sum.specs.Sum.{only, sum_of, All, join}
@@ -20,7 +20,7 @@ use Rattle.sum.proofs.Lists.{sum_of-append, sum_of-map, sum_of-join, All-append,
 use Rattle.figure.specs.declared.Axis.{Axis}
 use Rattle.figure.specs.declared.Axis.TheVariants.{X, Y}
 use Rattle.figure.specs.Corners.{Corner, Link, corners, coordinate, around, edges, turns, changes, both, neither, same as sameAxis, alike, any, slanted, unturned}
-use Rattle.figure.specs.Figure.{Figure, figure, share, rings, corners_of, edges_of, bad_length, bad_figure, most_rings, most_corners, fault}
+use Rattle.figure.specs.Figure.{Figure, figure, share, rings, bad_length, bad_figure, most_rings, most_corners, fault}
 use Rattle.figure.specs.Inside.{Wall, wall, walls, count}
 use Rattle.figure.specs.Redrawn.{numbers_of, of_rings, Redrawn, same, start, way, order, under, then}
 use Rattle.figure.proofs.Around.{flip, each, start_sum, way_sum, start-sums, way-sums}

@@ -5,7 +5,7 @@
 --   fault-shifted       == a drawing that is moved has the same fault
 --   places-shifted      == its coordinates are those of the drawing, moved
 --   within-shifted      == what was within is within, moved
-use Prim.Native.Nat.{ℕ, ◌+◌, ◌*◌, min, max}
+use Prim.Native.Nat.{ℕ, ◌+◌, min, max}
 use mathlib.Core.Path.{◌≡◌, refl, sym, ◌∙◌, ap, ap₂}
 use mathlib.Core.Bool.{Bool, true, false, not, cond, ◌&&◌, ◌||◌}
 use mathlib.Core.List.{List, [], ◌∷◌, ◌++◌, map, map-append}
@@ -18,7 +18,7 @@ use Rattle.sum.proofs.Lists.{sum_of-join, sum_of-map, sum_of-same, All-all}
 use Rattle.figure.specs.declared.Axis.{Axis}
 use Rattle.figure.specs.declared.Axis.TheVariants.{X, Y}
 use Rattle.figure.specs.Corners.{Corner, Link, coordinate, around, edges, turns, changes, both, neither, alike, any, slanted, unturned, odd}
-use Rattle.figure.specs.Figure.{rings, bad_length, bad_figure, fault}
+use Rattle.figure.specs.Figure.{rings, bad_length, fault}
 use Rattle.figure.specs.Inside.{Wall, wall, walls, covers, count, within}
 use Rattle.figure.specs.Redrawn.{of_rings, moved, shifted}
 use Rattle.figure.proofs.Around.{each, around-map}

@@ -26,7 +26,7 @@ use Rattle.number.proofs.Number.{cond_cases}
 use Rattle.number.proofs.Reading.{many-nth, many-length}
 use Rattle.figure.specs.Figure.{Figure, bad_figure}
 use Rattle.job.specs.Job.{most_bytes, most_outlines, Part, part, outlines, Job, job}
-use Rattle.job.specs.Calls.{told, no_part, part_taken, taken}
+use Rattle.job.specs.Calls.{no_part, part_taken, taken}
 use Rattle.job.specs.Placed.{start_of, taken_at}
 use Rattle.job.proofs.Job.{job-whole, part-read}
 use Rattle.index.specs.Index.{starts_of, TrueIndex, OpenSaid, unopened, opened_by, opened, ChangeSaid, unchanged, changed_by, changed_to, with_outline, without_outline, appended_to, appended, removed_from, removed, found, picked_by, picked, start_in, picked_at}

@@ -8,11 +8,11 @@
 use Prim.Native.Nat.{ℕ, ◌+◌, ◌*◌, ◌<◌, ◌≤◌}
 use mathlib.Core.Path.{◌≡◌, ◌∙◌, refl, sym, ap, ap₂, subst}
 use mathlib.Core.List.{List, [], ◌∷◌, ◌++◌}
-use mathlib.Core.Bool.{Bool, true, false, cond, ◌&&◌}
+use mathlib.Core.Bool.{Bool, true, false, cond}
 use native.Mathlib.Omega.{arith}
-use lib.Dec.{eqb, leb, ltb}
+use lib.Dec.{eqb}
 use lib.ListN.{length, take, drop, length-append, length-map, length-take}
-use lib.Seq.{sets, take_at, length-sets}
+use lib.Seq.{sets, take_at}
 use borrow.Author.Tests.{le-leb, lt-leb, lt-ltb, le-ltb}
 use Rattle.sum.specs.Sum.{join}
 use Rattle.sum.proofs.Lists.{sets_append, sets_front}
@@ -27,19 +27,17 @@ use Rattle.number.specs.Reading.{Reading, read}
 use Rattle.number.specs.Number.{number_bytes}
 use Rattle.number.proofs.Bytes.{bytes-length, stands-front, stands-whole}
 use Rattle.job.specs.Bytes.{coordinate_bytes, header_bytes, ring_bytes, figure_bytes}
-use Rattle.job.specs.Job.{most_bytes, most_outlines, Part, outlines, Header, header, Job, job}
+use Rattle.job.specs.Job.{most_bytes, most_outlines, Part, outlines, Header, Job, job}
 use Rattle.job.specs.Steps.{announce_bytes}
 use Rattle.job.specs.Calls.{WriteSaid, unwritten, header_written, outline_written, write_told}
 use Rattle.job.specs.declared.write.Written.{Written}
 use Rattle.job.specs.declared.write.Written.TheVariants as write
-use Rattle.job.proofs.Rings.{share_back}
-use Rattle.job.proofs.Job.{Whole, job-whole}
+use Rattle.job.proofs.Job.{job-whole}
 use Rattle.job.proofs.RoundTrip.{header-back}
 use Rattle.job.proofs.ByCalls.{stood, fits, figure-goes}
 use Rattle.job.proofs.Writing.{header-few, figure-bytes, rings-length, outline_bad}
 use Rattle.index.specs.Index.{ChangeSaid, unchanged, changed_by, changed_to}
 use Rattle.index.specs.Steps.{starts_in, Noted, Parted, changed_for}
-use Rattle.index.proofs.Opens.{noted_front}
 
 -- what a writer tells that stores all of some bytes
 

@@ -4,13 +4,12 @@
 --                       there on, and on how many bytes there are
 --   pick_local       == two jobs of one length that agree from where an entry points on give the same pick by it
 use Prim.Native.Nat.{ℕ, zero, suc, ◌+◌, ◌-◌, ◌*◌, ◌≤◌}
-use mathlib.Core.Path.{◌≡◌, ◌∙◌, refl, sym, ap, ap₂, subst}
+use mathlib.Core.Path.{◌≡◌, ◌∙◌, refl, sym, ap, ap₂}
 use mathlib.Core.List.{List, [], ◌∷◌}
 use mathlib.Core.Bool.{Bool, cond}
 use native.Mathlib.Omega.{arith}
 use lib.ListN.{length, get_or, take, drop}
 use lib.Seq.{get_or-drop}
-use Rattle.refusal.specs.declared.Refusal.{Refusal}
 use Rattle.number.specs.Reading.{Reading, read, fault, and_then, many}
 use Rattle.number.specs.Number.{number}
 use Rattle.number.proofs.Reading.{then_same, then_ext}

@@ -9,12 +9,12 @@
 --   append-parted, append-is, remove_front, remove_back, remove_parted, remove_is == the two runs of bytes of the new job, and what is said of it
 use Prim.Native.Nat.{ℕ, zero, suc, ◌+◌, ◌-◌, ◌<◌, ◌≤◌, suc-le-suc}
 use mathlib.Core.Path.{◌≡◌, ◌∙◌, refl, sym, ap, ap₂, subst}
-use mathlib.Core.List.{List, [], ◌∷◌, ◌++◌, map, append_assoc, append-nil}
+use mathlib.Core.List.{List, [], ◌∷◌, ◌++◌, append_assoc, append-nil}
 use mathlib.Core.Bool.{Bool, true, false, cond}
 use native.Mathlib.Nat.{add-zero, le_of_suc-le-suc, not-suc-le-zero}
 use native.Mathlib.Omega.{arith}
 use lib.ListN.{length, get_or, take, drop, length-append, length-map, length-take, length-drop, take-append-drop, get_or-map}
-use lib.Seq.{take_all, take_at, drop_at, split_at, drop-append-add, length-take-le}
+use lib.Seq.{take_all, take_at, drop_at, split_at, drop-append-add}
 use lib.Dec.{ltb}
 use borrow.Author.Tests.{le-leb, lt-leb, lt-ltb, le-ltb, ltb-true, ltb-false}
 use Rattle.sum.specs.Sum.{All}
@@ -23,7 +23,7 @@ use Rattle.refusal.specs.declared.Refusal.TheVariants.{Length, Full, Missing}
 use Rattle.refusal.specs.declared.Refusal.{Refusal}
 use Rattle.refusal.specs.Refusals.{refusal_no}
 use Rattle.rule.specs.Rules.{limit}
-use Rattle.number.specs.Reading.{Reading, read, fault}
+use Rattle.number.specs.Reading.{read, fault}
 use Rattle.number.specs.Number.{number_bytes}
 use Rattle.number.proofs.Bytes.{AllBytes, bytes_one, bytes-two}
 use Rattle.figure.specs.Figure.{Figure, share, bad_figure}
@@ -32,11 +32,10 @@ use Rattle.job.specs.Job.{most_bytes, most_outlines, figure_of, Part, Header, he
 use Rattle.job.specs.Steps.{whole, located}
 use Rattle.job.specs.Calls.{no_part}
 use Rattle.job.proofs.Rings.{share_back}
-use Rattle.job.proofs.Job.{job-whole}
-use Rattle.job.proofs.Calls.{fault-whole, read_whole, job-said, located-nth, located-within}
+use Rattle.job.proofs.Calls.{fault-whole, read_whole, job-said, located-within}
 use Rattle.job.proofs.RoundTrip.{Drawable, Writable, parts_of, job-back, job_only, part-only, header-only}
 use Rattle.job.proofs.Anew.{accepted-range}
-use Rattle.index.specs.Index.{figures, ChangeSaid, unchanged, changed_to, with_outline, without_outline, appended_to, appended, removed_from, removed}
+use Rattle.index.specs.Index.{figures, ChangeSaid, unchanged, with_outline, without_outline, appended_to, appended, removed_from, removed}
 use Rattle.index.specs.Steps.{Parted, changed_for}
 
 -- all of a list, by each place of it

@@ -15,8 +15,8 @@ use mathlib.Core.List.{List, [], ◌∷◌, ◌++◌, map}
 use mathlib.Core.Bool.{Bool, true, false, cond}
 use native.Mathlib.Nat.{add-zero}
 use native.Mathlib.Omega.{arith}
-use lib.Dec.{ltb, eqb}
-use lib.ListN.{length, get_or, take, drop, length-append, length-map, length-take, length-drop, get_or-map}
+use lib.Dec.{ltb}
+use lib.ListN.{length, get_or, take, drop, length-append, length-take, length-drop, get_or-map}
 use lib.Seq.{take_at, drop_at, take-suc, length-take-le}
 use borrow.Author.Tests.{lt-ltb, le-ltb, eq-eqb, ne_eqb}
 use Rattle.sum.specs.Sum.{All}
@@ -36,7 +36,7 @@ use Rattle.job.proofs.Anew.{accepted-range}
 use Rattle.index.specs.Index.{starts_of, figures, with_outline, without_outline}
 use Rattle.index.specs.Faults.{grown, longer, shorter}
 use Rattle.index.specs.Steps.{starts_in}
-use Rattle.index.proofs.Made.{outlines-last, outlines_split, outlines-append, header-length, parts-long, parts_at, figures-long, figures-drawn, without-drawn, parts-written, writable_job}
+use Rattle.index.proofs.Made.{outlines-last, outlines_split, outlines-append, header-length, parts-long, figures-long, figures-drawn, without-drawn, parts-written, writable_job}
 
 module _ (t w k : ℕ) (few : k < most_outlines) where
   two : (n : ℕ) (b : Bool) → n ≤ most_outlines → ltb n 128 ≡ b → length (header_bytes t w n) ≡ length (number_bytes t) + length (number_bytes w) + cond b 1 2

@@ -29,7 +29,7 @@ use Rattle.number.proofs.Number.{apart}
 use Rattle.number.proofs.Reading.{then_same, many-none, many_go, many-fault, many-cons, many-first, many-length}
 use Rattle.job.specs.Job.{most_bytes, outline, Part, part, outlines}
 use Rattle.job.specs.Steps.{located}
-use Rattle.job.specs.Calls.{told, part_bytes}
+use Rattle.job.specs.Calls.{told}
 use Rattle.job.specs.Placed.{Lies}
 use Rattle.job.proofs.Job.{told-fault, told-read, part-read, outline-onward}
 use Rattle.index.specs.Index.{found, picked_by, picked, start_in, picked_at}

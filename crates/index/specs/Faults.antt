@@ -9,7 +9,7 @@
 --   AppendFault s f index out r o == appending the figure f: the job's fault; 2; 20; 12; 14
 --   RemoveFault s k index out r o == removing outline k: the job's fault; 13; 14
 --   PickFault s index n k r o == picking outline k by an index of n entries: 12; 13; the fault of reading an outline there
-use Rattle.std.specs.Prelude.{ℕ, ◌+◌, ◌-◌, ◌<◌, ◌≤◌, ◌≡◌, ◌⊎◌, List, ◌∷◌, cond, length, get_or, eqb}
+use Rattle.std.specs.Prelude.{ℕ, ◌+◌, ◌-◌, ◌<◌, ◌≤◌, ◌⊎◌, List, ◌∷◌, cond, length, get_or, eqb}
 use Rattle.refusal.specs.declared.Refusal.{Refusal}
 use Rattle.refusal.specs.declared.Refusal.TheVariants as because
 use Rattle.figure.specs.Figure.{Figure, share, BadLengths}

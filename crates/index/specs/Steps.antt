@@ -5,7 +5,7 @@
 --   Parted t w n l       == a header for n figures and the bytes l behind it are a job of n figures, where they are no more than a job may have
 --   changed_for b index out == the new job b: 12, else as `changed_to` says
 --   place_of r            == where a part starts, and as the place past it where it ends
-use Rattle.std.specs.Prelude.{ℕ, ◌≤◌, ◌≡◌, List, [], ◌++◌, map, cond, length, ltb}
+use Rattle.std.specs.Prelude.{ℕ, ◌≤◌, ◌≡◌, List, ◌++◌, map, cond, length, ltb}
 use Rattle.std.proofs.lemmas.List.Edits.{sets}
 use Rattle.refusal.specs.declared.Refusal.TheVariants as because
 use Rattle.refusal.specs.Refusals.{refusal_no}

@@ -25,7 +25,7 @@ use borrow.Author.Tests.{lt-ltb, le-leb, eq-eqb, ne_eqb}
 use Rattle.sum.specs.Sum.{All, sum_of, join}
 use Rattle.sum.proofs.Lists.{All-imp, All-join}
 use Rattle.number.specs.Reading.{read, and_then, many}
-use Rattle.number.specs.Number.{most, number, number_bytes}
+use Rattle.number.specs.Number.{most, number_bytes}
 use Rattle.number.proofs.Bytes.{Stands, AllBytes, stands-room, stands-first, stands-join, stands-front, stands-back, stands-whole, bytes_one, number-back, number-only}
 use Rattle.number.proofs.Reading.{then_same, then_inv, many-cons, many-first, many-length}
 use Rattle.rule.specs.Rules.{limit}

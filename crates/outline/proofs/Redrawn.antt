@@ -7,9 +7,9 @@ use Prim.Native.Nat.{ℕ, suc, ◌-◌}
 use mathlib.Core.Path.{◌≡◌, sym, ◌∙◌, ap, ap₂}
 use mathlib.Core.Bool.{◌&&◌}
 use mathlib.Core.List.{List, map, Memᴰ as Member}
-use lib.Dec.{ltb, eqb}
+use lib.Dec.{ltb}
 use lib.ListN.{length}
-use Rattle.sum.specs.Sum.{All, join}
+use Rattle.sum.specs.Sum.{join}
 use Rattle.sum.proofs.Lists.{All-of, All-map, All-unmap}
 use Rattle.figure.specs.declared.Axis.{Axis}
 use Rattle.figure.specs.declared.Axis.TheVariants.{X, Y}
@@ -17,7 +17,6 @@ use Rattle.figure.specs.Corners.{Corner, coordinate, edges, odd}
 use Rattle.figure.specs.Inside.{Wall, walls, covers, within}
 use Rattle.figure.specs.Redrawn.{of_rings, Redrawn}
 use Rattle.figure.proofs.Redrawn.{Alike, rings-back, corners_redrawn, walls_redrawn, fault_redrawn}
-use Rattle.outline.specs.Grid.{Grid}
 use Rattle.outline.specs.Lines.{rising, lines, place}
 use Rattle.outline.specs.Inside.{grid_of, grid, empty}
 use Rattle.outline.specs.Promise.{refusal}

@@ -1,5 +1,6 @@
 // A figure, its shots and how they came about, as a picture (SVG) for people.
 #![tactic(auto)]
+
 mod cuts;
 mod labels;
 mod legend;

@@ -8,7 +8,7 @@ use Rattle.rule.specs.declared.Rule.{Rule}
 use Rattle.rule.proofs.Charge.{sliver_dearer, charge_dearer}
 use Rattle.outline.specs.Grid.{Grid}
 use Rattle.piece.specs.declared.Mode.{Mode}
-use Rattle.piece.specs.Piece.{Piece, cells, width, height, left, right, bottom, top, sliver, charge}
+use Rattle.piece.specs.Piece.{Piece, cells, width, height, sliver, charge}
 use Rattle.piece.specs.Cuts.{scheme, shots, cost}
 use Rattle.piece.proofs.Cuts.{ends}
 

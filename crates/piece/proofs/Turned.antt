@@ -3,9 +3,8 @@
 --   turned g, turn p      == the grid and the piece with x and y exchanged
 --   sum_turn, cells-turn, inside-turn, kind-turn, charge-turn   == sums over cells, counts, kinds and charges stay what they are
 --   sound-turn            == a sound grid stays sound
-use Prim.Native.Nat.{ℕ, ◌+◌, ◌*◌}
+use Prim.Native.Nat.{ℕ, ◌+◌}
 use mathlib.Core.Path.{◌≡◌, ap, ap₂}
-use native.Mathlib.Omega.{arith}
 use Rattle.sum.specs.Sum.{only}
 use Rattle.sum.proofs.Sum.{over_swap}
 use Rattle.outline.specs.Grid.{Grid, Sound}

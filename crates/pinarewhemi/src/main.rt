@@ -1,5 +1,9 @@
-// The program for what people do with figures, as a program of the kit, which gives no status back.
+// The program for what people do with figures.
 #![tactic(auto)]
-fn main() {
-    subcommands::pw_pinarewhemi();
+
+use std::process::ExitCode;
+use terminal::exit_code;
+
+fn main(rt: HostRuntime) -> ExitCode {
+    exit_code(subcommands::pw_pinarewhemi(&rt))
 }

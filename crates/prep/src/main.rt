@@ -1,5 +1,9 @@
-// The job program. A program of the kit gives no status back: it ends with 0 whatever was refused or failed.
+// The job program.
 #![tactic(auto)]
-fn main() {
-    preparation::pw_prep();
+
+use std::process::ExitCode;
+use terminal::exit_code;
+
+fn main(rt: HostRuntime) -> ExitCode {
+    exit_code(preparation::pw_prep(&rt))
 }

@@ -17,6 +17,7 @@ use index::opening::{Opened, open};
 use index::picking::pick;
 use job::read::{Checked, Head, header};
 use job::unpack::{Unpacked, unpack};
+use std::rt::Stderr;
 use terminal::output::Output;
 
 // What a job says before its outlines: its rule, and how many there are.
@@ -114,7 +115,7 @@ fn unpack_outline(
 }
 
 // Says in words, on standard error, why a fracture was refused.
-fn explain_refused(k: usize, answer: Fractured, outline: &[u16], rings: &[u16]) {
+fn explain_refused(err: Stderr, k: usize, answer: Fractured, outline: &[u16], rings: &[u16]) {
     match answer {
         Fractured::Done {
             shots: _,
@@ -122,12 +123,13 @@ fn explain_refused(k: usize, answer: Fractured, outline: &[u16], rings: &[u16]) 
             sliver: _,
             cuts: _,
         } => {}
-        Fractured::Refused(why, _) => figures::explain(k, why, outline, rings),
+        Fractured::Refused(why, _) => figures::explain(err, k, why, outline, rings),
     }
 }
 
 // The fracture of outline k, as the job says it; a refusal is explained at once.
 fn fracture_outline(
+    err: Stderr,
     job: &[u8],
     index: &[u16],
     k: usize,
@@ -145,7 +147,7 @@ fn fracture_outline(
     let outline = front(&corners, 2 * shape.corners);
     let rings = front(&lengths, shape.rings);
     let answer = fracture(outline, rings, header.threshold, header.weight, table, list);
-    explain_refused(k, answer, outline, rings);
+    explain_refused(err, k, answer, outline, rings);
     answer
 }
 
@@ -180,7 +182,7 @@ fn run_outline(
     ensures refused_value { result.refused ≡ is_refused job.now k }
     ensures remembers { Remembers out result.out }
 {
-    let answer = fracture_outline(job, index, k, header, table, list);
+    let answer = fracture_outline(out.console.err, job, index, k, header, table, list);
     let refused = is_refused(answer);
     let printed = print_outline(out, k, answer, list);
     Ran {

@@ -1,5 +1,6 @@
 // The one table of refusal numbers: every call, the C interface and the programs take their number from here.
 #![tactic(auto)]
+
 ghost use Rattle.std.specs.Prelude.{◌≡◌};
 ghost use Rattle.refusal.specs.Refusals.{refusal_no};
 

@@ -2,6 +2,7 @@
 // report in one line to standard error, and gives the status to end with. A job that cannot be saved is refused there in one line, and
 // nothing else is written.
 #![tactic(auto)]
+
 ghost use Rattle.std.specs.Prelude.{eqb, ◌&&◌, cond, ◌⊎◌, ◌≡◌};
 ghost use Rattle.rescue.specs.Status.{status};
 
@@ -9,28 +10,31 @@ use explanation::jobs::{explain, say_if_drawing};
 use job::MOST_BYTES;
 use refusal::Refusal;
 use saving::{Saved, save};
+use std::rt::Stderr;
 use terminal::arguments::{is_argument, read_only};
+use terminal::console::Console;
 use terminal::errors::{complain, say, say_number};
+use terminal::host::Host;
 use terminal::output::{Output, finish, nothing_yet, print};
 use terminal::{DONE, FAILED, REFUSED};
 
 // The line of a job that was saved; of a text drawing, of which nothing is, one more.
-fn report(job: &[u8], kept: u32, lost: u32, dropped: usize) {
-    say_number(b"kept ", kept as u64);
-    say_number(b" lost ", lost as u64);
-    say_number(b" dropped ", dropped as u64);
-    say(b"\n");
+fn report(err: Stderr, job: &[u8], kept: u32, lost: u32, dropped: usize) {
+    say_number(err, b"kept ", kept as u64);
+    say_number(err, b" lost ", lost as u64);
+    say_number(err, b" dropped ", dropped as u64);
+    say(err, b"\n");
     if kept == 0 {
-        say_if_drawing(job);
+        say_if_drawing(err, job);
     }
 }
 
 // The line of a job that cannot be saved, in words.
-fn refuse(job: &[u8], why: Refusal, at: usize) -> u32
+fn refuse(err: Stderr, job: &[u8], why: Refusal, at: usize) -> u32
     ensures { result ≡ 1 }
 {
-    say(b"job ");
-    explain(job, why, at);
+    say(err, b"job ");
+    explain(err, job, why, at);
     REFUSED
 }
 
@@ -46,7 +50,7 @@ fn ended(out: Output, whole: bool) -> u32
     ensures { (result ≡ 2) ⊎ (result ≡ cond whole 0 1) }
 {
     if !finish(out) {
-        complain(b"salvage: writing failed\n");
+        complain(out.console.err, b"salvage: writing failed\n");
         return FAILED;
     }
     if whole {
@@ -56,21 +60,21 @@ fn ended(out: Output, whole: bool) -> u32
 }
 
 // A job: saved, with a report where all of it was written; or refused in one line.
-pub fn run(job: &[u8], room: &mut [u8]) -> u32
+pub fn run(console: Console, job: &[u8], room: &mut [u8]) -> u32
     ensures { (result ≡ 2) ⊎ (result ≡ status job.now room.old) }
 {
     match save(job, room) {
-        Saved::Refused(why, at) => refuse(job, why, at),
+        Saved::Refused(why, at) => refuse(console.err, job, why, at),
         Saved::Job {
             bytes,
             kept,
             lost,
             dropped,
         } => {
-            let written = print(nothing_yet(), &room[..bytes]);
+            let written = print(nothing_yet(console), &room[..bytes]);
             let ends = ended(written, is_whole(lost, dropped));
             if ends != FAILED {
-                report(job, kept, lost, dropped);
+                report(console.err, job, kept, lost, dropped);
             }
             ends
         }
@@ -78,9 +82,9 @@ pub fn run(job: &[u8], room: &mut [u8]) -> u32
 }
 
 // The help: what the words mean, and the status.
-fn help() -> u32 {
+fn help(console: Console) -> u32 {
     let named = print(
-        nothing_yet(),
+        nothing_yet(console),
         b"salvage [FILE] > SOUND: keeps the outlines of a broken job before its first fault, as a sound job\n",
     );
     let given = print(named, b"FILE is the job; nothing or - is standard input\n");
@@ -96,26 +100,29 @@ fn help() -> u32 {
 }
 
 // The run of the job that the one word names, or of standard input. One byte more than the longest job is read, so that a longer one shows.
-fn read_and_run() -> u32 {
+fn read_and_run<H: Host>(host: &H) -> u32 {
     let mut job = [0u8; MOST_BYTES + 1];
     let mut room = [0u8; MOST_BYTES];
-    let got = read_only(b"salvage", &mut job);
+    let got = read_only(host, b"salvage", &mut job);
     let failed = got.failed;
     if failed {
         return FAILED;
     }
     let n = got.bytes;
-    run(&job[..n], &mut room)
+    run(host.console(), &job[..n], &mut room)
 }
 
-// The whole run, with its status, for a start that can end with one (crates/starts/c/main.c).
-#[unsafe(no_mangle)]
-pub extern "C" fn pw_salvage_run() -> u32 {
-    if 2 < os::arg_count() {
-        return complain(b"salvage: one file is wanted, or nothing; salvage --help says more\n");
+// The whole run, with its status.
+pub fn pw_salvage_run<H: Host>(host: &H) -> u32 {
+    let console = host.console();
+    if 2 < host.word_count() {
+        return complain(
+            console.err,
+            b"salvage: one file is wanted, or nothing; salvage --help says more\n",
+        );
     }
-    if is_argument(1, b"--help") {
-        return help();
+    if is_argument(host, 1, b"--help") {
+        return help(console);
     }
-    read_and_run()
+    read_and_run(host)
 }

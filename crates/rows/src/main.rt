@@ -1,6 +1,7 @@
 // Runs every row of the scope's table of drawings, the worked figures with windows, and some hundred made-up figures, by the
 // library and by a second fracturer that is written another way, and compares answer by answer, shot by shot and cost by cost.
 #![tactic(auto)]
+
 mod document;
 mod drawings;
 mod guarded;

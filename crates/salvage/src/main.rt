@@ -1,5 +1,9 @@
-// What is left of a job. A program of the kit gives no status back: it ends with 0 whatever was refused, lost or failed.
+// What is left of a job, as a program.
 #![tactic(auto)]
-fn main() {
-    rescue::pw_salvage_run();
+
+use std::process::ExitCode;
+use terminal::exit_code;
+
+fn main(rt: HostRuntime) -> ExitCode {
+    exit_code(rescue::pw_salvage_run(&rt))
 }

@@ -4,7 +4,7 @@
 --   save_exactly     == saving tells r with the offset o exactly when that is its fault
 --   save_accepted    == it tells 0 exactly when it has none
 --   save_keeps       == beside a refusal the buffer is as it came in, and zeros stand beside its number and offset
-use Prim.Native.Nat.{ℕ, suc, ◌<◌, ◌≤◌}
+use Prim.Native.Nat.{ℕ, suc, ◌≤◌}
 use mathlib.Core.Path.{◌≡◌, ◌∙◌, refl, sym, ap, subst}
 use mathlib.Core.Logic.{◌⊎◌, ◌↔◌, inl, inr}
 use mathlib.Core.List.{List}
@@ -12,7 +12,7 @@ use mathlib.Core.Bool.{Bool, true, false, cond}
 use native.Mathlib.Omega.{arith}
 use lib.Dec.{leb, ltb}
 use lib.ListN.{length}
-use borrow.Author.Tests.{lt-leb, leb-false, lt-ltb, ltb-true, ltb-false}
+use borrow.Author.Tests.{lt-leb, leb-false, ltb-true, ltb-false}
 use Rattle.refusal.specs.declared.Refusal.{Refusal}
 use Rattle.refusal.specs.declared.Refusal.TheVariants.{Long, Room}
 use Rattle.refusal.specs.Refusals.{refusal_no}

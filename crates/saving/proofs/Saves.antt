@@ -10,7 +10,7 @@ use mathlib.Core.Path.{◌≡◌, ◌∙◌, refl, sym, ap, ap₂, subst}
 use mathlib.Core.List.{List, ◌++◌}
 use mathlib.Core.Bool.{Bool, true, false, cond}
 use native.Mathlib.Omega.{arith}
-use lib.Dec.{leb, ltb}
+use lib.Dec.{leb}
 use lib.ListN.{length, take, drop, length-append, length-take, length-drop}
 use lib.Seq.{sets}
 use borrow.Author.Tests.{le-leb, lt-leb, lt-ltb, le-ltb, leb-true, leb-false}
@@ -20,7 +20,7 @@ use Rattle.refusal.specs.declared.Refusal.TheVariants.{Long, Room}
 use Rattle.refusal.specs.Refusals.{refusal_no}
 use Rattle.refusal.proofs.Refusals.{refusal-some}
 use Rattle.rule.specs.Rules.{limit}
-use Rattle.number.specs.Reading.{Reading, read, fault}
+use Rattle.number.specs.Reading.{read, fault}
 use Rattle.number.proofs.Reading.{then_inv}
 use Rattle.number.proofs.Bytes.{AllBytes}
 use Rattle.job.specs.Bytes.{header_bytes}

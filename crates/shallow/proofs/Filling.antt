@@ -21,7 +21,7 @@ use native.Mathlib.Omega.{arith}
 use native.Mathlib.Nat.{mul_comm}
 use lib.ListN.{length, get_or}
 use Rattle.sum.proofs.Sum.{le-or, rise}
-use Rattle.outline.specs.Grid.{Grid, Sound, Drawn, stored}
+use Rattle.outline.specs.Grid.{Grid, Sound, stored}
 use Rattle.rule.specs.declared.Rule.{Rule}
 use Rattle.piece.specs.declared.Mode.TheVariants.{Straight}
 use Rattle.piece.specs.Piece.{Piece, box, width}

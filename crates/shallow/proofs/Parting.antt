@@ -5,14 +5,14 @@
 --   at_read            == what stands there, three pieces side by side
 --   at_small           == these places are small numbers
 --   lowest-end         == with all cuts weighed
-use Prim.Native.Nat.{ℕ, suc, ◌+◌, ◌*◌, ◌-◌, ◌≤◌, ◌<◌, ◌^◌, min}
-use mathlib.Core.Path.{◌≡◌, refl, sym, ◌∙◌, ap, ap₂, subst}
+use Prim.Native.Nat.{ℕ, ◌+◌, ◌*◌, ◌-◌, ◌≤◌, ◌<◌, ◌^◌}
+use mathlib.Core.Path.{◌≡◌, ap, ap₂, subst}
 use mathlib.Core.List.{List}
 use native.Mathlib.Omega.{arith}
 use native.Mathlib.Nat.{add-mul, mul_comm, mul-le-mul, one-mul}
 use lib.Arith.{digits_lt}
 use lib.ListN.{length, get_or}
-use Rattle.table.specs.Entry.{pairs_below, pair_count, pair_no}
+use Rattle.table.specs.Entry.{pairs_below, pair_no}
 use Rattle.table.specs.Run.{Lowest}
 use Rattle.table.specs.Cuts.{parted}
 use Rattle.table.proofs.Entry.{below_next, pair-below, count_most}

@@ -23,7 +23,7 @@ use native.Mathlib.Omega.{arith}
 use native.Mathlib.Nat.{add-zero}
 use lib.ListN.{length, get_or, set}
 use Rattle.sum.proofs.Sum.{le-or}
-use Rattle.outline.specs.Grid.{Grid, Sound}
+use Rattle.outline.specs.Grid.{Grid}
 use Rattle.rule.specs.declared.Rule.{Rule}
 use Rattle.piece.specs.declared.Mode.TheVariants.{Straight}
 use Rattle.piece.specs.Piece.{box, most_cost}
@@ -34,7 +34,7 @@ use Rattle.table.specs.Run.{Wrote, Lowest}
 use Rattle.table.specs.Cuts.{uncut, Judged}
 use Rattle.table.specs.Cuts.{parted}
 use Rattle.table.proofs.Entry.{below-zero, below_suc, pair-below, pair_of, counted, entry-made, count_most}
-use Rattle.table.proofs.Run.{wrote_none, wrote_more, lowest-none, lowest-more, lowest-same, lowest-between}
+use Rattle.table.proofs.Run.{wrote_none, wrote_more, lowest-more, lowest-same, lowest-between}
 use Rattle.table.proofs.Judging.{judged_piece}
 use Rattle.shallow.specs.declared.cuts.Strip.{Strip}
 use Rattle.shallow.specs.declared.cuts.Three.{Three}

@@ -7,13 +7,13 @@
 --                           == a row of cells with no column yet, and with one more
 --   whole-stacked           == two pieces one above the other
 --   whole-shot              == the charge by these sums is the charge
-use Prim.Native.Nat.{ℕ, zero, suc, ◌+◌, ◌*◌, ◌-◌, ◌≤◌, ◌<◌}
+use Prim.Native.Nat.{ℕ, suc, ◌+◌, ◌*◌, ◌-◌, ◌≤◌, ◌<◌}
 use mathlib.Core.Path.{◌≡◌, sym, ◌∙◌, ap, ap₂, subst}
 use mathlib.Core.Bool.{not}
 use mathlib.Core.List.{List}
 use native.Mathlib.Omega.{arith}
 use native.Mathlib.Nat.{mul-le-mul, mul-one}
-use lib.ListN.{length, get_or}
+use lib.ListN.{get_or}
 use Rattle.sum.specs.Sum.{only, over}
 use Rattle.sum.proofs.Sum.{over_none, over-one, over-cut, only-add, only-most, rise}
 use Rattle.outline.specs.Grid.{Grid, Sound, Drawn}
@@ -24,7 +24,7 @@ use Rattle.piece.specs.Piece.{box, low_side, high_side, cell_sum, cells, inside_
 use Rattle.piece.proofs.Cells.{cells-product, sum_horizontal}
 use Rattle.piece.proofs.Kind.{inside-most}
 use Rattle.table.specs.Run.{bare}
-use Rattle.table.specs.Side.{below_at, before_at}
+use Rattle.table.specs.Side.{below_at}
 use Rattle.table.proofs.Side as measure
 use Rattle.shallow.specs.declared.cuts.Strip.{Strip}
 use Rattle.shallow.specs.declared.sums.Sums.{Sums}

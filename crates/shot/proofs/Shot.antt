@@ -2,7 +2,7 @@
 --
 --   numbers-length, numbers-append   == how many numbers a list of shots has; those of two lists one after the other
 --   shots-numbers                    == the numbers of a list of shots say these shots
-use Prim.Native.Nat.{ℕ, ◌*◌}
+use Prim.Native.Nat.{◌*◌}
 use mathlib.Core.Path.{◌≡◌, refl, ap}
 use mathlib.Core.List.{List, [], ◌∷◌, ◌++◌}
 use native.Mathlib.Omega.{arith}

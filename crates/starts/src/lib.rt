@@ -1,23 +1,86 @@
-// The runs of our programs, for a start in C that ends with a status (c/main.c). A static library is proved anew where it is
-// made: so it is made of these few lines, and not of the libraries that hold the runs.
+// The runs of our programs, for a start in C (c/main.c). A static library reaches neither the words that a program is started with nor a
+// file: so C hands them in, the words each with a zero byte behind it, and the file that the word of a number names, as far as it was read,
+// with the system's number for what failed, 0 where nothing did. The three streams take no bytes, and C passes nothing for them.
+// A static library is proved anew where it is made: so it is made of these few lines, and not of the libraries that hold the runs.
 #![tactic(auto)]
 
-#[unsafe(no_mangle)]
-pub extern "C" fn pw_start_prep() -> u32 {
-    preparation::pw_prep()
+use std::rt::{Stderr, Stdin, Stdout};
+use terminal::console::{Clockwork, Console};
+use terminal::given::Given;
+
+// What C hands in, with no clock to wait by.
+fn given<'a>(
+    input: Stdin,
+    out: Stdout,
+    err: Stderr,
+    words: &'a [u8],
+    named: usize,
+    file: &'a [u8],
+    failure: i32,
+) -> Given<'a> {
+    let console = Console {
+        input,
+        out,
+        err,
+        clock: Clockwork::Nothing,
+    };
+    Given {
+        console,
+        words,
+        named,
+        file,
+        failure,
+    }
 }
 
 #[unsafe(no_mangle)]
-pub extern "C" fn pw_start_salvage() -> u32 {
-    rescue::pw_salvage_run()
+pub extern "C" fn pw_start_prep(
+    input: Stdin,
+    out: Stdout,
+    err: Stderr,
+    words: &[u8],
+    named: usize,
+    file: &[u8],
+    failure: i32,
+) -> u32 {
+    preparation::pw_prep(&given(input, out, err, words, named, file, failure))
 }
 
 #[unsafe(no_mangle)]
-pub extern "C" fn pw_start_walk() -> u32 {
-    walking::pw_walk()
+pub extern "C" fn pw_start_salvage(
+    input: Stdin,
+    out: Stdout,
+    err: Stderr,
+    words: &[u8],
+    named: usize,
+    file: &[u8],
+    failure: i32,
+) -> u32 {
+    rescue::pw_salvage_run(&given(input, out, err, words, named, file, failure))
 }
 
 #[unsafe(no_mangle)]
-pub extern "C" fn pw_start_pinarewhemi() -> u32 {
-    subcommands::pw_pinarewhemi()
+pub extern "C" fn pw_start_walk(
+    input: Stdin,
+    out: Stdout,
+    err: Stderr,
+    words: &[u8],
+    named: usize,
+    file: &[u8],
+    failure: i32,
+) -> u32 {
+    walking::pw_walk(&given(input, out, err, words, named, file, failure))
+}
+
+#[unsafe(no_mangle)]
+pub extern "C" fn pw_start_pinarewhemi(
+    input: Stdin,
+    out: Stdout,
+    err: Stderr,
+    words: &[u8],
+    named: usize,
+    file: &[u8],
+    failure: i32,
+) -> u32 {
+    subcommands::pw_pinarewhemi(&given(input, out, err, words, named, file, failure))
 }

@@ -3,6 +3,7 @@ use crate::lines::figure_number;
 use crate::sources::{Header, front_bytes, header_of, read_job, unpack_figure};
 use job::MOST_BYTES;
 use terminal::arguments::NO_NUMBER;
+use terminal::host::Host;
 use terminal::{DONE, FAILED};
 
 // The figure: its number, how many numbers of corners and rings of it stand at the front of two lists, and the job's rule; or the status
@@ -49,13 +50,13 @@ fn numbered(
 }
 
 // The figure that word 3 names, of a job.
-fn chosen_of(job: &[u8], corners: &mut [u16], lengths: &mut [u16]) -> Chosen {
-    let header = header_of(job);
+fn chosen_of<H: Host>(host: &H, job: &[u8], corners: &mut [u16], lengths: &mut [u16]) -> Chosen {
+    let header = header_of(host.console().err, job);
     let status = header.status;
     if status != DONE {
         return none(status);
     }
-    let k = figure_number(3, header.outlines);
+    let k = figure_number(host, 3, header.outlines);
     if k == NO_NUMBER {
         return none(FAILED);
     }
@@ -63,13 +64,13 @@ fn chosen_of(job: &[u8], corners: &mut [u16], lengths: &mut [u16]) -> Chosen {
 }
 
 // The figure that words 2 and 3 name, unpacked to the front of two lists.
-pub fn choose(corners: &mut [u16], lengths: &mut [u16]) -> Chosen {
+pub fn choose<H: Host>(host: &H, corners: &mut [u16], lengths: &mut [u16]) -> Chosen {
     let mut job = [0u8; MOST_BYTES + 1];
-    let got = read_job(2, &mut job);
+    let got = read_job(host, 2, &mut job);
     let status = got.status;
     if status != DONE {
         return none(status);
     }
     let read = front_bytes(&job, got.bytes);
-    chosen_of(read, corners, lengths)
+    chosen_of(host, read, corners, lengths)
 }

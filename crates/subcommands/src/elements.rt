@@ -11,7 +11,9 @@ use preparation::lines::print_done;
 use refusal::{Refusal, refusal_no};
 use terminal::FAILED;
 use terminal::arguments::read_argument;
+use terminal::console::Console;
 use terminal::errors::{say, say_number};
+use terminal::host::Host;
 use terminal::output::{Output, nothing_yet, print, print_number};
 
 // The longest element, with room to spare: six records, of which XY alone is longer than a few bytes, and none longer than 65,535. What is
@@ -64,19 +66,28 @@ fn print_signed(out: Output, word: &[u8], n: i32) -> Output {
 }
 
 // An element that is refused: its number and place on standard output, and the words beside it.
-fn print_refused(why: Refusal, at: usize) -> u32 {
-    say_number(b"pinarewhemi: refused ", refusal_no(why) as u64);
-    say_number(b" at ", at as u64);
-    say(b": ");
-    say_text(why);
-    say(b"\n");
-    let refused = print_number(nothing_yet(), b"element refused ", refusal_no(why) as u64);
+fn print_refused(console: Console, why: Refusal, at: usize) -> u32 {
+    say_number(
+        console.err,
+        b"pinarewhemi: refused ",
+        refusal_no(why) as u64,
+    );
+    say_number(console.err, b" at ", at as u64);
+    say(console.err, b": ");
+    say_text(console.err, why);
+    say(console.err, b"\n");
+    let refused = print_number(
+        nothing_yet(console),
+        b"element refused ",
+        refusal_no(why) as u64,
+    );
     let placed = print_number(refused, b" at ", at as u64);
     ended(print(placed, b"\n"), true)
 }
 
 // The shots of an element, in its own coordinates moved to 0, and the shift.
 fn print_plate(
+    console: Console,
     shots: u32,
     cost: u32,
     sliver: u32,
@@ -84,7 +95,7 @@ fn print_plate(
     shift_y: i32,
     list: &[u16],
 ) -> u32 {
-    let x = print_signed(nothing_yet(), b"element shift ", shift_x);
+    let x = print_signed(nothing_yet(console), b"element shift ", shift_x);
     let y = print_signed(x, b" ", shift_y);
     if 4 * (shots as usize) <= list.len() {
         return ended(print_done(y, shots, cost, sliver, list), false);
@@ -93,11 +104,11 @@ fn print_plate(
 }
 
 // An element, fractured and printed.
-fn run(element: &[u8]) -> u32 {
+fn run(console: Console, element: &[u8]) -> u32 {
     let mut table = [0u32; ENTRIES];
     let mut list = [0u16; NUMBERS];
     match fracture_boundary(element, &mut table, &mut list) {
-        Plate::Refused(why, _, at) => print_refused(why, at),
+        Plate::Refused(why, _, at) => print_refused(console, why, at),
         Plate::Done {
             shots,
             cost,
@@ -105,18 +116,18 @@ fn run(element: &[u8]) -> u32 {
             cuts: _,
             shift_x,
             shift_y,
-        } => print_plate(shots, cost, sliver, shift_x, shift_y, &list),
+        } => print_plate(console, shots, cost, sliver, shift_x, shift_y, &list),
     }
 }
 
 // The subcommand: its file is word 2.
-pub fn element_words() -> u32 {
+pub fn element_words<H: Host>(host: &H) -> u32 {
     let mut element = [0u8; MOST_ELEMENT];
-    let got = read_argument(b"pinarewhemi", 2, &mut element);
+    let got = read_argument(host, b"pinarewhemi", 2, &mut element);
     let failed = got.failed;
     if failed {
         return FAILED;
     }
     let n = got.bytes;
-    run(&element[..n])
+    run(host.console(), &element[..n])
 }

@@ -13,7 +13,10 @@ use job::MOST_BYTES;
 use job::read::{Checked, check};
 use piece::Mode;
 use preparation::lines::{print_job, print_refused};
+use std::rt::Stderr;
 use terminal::arguments::NO_NUMBER;
+use terminal::console::Console;
+use terminal::host::Host;
 use terminal::output::{Output, nothing_yet};
 use terminal::{DONE, FAILED};
 
@@ -65,10 +68,10 @@ fn fracture_so(
 }
 
 // Whether a fracture was refused, which is told in words.
-fn refused_by(answer: Fractured, k: usize, corners: &[u16], lengths: &[u16]) -> bool {
+fn refused_by(err: Stderr, answer: Fractured, k: usize, corners: &[u16], lengths: &[u16]) -> bool {
     match answer {
         Fractured::Refused(why, _) => {
-            figures::explain(k, why, corners, lengths);
+            figures::explain(err, k, why, corners, lengths);
             true
         }
         Fractured::Done {
@@ -92,7 +95,7 @@ fn run_figure(
     out: Output,
 ) -> Ran {
     let answer = fracture_so(corners, lengths, header, options, table, list);
-    let refused = refused_by(answer, k, corners, lengths);
+    let refused = refused_by(out.console.err, answer, k, corners, lengths);
     Ran {
         out: print_answer(out, k, answer, list),
         refused,
@@ -142,20 +145,20 @@ fn run_outlines(
 }
 
 // A job that was accepted.
-fn run_accepted(job: &[u8], header: Header, options: Options) -> u32 {
+fn run_accepted(console: Console, job: &[u8], header: Header, options: Options) -> u32 {
     let mut table = [0u32; ENTRIES];
     let mut list = [0u16; DIVIDED_NUMBERS];
-    let out = print_job(nothing_yet(), header.outlines);
+    let out = print_job(nothing_yet(console), header.outlines);
     let ran = run_outlines(job, header, options, &mut table, &mut list, out);
     ended(ran.out, ran.refused)
 }
 
 // A job: refused in one line, and told in words, or run.
-fn run(job: &[u8], options: Options) -> u32 {
+fn run(console: Console, job: &[u8], options: Options) -> u32 {
     match check(job) {
         Checked::Refused(why, at) => {
-            jobs::explain(job, why, at);
-            ended(print_refused(nothing_yet(), why, at), true)
+            jobs::explain(console.err, job, why, at);
+            ended(print_refused(nothing_yet(console), why, at), true)
         }
         Checked::Job {
             threshold,
@@ -168,24 +171,24 @@ fn run(job: &[u8], options: Options) -> u32 {
                 outlines,
                 status: DONE,
             };
-            run_accepted(job, header, options)
+            run_accepted(console, job, header, options)
         }
     }
 }
 
 // The subcommand: its file is word 2, and its options stand behind it.
-pub fn fracture_words(words: usize) -> u32 {
-    let options = options_from(3, words);
+pub fn fracture_words<H: Host>(host: &H, words: usize) -> u32 {
+    let options = options_from(host, 3, words);
     let bad = options.bad;
     if bad {
         return FAILED;
     }
     let mut job = [0u8; MOST_BYTES + 1];
-    let got = read_job(2, &mut job);
+    let got = read_job(host, 2, &mut job);
     let status = got.status;
     if status != DONE {
         return status;
     }
     let read = front_bytes(&job, got.bytes);
-    run(read, options)
+    run(host.console(), read, options)
 }

@@ -1,22 +1,25 @@
 // What the words of the program mean.
 use crate::Subcommand;
 use crate::lines::ended;
+use std::rt::Stderr;
+use terminal::console::Console;
 use terminal::errors::complain;
 use terminal::output::{nothing_yet, print};
 
 // Some words on standard output, and the status.
-fn printed(words: &[u8]) -> u32 {
-    ended(print(nothing_yet(), words), false)
+fn printed(console: Console, words: &[u8]) -> u32 {
+    ended(print(nothing_yet(console), words), false)
 }
 
 // The version, as the file VERSION has it.
-pub fn print_version() -> u32 {
-    printed(b"pinarewhemi 0.1.0\n")
+pub fn print_version(console: Console) -> u32 {
+    printed(console, b"pinarewhemi 0.1.0\n")
 }
 
 // What there is.
-fn help_of_all() -> u32 {
+fn help_of_all(console: Console) -> u32 {
     printed(
+        console,
         b"pinarewhemi: right-angled figures into rectangular shots for a mask writer\n\
 \n\
 \x20\x20pinarewhemi fracture FILE [--largest M] [--pinwheels]   the shots of every figure\n\
@@ -37,8 +40,9 @@ ask for nothing that there is.\n",
     )
 }
 
-fn help_of_fracture() -> u32 {
+fn help_of_fracture(console: Console) -> u32 {
     printed(
+        console,
         b"pinarewhemi fracture FILE [--largest M] [--pinwheels]\n\
 \n\
 Fractures every figure of a job or of a text drawing by its rule, and prints for each\n\
@@ -50,8 +54,9 @@ standard error says why.\n\
     )
 }
 
-fn help_of_picture() -> u32 {
+fn help_of_picture(console: Console) -> u32 {
     printed(
+        console,
         b"pinarewhemi picture FILE K [--pinwheels] > SVG\n\
 \n\
 Draws figure K of a job or of a text drawing: the figure, its shots with their numbers, the cuts in their order,\n\
@@ -59,8 +64,9 @@ the charged sides of slivers in red, a scale, and shots, cost and sliver.\n",
     )
 }
 
-fn help_of_walk() -> u32 {
+fn help_of_walk(console: Console) -> u32 {
     printed(
+        console,
         b"pinarewhemi walk JOB K EDGE\n\
 \n\
 The way of one edge of figure K of a job, from the bytes of the job to the shots that it ends up on, step by step.\n\
@@ -69,8 +75,9 @@ pinarewhemi walk alone prints the walk over drawing B in numbers. docs/WALK.md t
     )
 }
 
-fn help_of_pack() -> u32 {
+fn help_of_pack(console: Console) -> u32 {
     printed(
+        console,
         b"pinarewhemi pack DRAWING > JOB\n\
 \n\
 Packs a text drawing into a job. A drawing is a line `rule THRESHOLD WEIGHT`; then for each figure a line `figure`,\n\
@@ -86,24 +93,27 @@ its number.\n\
     )
 }
 
-fn help_of_list() -> u32 {
+fn help_of_list(console: Console) -> u32 {
     printed(
+        console,
         b"pinarewhemi list JOB > DRAWING\n\
 \n\
 Prints a job as a text drawing; packing that gives the job's bytes again.\n",
     )
 }
 
-fn help_of_cif() -> u32 {
+fn help_of_cif(console: Console) -> u32 {
     printed(
+        console,
         b"pinarewhemi cif FILE K > TEXT\n\
 \n\
 Writes the shots of figure K of a job or of a text drawing as a CIF text, which layout viewers read.\n",
     )
 }
 
-fn help_of_gdsii() -> u32 {
+fn help_of_gdsii(console: Console) -> u32 {
     printed(
+        console,
         b"pinarewhemi gdsii ELEMENT\n\
 \n\
 Fractures one boundary element of a GDSII stream, BOUNDARY to ENDEL, by preset 0 (25 nm, 40), and prints\n\
@@ -112,16 +122,18 @@ and N shots; the shift plus a shot is where it lies in the stream.\n",
     )
 }
 
-fn help_of_index() -> u32 {
+fn help_of_index(console: Console) -> u32 {
     printed(
+        console,
         b"pinarewhemi index FILE\n\
 \n\
 Prints the byte at which each outline of a job starts; of a text drawing, in the job that pack makes of it.\n",
     )
 }
 
-fn help_of_salvage() -> u32 {
+fn help_of_salvage(console: Console) -> u32 {
     printed(
+        console,
         b"pinarewhemi salvage [JOB] > SOUND\n\
 \n\
 Keeps the outlines of a broken job before its first fault, as a sound job; standard error says how many outlines were\n\
@@ -130,28 +142,30 @@ kept and lost, and how many bytes dropped. Status 0 where nothing was lost, 1 wh
 }
 
 // The help of a subcommand, or of all.
-pub fn print_help(which: Subcommand) -> u32 {
+pub fn print_help(console: Console, which: Subcommand) -> u32 {
     match which {
-        Subcommand::Fracture => help_of_fracture(),
-        Subcommand::Picture => help_of_picture(),
-        Subcommand::Walk => help_of_walk(),
-        Subcommand::Pack => help_of_pack(),
-        Subcommand::List => help_of_list(),
-        Subcommand::Cif => help_of_cif(),
-        Subcommand::Gdsii => help_of_gdsii(),
-        Subcommand::Index => help_of_index(),
-        Subcommand::Salvage => help_of_salvage(),
-        Subcommand::Help => help_of_all(),
-        Subcommand::Version => help_of_all(),
+        Subcommand::Fracture => help_of_fracture(console),
+        Subcommand::Picture => help_of_picture(console),
+        Subcommand::Walk => help_of_walk(console),
+        Subcommand::Pack => help_of_pack(console),
+        Subcommand::List => help_of_list(console),
+        Subcommand::Cif => help_of_cif(console),
+        Subcommand::Gdsii => help_of_gdsii(console),
+        Subcommand::Index => help_of_index(console),
+        Subcommand::Salvage => help_of_salvage(console),
+        Subcommand::Help => help_of_all(console),
+        Subcommand::Version => help_of_all(console),
         Subcommand::Unknown => complain(
+            console.err,
             b"pinarewhemi: there is no such subcommand; pinarewhemi --help lists them\n",
         ),
     }
 }
 
 // One line on standard error for a subcommand that has too few words or too many.
-pub fn complain_of_words() -> u32 {
+pub fn complain_of_words(err: Stderr) -> u32 {
     complain(
+        err,
         b"pinarewhemi: words are missing, or there are too many; pinarewhemi SUBCOMMAND --help says which are wanted\n",
     )
 }

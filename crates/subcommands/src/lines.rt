@@ -3,6 +3,7 @@ use fracture::Fractured;
 use preparation::lines::print_outline;
 use terminal::arguments::{NO_NUMBER, number_argument};
 use terminal::errors::{complain, complain_of};
+use terminal::host::Host;
 use terminal::output::{Output, finish};
 use terminal::{DONE, REFUSED};
 
@@ -42,7 +43,7 @@ pub fn print_answer(out: Output, k: usize, answer: Fractured, list: &[u16]) -> O
 // Writes the last of the output, and gives the status.
 pub fn ended(out: Output, refused: bool) -> u32 {
     if !finish(out) {
-        return complain(b"pinarewhemi: writing failed\n");
+        return complain(out.console.err, b"pinarewhemi: writing failed\n");
     }
     if refused {
         return REFUSED;
@@ -51,14 +52,19 @@ pub fn ended(out: Output, refused: bool) -> u32 {
 }
 
 // The number of a figure that a word says; NO_NUMBER, and that is told, where it says none, or the job has none of it.
-pub fn figure_number(i: usize, outlines: u32) -> usize {
-    let k = number_argument(i);
+pub fn figure_number<H: Host>(host: &H, i: usize, outlines: u32) -> usize {
+    let err = host.console().err;
+    let k = number_argument(host, i);
     if k == NO_NUMBER {
-        complain(b"pinarewhemi: the number of a figure is wanted, from 0\n");
+        complain(
+            err,
+            b"pinarewhemi: the number of a figure is wanted, from 0\n",
+        );
         return NO_NUMBER;
     }
     if outlines as usize <= k {
         complain_of(
+            err,
             b"pinarewhemi: no figure ",
             k as u64,
             b": the job has ",

@@ -5,6 +5,9 @@ use explanation::jobs;
 use index::opening::{Opened, open};
 use job::{MOST_BYTES, MOST_OUTLINES};
 use refusal::Refusal;
+use std::rt::Stderr;
+use terminal::console::Console;
+use terminal::host::Host;
 use terminal::output::{Output, nothing_yet, print, print_number};
 use terminal::{DONE, REFUSED};
 
@@ -37,18 +40,18 @@ fn print_offsets(index: &[u16], outlines: u32, out: Output) -> Output {
 }
 
 // A job that is refused, told in words.
-fn refuse(job: &[u8], why: Refusal, at: usize) -> u32 {
-    jobs::explain(job, why, at);
+fn refuse(err: Stderr, job: &[u8], why: Refusal, at: usize) -> u32 {
+    jobs::explain(err, job, why, at);
     REFUSED
 }
 
 // A job: refused, or its index printed.
-fn run(job: &[u8]) -> u32 {
+fn run(console: Console, job: &[u8]) -> u32 {
     let mut index = [0u16; MOST_OUTLINES as usize];
     match open(job, &mut index) {
-        Opened::Refused(why, at) => refuse(job, why, at),
+        Opened::Refused(why, at) => refuse(console.err, job, why, at),
         Opened::Outlines(outlines) => {
-            let counted = print_number(nothing_yet(), b"job ", outlines as u64);
+            let counted = print_number(nothing_yet(console), b"job ", outlines as u64);
             let ruled = print(counted, b"\n");
             ended(print_offsets(&index, outlines, ruled), false)
         }
@@ -56,13 +59,13 @@ fn run(job: &[u8]) -> u32 {
 }
 
 // The subcommand: its file is word 2.
-pub fn offset_words() -> u32 {
+pub fn offset_words<H: Host>(host: &H) -> u32 {
     let mut job = [0u8; MOST_BYTES + 1];
-    let got = read_job(2, &mut job);
+    let got = read_job(host, 2, &mut job);
     let status = got.status;
     if status != DONE {
         return status;
     }
     let read = front_bytes(&job, got.bytes);
-    run(read)
+    run(host.console(), read)
 }

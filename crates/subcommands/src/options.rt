@@ -1,6 +1,8 @@
 // The words behind the file of a subcommand.
+use std::rt::Stderr;
 use terminal::arguments::{NO_NUMBER, is_argument, number_argument};
 use terminal::errors::{complain, say};
+use terminal::host::Host;
 
 // What the words ask for: a largest side, NO_NUMBER where none is named; pinwheels beside straight cuts. On the way: whether the next word has to
 // be the largest side; and whether a word is none that there is, which was told.
@@ -23,10 +25,13 @@ fn no_options() -> Options {
 }
 
 // The largest side that word i says. Which sides there are, the fracture decides (19).
-fn with_largest(options: Options, i: usize) -> Options {
-    let largest = number_argument(i);
+fn with_largest<H: Host>(host: &H, options: Options, i: usize) -> Options {
+    let largest = number_argument(host, i);
     if largest == NO_NUMBER {
-        complain(b"pinarewhemi: --largest wants a side in nm\n");
+        complain(
+            host.console().err,
+            b"pinarewhemi: --largest wants a side in nm\n",
+        );
     }
     Options {
         largest,
@@ -37,8 +42,9 @@ fn with_largest(options: Options, i: usize) -> Options {
 }
 
 // A word that there is not.
-fn unknown(options: Options) -> Options {
+fn unknown(err: Stderr, options: Options) -> Options {
     say(
+        err,
         b"pinarewhemi: the words --largest M and --pinwheels may stand behind the file, and no other\n",
     );
     Options {
@@ -50,16 +56,16 @@ fn unknown(options: Options) -> Options {
 }
 
 // The options with word i.
-fn with_word(options: Options, i: usize) -> Options {
+fn with_word<H: Host>(host: &H, options: Options, i: usize) -> Options {
     let awaited = options.awaited;
     let bad = options.bad;
     if bad {
         return options;
     }
     if awaited {
-        return with_largest(options, i);
+        return with_largest(host, options, i);
     }
-    if is_argument(i, b"--pinwheels") {
+    if is_argument(host, i, b"--pinwheels") {
         return Options {
             largest: options.largest,
             pinwheels: true,
@@ -67,7 +73,7 @@ fn with_word(options: Options, i: usize) -> Options {
             bad: false,
         };
     }
-    if is_argument(i, b"--largest") {
+    if is_argument(host, i, b"--largest") {
         return Options {
             largest: options.largest,
             pinwheels: options.pinwheels,
@@ -75,20 +81,20 @@ fn with_word(options: Options, i: usize) -> Options {
             bad: false,
         };
     }
-    unknown(options)
+    unknown(host.console().err, options)
 }
 
 // The options of all words from one on.
-pub fn options_from(first: usize, words: usize) -> Options {
+pub fn options_from<H: Host>(host: &H, first: usize, words: usize) -> Options {
     let mut options = no_options();
     let mut i = first;
     while i < words {
-        options = with_word(options, i);
+        options = with_word(host, options, i);
         i += 1;
     }
     let awaited = options.awaited;
     if awaited {
-        return with_largest(options, words);
+        return with_largest(host, options, words);
     }
     options
 }

@@ -4,27 +4,28 @@ ghost use Rattle.io.specs.Counts.{IsPrefixLen};
 use job::MOST_BYTES;
 use terminal::FAILED;
 use terminal::arguments::{read_argument, read_standard};
+use terminal::host::Host;
 use terminal::input::Input;
 
 // The file that word 2 names, or standard input where there is no such word.
-fn read_broken(words: usize, job: &mut [u8]) -> Input
+fn read_broken<H: Host>(host: &H, words: usize, job: &mut [u8]) -> Input
     ensures { IsPrefixLen result.bytes job.new }
 {
     if words < 3 {
-        return read_standard(b"pinarewhemi", job);
+        return read_standard(host, b"pinarewhemi", job);
     }
-    read_argument(b"pinarewhemi", 2, job)
+    read_argument(host, b"pinarewhemi", 2, job)
 }
 
 // The subcommand. One byte more than the longest job is read, so that a longer one shows.
-pub fn salvage_words(words: usize) -> u32 {
+pub fn salvage_words<H: Host>(host: &H, words: usize) -> u32 {
     let mut job = [0u8; MOST_BYTES + 1];
     let mut room = [0u8; MOST_BYTES];
-    let got = read_broken(words, &mut job);
+    let got = read_broken(host, words, &mut job);
     let failed = got.failed;
     if failed {
         return FAILED;
     }
     let n = got.bytes;
-    rescue::run(&job[..n], &mut room)
+    rescue::run(host.console(), &job[..n], &mut room)
 }

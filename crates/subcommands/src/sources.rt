@@ -4,8 +4,10 @@ use explanation::jobs;
 use figure::{MOST_CORNERS, MOST_RINGS};
 use job::read::{Checked, check, take};
 use job::unpack::{Unpacked, unpack};
-use terminal::arguments::read_argument;
+use std::rt::Stderr;
+use terminal::arguments::{argument, read_argument};
 use terminal::errors::{say, say_number};
+use terminal::host::Host;
 use terminal::{DONE, FAILED, REFUSED};
 
 // The longest drawing, in bytes; a job is much shorter. One byte more is read, so that a longer one shows.
@@ -78,26 +80,33 @@ fn copy_job(bytes: &[u8], job: &mut [u8]) -> usize {
 }
 
 // Tells a bad line of the drawing that word i names.
-fn tell_bad_line(i: usize, line: usize, why: Expected) {
+fn tell_bad_line<H: Host>(host: &H, i: usize, line: usize, why: Expected) {
     let mut name = io::buffer();
-    let length = os::arg(i, &mut name);
-    tell_line(b"pinarewhemi", &name[..length], line, why);
+    let length = argument(host, i, &mut name);
+    tell_line(
+        host.console().err,
+        b"pinarewhemi",
+        &name[..length],
+        line,
+        why,
+    );
 }
 
 // Tells that the drawing that word i names is too long.
-fn tell_long(i: usize) {
+fn tell_long<H: Host>(host: &H, i: usize) {
     let mut name = io::buffer();
-    let length = os::arg(i, &mut name);
-    say(b"pinarewhemi: ");
-    say(&name[..length]);
-    say_number(b": a drawing has at most ", MOST_TEXT as u64);
-    say(b" bytes, and this one has more\n");
+    let length = argument(host, i, &mut name);
+    let err = host.console().err;
+    say(err, b"pinarewhemi: ");
+    say(err, &name[..length]);
+    say_number(err, b": a drawing has at most ", MOST_TEXT as u64);
+    say(err, b" bytes, and this one has more\n");
 }
 
 // The job that the drawing of word i is packed to. One that is too long was not read to its end: a part of it would be another drawing.
-pub fn packed(i: usize, text: &[u8], job: &mut [u8]) -> Job {
+pub fn packed<H: Host>(host: &H, i: usize, text: &[u8], job: &mut [u8]) -> Job {
     if MOST_TEXT < text.len() {
-        tell_long(i);
+        tell_long(host, i);
         return no_job(REFUSED);
     }
     match pack(text, job) {
@@ -106,7 +115,7 @@ pub fn packed(i: usize, text: &[u8], job: &mut [u8]) -> Job {
             status: DONE,
         },
         Packed::Bad(line, why) => {
-            tell_bad_line(i, line, why);
+            tell_bad_line(host, i, line, why);
             no_job(REFUSED)
         }
     }
@@ -126,9 +135,9 @@ fn is_packed(bytes: &[u8]) -> bool {
 }
 
 // The job that the bytes of word i are, or that they are packed to where they are a drawing.
-fn job_of(i: usize, bytes: &[u8], job: &mut [u8]) -> Job {
+fn job_of<H: Host>(host: &H, i: usize, bytes: &[u8], job: &mut [u8]) -> Job {
     if is_packed(bytes) {
-        return packed(i, bytes, job);
+        return packed(host, i, bytes, job);
     }
     Job {
         bytes: copy_job(bytes, job),
@@ -137,22 +146,22 @@ fn job_of(i: usize, bytes: &[u8], job: &mut [u8]) -> Job {
 }
 
 // Reads the file that word i names: a job as it is, one byte more than the longest, so that a longer one shows; a drawing is packed.
-pub fn read_job(i: usize, job: &mut [u8]) -> Job {
+pub fn read_job<H: Host>(host: &H, i: usize, job: &mut [u8]) -> Job {
     let mut text = [0u8; MOST_TEXT + 1];
-    let got = read_argument(b"pinarewhemi", i, &mut text);
+    let got = read_argument(host, b"pinarewhemi", i, &mut text);
     let failed = got.failed;
     if failed {
         return no_job(FAILED);
     }
     let n = got.bytes;
-    job_of(i, &text[..n], job)
+    job_of(host, i, &text[..n], job)
 }
 
 // What a job says before its outlines. A job that is refused is told.
-pub fn header_of(job: &[u8]) -> Header {
+pub fn header_of(err: Stderr, job: &[u8]) -> Header {
     match check(job) {
         Checked::Refused(why, at) => {
-            jobs::explain(job, why, at);
+            jobs::explain(err, job, why, at);
             Header {
                 threshold: 0,
                 weight: 0,

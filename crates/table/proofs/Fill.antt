@@ -6,18 +6,18 @@
 --                                == how far the table is filled, from the last x line down; all of it is `costs`
 --   fill_none, fill_limits, fill_back, fill_all
 --                                == the same of the grid that lies in memory
-use Prim.Native.Nat.{ℕ, suc, ◌+◌, ◌-◌, ◌≤◌, ◌<◌}
-use mathlib.Core.Path.{◌≡◌, refl, sym, ◌∙◌, ap, subst}
+use Prim.Native.Nat.{ℕ, ◌+◌, ◌-◌, ◌≤◌, ◌<◌}
+use mathlib.Core.Path.{◌≡◌, refl, ◌∙◌, subst}
 use mathlib.Core.Logic.{◌⊎◌, inl, inr}
 use mathlib.Core.List.{List, ◌++◌}
 use native.Mathlib.Omega.{arith}
-use lib.ListN.{length, get_or, drop}
+use lib.ListN.{length, drop}
 use Rattle.sum.proofs.Sum.{le-or}
 use Rattle.outline.specs.Grid.{Grid, stored}
 use Rattle.rule.specs.declared.Rule.{Rule}
 use Rattle.piece.specs.declared.Mode.{Mode}
 use Rattle.piece.specs.Piece.{Piece}
-use Rattle.table.specs.Entry.{entry_count, entry_of, Valid, costs}
+use Rattle.table.specs.Entry.{entry_count, Valid, costs}
 use Rattle.table.specs.Fill.{Ready, Reached, Beyond}
 use Rattle.table.proofs.Entry
 

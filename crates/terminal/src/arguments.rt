@@ -3,8 +3,9 @@ ghost use Rattle.std.specs.Prelude.{◌≡◌, ◌≤◌};
 ghost use Rattle.io.specs.Counts.{IsPrefixLen};
 
 use crate::errors::{complain, say};
+use crate::host::Host;
 use crate::input::{Input, read_all};
-use libc::STDIN_FILENO;
+use crate::reason::say_reason;
 
 // More than any number that a word says.
 pub const NO_NUMBER: usize = 1000000;
@@ -37,22 +38,29 @@ pub fn number_of(word: &[u8]) -> usize {
         return NO_NUMBER;
     }
     let mut n = 0;
-    let mut i = 0;
-    while i < word.len() {
-        n = grown(n, word[i]);
-        i += 1;
+    for glyph in word {
+        n = grown(n, *glyph);
     }
     n
 }
 
-// The number that argument i says; NO_NUMBER where there is none, or it says none.
-pub fn number_argument(i: usize) -> usize {
-    let mut word = [0u8; 8];
-    let n = os::arg(i, &mut word);
-    if os::errno() != 0 {
-        return NO_NUMBER;
+// Argument i at the front of a buffer, and its length: 0 where there is none, or it is longer than the buffer.
+pub fn argument<H: Host>(host: &H, i: usize, into: &mut [u8]) -> usize
+    ensures { IsPrefixLen result into.new }
+{
+    match host.word(i, into) {
+        Some(n) => n,
+        None => 0,
     }
-    number_of(&word[..n])
+}
+
+// The number that argument i says; NO_NUMBER where there is none, or it says none.
+pub fn number_argument<H: Host>(host: &H, i: usize) -> usize {
+    let mut word = [0u8; 8];
+    match host.word(i, &mut word) {
+        Some(n) => number_of(&word[..n]),
+        None => NO_NUMBER,
+    }
 }
 
 // Whether two words are the same.
@@ -60,26 +68,21 @@ pub fn same_word(one: &[u8], other: &[u8]) -> bool {
     if one.len() != other.len() {
         return false;
     }
-    let mut i = 0;
-    while i < one.len() {
-        if i < other.len() {
-            if one[i] != other[i] {
-                return false;
-            }
+    for i in 0..one.len() {
+        if one[i] != other[i] {
+            return false;
         }
-        i += 1;
     }
     true
 }
 
 // Whether argument i is this word, which has at most 16 bytes.
-pub fn is_argument(i: usize, word: &[u8]) -> bool {
+pub fn is_argument<H: Host>(host: &H, i: usize, word: &[u8]) -> bool {
     let mut asked = [0u8; 16];
-    let n = os::arg(i, &mut asked);
-    if os::errno() != 0 {
-        return false;
+    match host.word(i, &mut asked) {
+        Some(n) => same_word(&asked[..n], word),
+        None => false,
     }
-    same_word(&asked[..n], word)
 }
 
 // Nothing read, and that was told.
@@ -89,72 +92,78 @@ fn unread() -> Input
     Input {
         bytes: 0,
         failed: true,
+        why: None,
     }
 }
 
 // A file that cannot be read: the program, the file's name and the reason, in one line.
-fn unread_file(program: &[u8], path: &[u8]) -> Input
+fn unread_file<H: Host>(host: &H, program: &[u8], path: &[u8], got: Input) -> Input
     ensures { result.bytes ≡ 0 }
 {
-    say(program);
-    say(b": ");
-    os::fail(path);
+    let err = host.console().err;
+    say(err, program);
+    say(err, b": ");
+    say(err, path);
+    say(err, b": ");
+    if let Some(why) = got.why {
+        say_reason(err, why);
+    }
+    say(err, b"\n");
     unread()
 }
 
 // Standard input, as much of it as the buffer holds.
-pub fn read_standard(program: &[u8], buffer: &mut [u8]) -> Input
+pub fn read_standard<H: Host>(host: &H, program: &[u8], buffer: &mut [u8]) -> Input
     ensures { IsPrefixLen result.bytes buffer.new }
 {
-    let got = read_all(STDIN_FILENO, buffer);
+    let console = host.console();
+    let mut input = console.input;
+    let got = read_all(&mut input, console.clock, buffer);
     let failed = got.failed;
     if failed {
-        say(program);
-        complain(b": reading failed\n");
+        say(console.err, program);
+        complain(console.err, b": reading failed\n");
     }
     got
 }
 
 // A file, as much of it as the buffer holds.
-pub fn read_file(program: &[u8], path: &[u8], buffer: &mut [u8]) -> Input
+pub fn read_file<H: Host>(host: &H, program: &[u8], path: &[u8], buffer: &mut [u8]) -> Input
     ensures { IsPrefixLen result.bytes buffer.new }
 {
-    let fd = os::open_read(path);
-    if fd < 0 {
-        return unread_file(program, path);
-    }
-    let got = read_all(fd, buffer);
+    let got = host.read_file(path, buffer);
     let failed = got.failed;
     if failed {
-        return unread_file(program, path);
+        return unread_file(host, program, path, got);
     }
-    libc::close(fd);
     got
 }
 
 // The file that argument i names, as much of it as the buffer holds; `-` names standard input.
-pub fn read_argument(program: &[u8], i: usize, buffer: &mut [u8]) -> Input
+pub fn read_argument<H: Host>(host: &H, program: &[u8], i: usize, buffer: &mut [u8]) -> Input
     ensures { IsPrefixLen result.bytes buffer.new }
 {
-    if is_argument(i, b"-") {
-        return read_standard(program, buffer);
+    if is_argument(host, i, b"-") {
+        return read_standard(host, program, buffer);
     }
     let mut path = io::buffer();
-    let length = os::arg(i, &mut path);
-    if os::errno() != 0 {
-        say(program);
-        complain(b": the name of a file is missing, or too long\n");
-        return unread();
+    match host.word(i, &mut path) {
+        Some(length) => read_file(host, program, &path[..length], buffer),
+        None => {
+            let err = host.console().err;
+            say(err, program);
+            complain(err, b": the name of a file is missing, or too long\n");
+            unread()
+        }
     }
-    read_file(program, &path[..length], buffer)
 }
 
 // What a program with one input works on, as much of it as the buffer holds: the file that its first word names, or standard input.
-pub fn read_only(program: &[u8], buffer: &mut [u8]) -> Input
+pub fn read_only<H: Host>(host: &H, program: &[u8], buffer: &mut [u8]) -> Input
     ensures { IsPrefixLen result.bytes buffer.new }
 {
-    if os::arg_count() < 2 {
-        return read_standard(program, buffer);
+    if host.word_count() < 2 {
+        return read_standard(host, program, buffer);
     }
-    read_argument(program, 1, buffer)
+    read_argument(host, program, 1, buffer)
 }

@@ -2,41 +2,43 @@
 ghost use Rattle.std.specs.Prelude.{length, true, false, ◌≡◌, ◌≤◌, ◌<◌};
 ghost use Rattle.terminal.specs.Output.{Remembers};
 
+use crate::console::Console;
 use crate::waiting::{PATIENCE, worth_another};
-use libc::STDOUT_FILENO;
 
-// The bytes that are still to be written, so many at the front of the buffer: 255 at most, so that any count is within it. And
-// whether a write failed, after which nothing is written any more.
+// The streams of the program; the bytes that are still to be written, so many at the front of the buffer: 255 at most, so that any count is
+// within it. And whether a write failed, after which nothing is written any more.
 #[derive(Clone, Copy)]
 pub struct Output {
+    pub console: Console,
     pub bytes: [u8; 256],
     pub held: u8,
     pub failed: bool,
 }
 
 // One write, tried again where that is worth it: how many bytes it took, 0 where it failed.
-fn write_some(bytes: &[u8]) -> usize
+fn write_some(to: Console, bytes: &[u8]) -> usize
     ensures { result ≤ length bytes.now }
 {
-    let mut tries = PATIENCE;
-    while tries > 0 {
-        let took = libc::write(STDOUT_FILENO, bytes);
-        if took >= 0 {
-            return io::count(took, bytes);
+    for _ in 0..PATIENCE {
+        match Print::write_some(&to.out, bytes) {
+            Ok(took) => {
+                return took;
+            }
+            Err(why) => {
+                if !worth_another(why, to.clock) {
+                    return 0;
+                }
+            }
         }
-        if !worth_another() {
-            return 0;
-        }
-        tries -= 1;
     }
     0
 }
 
 // Writes all the bytes, or stops at the first write that takes none.
-fn write_all(bytes: &[u8]) -> bool {
+fn write_all(to: Console, bytes: &[u8]) -> bool {
     let mut done = 0;
     while done < bytes.len() {
-        let took = write_some(&bytes[done..]);
+        let took = write_some(to, &bytes[done..]);
         if took == 0 {
             return false;
         }
@@ -49,13 +51,15 @@ fn write_all(bytes: &[u8]) -> bool {
 pub fn flush(out: Output) -> Output
     ensures { (result.held ≡ 0) × Remembers out result }
 {
+    let console = out.console;
     let bytes = out.bytes;
     let held = out.held;
     let mut failed = out.failed;
     if !failed {
-        failed = !write_all(&bytes[..held as usize]);
+        failed = !write_all(console, &bytes[..held as usize]);
     }
     Output {
+        console,
         bytes,
         held: 0,
         failed,
@@ -105,35 +109,35 @@ pub fn print_number(out: Output, word: &[u8], n: u64) -> Output
 }
 
 // Nothing printed yet.
-pub fn nothing_yet() -> Output {
+pub fn nothing_yet(console: Console) -> Output {
     Output {
+        console,
         bytes: [0; 256],
         held: 0,
         failed: false,
     }
 }
 
-// Writes the last of the output and closes it, since some file systems tell only then that a disk is full; whether all of it went.
+// Writes the last of the output; whether all of it went.
 pub fn finish(out: Output) -> bool
     ensures { out.failed ≡ true → result ≡ false }
 {
     let last = flush(out);
     let failed = last.failed;
-    if failed {
-        return false;
-    }
-    libc::close(STDOUT_FILENO) == 0
+    !failed
 }
 
-// Some words at once, for a program that keeps no buffer. Where writing them fails standard output is closed: so nothing is written any
-// more, and closing it in the end tells that.
-pub fn write_now(words: &[u8]) {
-    if !write_all(words) {
-        libc::close(STDOUT_FILENO);
-    }
+// Some words at once, for a program that keeps nothing back.
+pub fn write_now(out: &mut Output, words: &[u8])
+    ensures { Remembers out.old out.new }
+{
+    *out = flush(print(*out, words));
 }
 
-// Closes standard output after words that were written at once; whether all of them went.
-pub fn close() -> bool {
-    libc::close(STDOUT_FILENO) == 0
+// Whether all words went that were written at once.
+pub fn close(out: Output) -> bool
+    ensures { out.failed ≡ true → result ≡ false }
+{
+    let failed = out.failed;
+    !failed
 }

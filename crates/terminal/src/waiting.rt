@@ -1,33 +1,29 @@
-// Waiting for a descriptor that is not ready.
-use libc::types::timespec;
-use libc::{EAGAIN, EINTR};
+// Waiting for a stream that is not ready.
+use crate::console::Clockwork;
+use std::io::{Error, ErrorKind};
+use std::thread::sleep;
+use std::time::Duration;
 
-// How often one read or write is tried. Each try waits a millisecond where nothing is ready, so that a descriptor which stays so for
+// How often one read or write is tried. Each try waits a millisecond where nothing is ready, so that a stream which stays so for
 // ten minutes counts as one that failed.
 pub const PATIENCE: u32 = 600000;
 
-// Waits a millisecond, or less where a signal comes.
-fn nap() {
-    let asked = timespec {
-        tv_sec: 0,
-        tv_nsec: 1000000,
-    };
-    let mut left = timespec {
-        tv_sec: 0,
-        tv_nsec: 0,
-    };
-    libc::nanosleep(&asked, &mut left);
+// Waits a millisecond, where there is a clock.
+fn nap(clock: Clockwork) {
+    match clock {
+        Clockwork::System(rt) => sleep(&rt, Duration::from_millis(1)),
+        Clockwork::Nothing => {}
+    }
 }
 
-// Whether the read or write that has just answered -1 is worth another try: at once where a signal interrupted it; a little later where
-// the descriptor does not block and is not ready.
-pub fn worth_another() -> bool {
-    let why = os::errno();
-    if why == EINTR {
+// Whether the read or write that has just failed is worth another try: at once where a signal interrupted it; a little later where the
+// stream does not block and is not ready.
+pub fn worth_another(why: Error, clock: Clockwork) -> bool {
+    if why.kind() == ErrorKind::Interrupted {
         return true;
     }
-    if why == EAGAIN {
-        nap();
+    if why.kind() == ErrorKind::WouldBlock {
+        nap(clock);
         return true;
     }
     false

@@ -1,5 +1,9 @@
-// The newcomers' walk as a program of the kit, which gives no status back.
+// The newcomers' walk as a program.
 #![tactic(auto)]
-fn main() {
-    walking::pw_walk();
+
+use std::process::ExitCode;
+use terminal::exit_code;
+
+fn main(rt: HostRuntime) -> ExitCode {
+    exit_code(walking::pw_walk(&rt))
 }

@@ -1,7 +1,7 @@
 // Steps 1 and 2: the bytes of the figure, its corners, and the edge.
 use crate::block::numbers;
 use crate::words::{line_end, padded, spaced, text, wide};
-use libc::STDOUT_FILENO;
+use terminal::output::Output;
 
 // What a job says before its figures: its rule, how many figures there are, and where the first begins.
 #[derive(Clone, Copy)]
@@ -31,39 +31,41 @@ pub struct Edge {
 }
 
 // One byte as two hexadecimal digits.
-fn print_byte(b: u8) {
-    text(b" ");
-    io::print_hex(STDOUT_FILENO, b as u64, 2);
+fn print_byte(out: &mut Output, b: u8) {
+    text(out, b" ");
+    let mut digits = [0u8; 16];
+    let count = io::hex(b as u64, 2, &mut digits);
+    text(out, &digits[..count]);
 }
 
 // The bytes of a part of the job.
-fn print_part(part: &[u8]) {
+fn print_part(out: &mut Output, part: &[u8]) {
     let mut i = 0;
     while i < part.len() {
-        print_byte(part[i]);
+        print_byte(out, part[i]);
         i += 1;
     }
-    line_end();
+    line_end(out);
 }
 
 // Step 1: the bytes.
-pub fn print_bytes(job: &[u8], header: Header, at: Bytes, k: usize) {
-    text(b"1. The job's bytes\n\n   threshold");
-    spaced(header.threshold as u64);
-    text(b", weight");
-    spaced(header.weight as u64);
-    text(b", figures");
-    spaced(header.figures as u64);
-    text(b"; figure");
-    spaced(k as u64);
-    text(b" begins at byte");
-    spaced(at.start as u64);
-    text(b":\n  ");
+pub fn print_bytes(out: &mut Output, job: &[u8], header: Header, at: Bytes, k: usize) {
+    text(out, b"1. The job's bytes\n\n   threshold");
+    spaced(out, header.threshold as u64);
+    text(out, b", weight");
+    spaced(out, header.weight as u64);
+    text(out, b", figures");
+    spaced(out, header.figures as u64);
+    text(out, b"; figure");
+    spaced(out, k as u64);
+    text(out, b" begins at byte");
+    spaced(out, at.start as u64);
+    text(out, b":\n  ");
     let start = at.start;
     let end = at.end;
     if start <= end {
         if end <= job.len() {
-            print_part(&job[start..end]);
+            print_part(out, &job[start..end]);
         }
     }
 }
@@ -152,53 +154,53 @@ pub fn edge_of(corners: &[u16], lengths: &[u16], k: usize) -> Edge {
 }
 
 // One corner, and whether the edge leads from it or to it.
-fn print_corner(corners: &[u16], k: usize, edge: Edge) {
-    text(b"   corner");
-    padded(k as u64, 3);
-    padded(wide(coordinate(corners, k, 0)), 8);
-    padded(wide(coordinate(corners, k, 1)), 8);
+fn print_corner(out: &mut Output, corners: &[u16], k: usize, edge: Edge) {
+    text(out, b"   corner");
+    padded(out, k as u64, 3);
+    padded(out, wide(coordinate(corners, k, 0)), 8);
+    padded(out, wide(coordinate(corners, k, 1)), 8);
     if k == edge.start {
-        text(b"   the edge leads from here");
+        text(out, b"   the edge leads from here");
     }
     if k == edge.end {
-        text(b"   to here");
+        text(out, b"   to here");
     }
-    line_end();
+    line_end(out);
 }
 
 // Every corner in the order of the list.
-fn each_corner(corners: &[u16], edge: Edge) {
+fn each_corner(out: &mut Output, corners: &[u16], edge: Edge) {
     let count = corners.len() / 2;
     let mut k = 0;
     while k < count {
-        print_corner(corners, k, edge);
+        print_corner(out, corners, k, edge);
         k += 1;
     }
 }
 
 // Where the edge lies.
-fn print_edge(edge: Edge) {
+fn print_edge(out: &mut Output, edge: Edge) {
     let upright = edge.upright;
-    text(b"   edge");
-    spaced(edge.start as u64);
+    text(out, b"   edge");
+    spaced(out, edge.start as u64);
     if upright {
-        text(b" is upright, at x =");
+        text(out, b" is upright, at x =");
     } else {
-        text(b" is level, at y =");
+        text(out, b" is level, at y =");
     }
-    spaced(wide(edge.at));
-    text(b", from");
-    spaced(wide(edge.low));
-    text(b" to");
-    spaced(wide(edge.high));
-    line_end();
+    spaced(out, wide(edge.at));
+    text(out, b", from");
+    spaced(out, wide(edge.low));
+    text(out, b" to");
+    spaced(out, wide(edge.high));
+    line_end(out);
 }
 
 // Step 2: the corners of all rings, and the edge.
-pub fn print_corners(corners: &[u16], lengths: &[u16], edge: Edge) {
-    text(b"\n2. Corners\n\n   corners of each ring");
-    numbers(lengths, lengths.len());
-    text(b"                  x       y\n");
-    each_corner(corners, edge);
-    print_edge(edge);
+pub fn print_corners(out: &mut Output, corners: &[u16], lengths: &[u16], edge: Edge) {
+    text(out, b"\n2. Corners\n\n   corners of each ring");
+    numbers(out, lengths, lengths.len());
+    text(out, b"                  x       y\n");
+    each_corner(out, corners, edge);
+    print_edge(out, edge);
 }

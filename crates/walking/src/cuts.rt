@@ -7,6 +7,7 @@ use crate::pieces::{
 };
 use crate::words::{line_end, padded, spaced, text, wide};
 use outline::{MOST_CELLS, MOST_LINES};
+use terminal::output::Output;
 
 // A cut of a piece: on an x line or on a y line; there is none on line 0.
 #[derive(Clone, Copy)]
@@ -145,24 +146,25 @@ pub fn best_cut(table: &[u32], grid: Grid, p: Piece) -> usize {
 }
 
 // The name of a cut: its line and the line's place.
-fn print_cut_name(cut: Cut, xs: &[u16; MOST_LINES], ys: &[u16; MOST_LINES]) {
+fn print_cut_name(out: &mut Output, cut: Cut, xs: &[u16; MOST_LINES], ys: &[u16; MOST_LINES]) {
     let upright = cut.upright;
     let line = cut.line;
     if upright {
-        text(b"x line");
-        padded(line as u64, 3);
-        text(b", x =");
-        padded(wide(place(xs, line)), 6);
+        text(out, b"x line");
+        padded(out, line as u64, 3);
+        text(out, b", x =");
+        padded(out, wide(place(xs, line)), 6);
     } else {
-        text(b"y line");
-        padded(line as u64, 3);
-        text(b", y =");
-        padded(wide(place(ys, line)), 6);
+        text(out, b"y line");
+        padded(out, line as u64, 3);
+        text(out, b", y =");
+        padded(out, wide(place(ys, line)), 6);
     }
 }
 
 // One cut as it is weighed, if there is one of that number, and whether it is the one that is made.
 fn print_cut(
+    out: &mut Output,
     table: &[u32],
     grid: Grid,
     xs: &[u16; MOST_LINES],
@@ -175,22 +177,23 @@ fn print_cut(
     if cut.line == 0 {
         return;
     }
-    text(b"      cut at ");
-    print_cut_name(cut, xs, ys);
-    text(b":");
-    padded(cost_of(table, grid, low_part(p, cut)), 11);
-    text(b" +");
-    padded(cost_of(table, grid, high_part(p, cut)), 11);
-    text(b" =");
-    padded(weighed(table, grid, p, n), 11);
+    text(out, b"      cut at ");
+    print_cut_name(out, cut, xs, ys);
+    text(out, b":");
+    padded(out, cost_of(table, grid, low_part(p, cut)), 11);
+    text(out, b" +");
+    padded(out, cost_of(table, grid, high_part(p, cut)), 11);
+    text(out, b" =");
+    padded(out, weighed(table, grid, p, n), 11);
     if n == best {
-        text(b"  made");
+        text(out, b"  made");
     }
-    line_end();
+    line_end(out);
 }
 
 // Every cut of a piece, in the order in which equals are taken.
 fn each_cut(
+    out: &mut Output,
     table: &[u32],
     grid: Grid,
     xs: &[u16; MOST_LINES],
@@ -200,7 +203,7 @@ fn each_cut(
 ) {
     let mut n = 0;
     while n < MOST_CUTS {
-        print_cut(table, grid, xs, ys, p, n, best);
+        print_cut(out, table, grid, xs, ys, p, n, best);
         n += 1;
     }
 }
@@ -242,6 +245,7 @@ fn wall_passed(cells: &[u8; MOST_CELLS], cut: Cut, low: usize, high: usize) -> u
 
 // A cut that runs past a wall, told; whether it does.
 fn print_passed(
+    out: &mut Output,
     cells: &[u8; MOST_CELLS],
     along: &[u16; MOST_LINES],
     cut: Cut,
@@ -252,18 +256,19 @@ fn print_passed(
     if high <= wall {
         return false;
     }
-    text(b"      the cut runs from");
-    spaced(wide(place(along, low)));
-    text(b" to");
-    spaced(wide(place(along, high)));
-    text(b", past the wall at");
-    spaced(wide(place(along, wall)));
-    line_end();
+    text(out, b"      the cut runs from");
+    spaced(out, wide(place(along, low)));
+    text(out, b" to");
+    spaced(out, wide(place(along, high)));
+    text(out, b", past the wall at");
+    spaced(out, wide(place(along, wall)));
+    line_end(out);
     true
 }
 
 // The same for a cut of a piece.
 fn print_run(
+    out: &mut Output,
     cells: &[u8; MOST_CELLS],
     xs: &[u16; MOST_LINES],
     ys: &[u16; MOST_LINES],
@@ -272,22 +277,26 @@ fn print_run(
 ) -> bool {
     let upright = cut.upright;
     if upright {
-        return print_passed(cells, ys, cut, p.b, p.d);
+        return print_passed(out, cells, ys, cut, p.b, p.d);
     }
-    print_passed(cells, xs, cut, p.a, p.c)
+    print_passed(out, cells, xs, cut, p.a, p.c)
 }
 
 // The mistake that such a cut shows; told once.
-fn print_stops(told: bool) {
+fn print_stops(out: &mut Output, told: bool) {
     if told {
         return;
     }
-    text(b"      Mistake: a cut stops at the first wall.\n");
-    text(b"      It runs across the whole piece, or the parts would be no rectangles.\n");
+    text(out, b"      Mistake: a cut stops at the first wall.\n");
+    text(
+        out,
+        b"      It runs across the whole piece, or the parts would be no rectangles.\n",
+    );
 }
 
 // One piece on the way: its cuts, or that it is a shot. Gives whether the mistake of the first wall has been told.
 fn print_level(
+    out: &mut Output,
     table: &[u32],
     grid: Grid,
     xs: &[u16; MOST_LINES],
@@ -298,20 +307,20 @@ fn print_level(
     told: bool,
 ) -> bool {
     if is_same(p, frame(grid)) {
-        text(b"   frame ");
+        text(out, b"   frame ");
     } else {
-        text(b"   part  ");
+        text(out, b"   part  ");
     }
-    print_piece(table, grid, p);
-    print_kind(table, grid, xs, ys, cells, p, rule);
-    line_end();
+    print_piece(out, table, grid, p);
+    print_kind(out, table, grid, xs, ys, cells, p, rule);
+    line_end(out);
     if is_shot(cells, p) {
         return told;
     }
     let best = best_cut(table, grid, p);
-    each_cut(table, grid, xs, ys, p, best);
-    if print_run(cells, xs, ys, p, cut_of(p, best)) {
-        print_stops(told);
+    each_cut(out, table, grid, xs, ys, p, best);
+    if print_run(out, cells, xs, ys, p, cut_of(p, best)) {
+        print_stops(out, told);
         return true;
     }
     told
@@ -343,6 +352,7 @@ fn is_same(p: Piece, q: Piece) -> bool {
 
 // The way from the frame down to the shot that takes in a cell. Pieces that take in the cell before it were told on the way to that.
 fn print_way(
+    out: &mut Output,
     table: &[u32],
     grid: Grid,
     xs: &[u16; MOST_LINES],
@@ -358,7 +368,7 @@ fn print_way(
     let mut level = 0;
     while level < MOST_LEVELS {
         if !takes_in(p, before) {
-            told = print_level(table, grid, xs, ys, cells, p, rule, told);
+            told = print_level(out, table, grid, xs, ys, cells, p, rule, told);
         }
         let next = part_towards(table, grid, cells, p, inner);
         if is_same(p, next) {
@@ -372,6 +382,7 @@ fn print_way(
 
 // The ways to the shots of each part of the edge, from its low end to its high end. Gives whether there was one.
 fn each_way(
+    out: &mut Output,
     table: &[u32],
     grid: Grid,
     xs: &[u16; MOST_LINES],
@@ -392,7 +403,7 @@ fn each_way(
         let inner = inner_cell(cells, lies, n);
         let known = inner.known;
         if known {
-            told = print_way(table, grid, xs, ys, cells, rule, inner, before, told);
+            told = print_way(out, table, grid, xs, ys, cells, rule, inner, before, told);
             before = inner;
         }
         n += 1;
@@ -403,6 +414,7 @@ fn each_way(
 // The costs that were found in the table, where they would have cut the frame elsewhere: those of the figure before this one in the
 // job, or of this one by weight 0.
 fn print_stale(
+    out: &mut Output,
     table: &[u32],
     found: &[u32],
     grid: Grid,
@@ -416,27 +428,38 @@ fn print_stale(
     if stale == made {
         return;
     }
-    text(b"   Mistake: a cost of an earlier drawing steers the cut.\n");
+    text(
+        out,
+        b"   Mistake: a cost of an earlier drawing steers the cut.\n",
+    );
     if earlier {
         text(
+            out,
             b"   The figure before this one left its costs in the lent table. By them the frame\n",
         );
     } else {
-        text(b"   This figure by weight 0 left its costs in the lent table. By them the frame\n");
+        text(
+            out,
+            b"   This figure by weight 0 left its costs in the lent table. By them the frame\n",
+        );
     }
-    text(b"   would be cut at ");
-    print_cut_name(cut_of(p, stale), xs, ys);
-    text(b", for");
-    spaced(weighed(found, grid, p, stale));
-    text(b". That cut costs");
-    spaced(weighed(table, grid, p, stale));
-    text(b",\n   the one that is made");
-    spaced(weighed(table, grid, p, made));
-    text(b": nothing found in a lent buffer has any influence.\n");
+    text(out, b"   would be cut at ");
+    print_cut_name(out, cut_of(p, stale), xs, ys);
+    text(out, b", for");
+    spaced(out, weighed(found, grid, p, stale));
+    text(out, b". That cut costs");
+    spaced(out, weighed(table, grid, p, stale));
+    text(out, b",\n   the one that is made");
+    spaced(out, weighed(table, grid, p, made));
+    text(
+        out,
+        b": nothing found in a lent buffer has any influence.\n",
+    );
 }
 
 // Step 6: the cuts.
 pub fn print_cuts(
+    out: &mut Output,
     table: &[u32],
     found: &[u32],
     grid: Grid,
@@ -447,12 +470,12 @@ pub fn print_cuts(
     rule: Charge,
     earlier: bool,
 ) {
-    text(b"\n6. The cuts, from the frame down\n\n");
-    if !each_way(table, grid, xs, ys, cells, lies, rule) {
-        text(b"   the edge is no wall: no cut leads to it\n");
+    text(out, b"\n6. The cuts, from the frame down\n\n");
+    if !each_way(out, table, grid, xs, ys, cells, lies, rule) {
+        text(out, b"   the edge is no wall: no cut leads to it\n");
         return;
     }
     if !is_shot(cells, frame(grid)) {
-        print_stale(table, found, grid, xs, ys, earlier);
+        print_stale(out, table, found, grid, xs, ys, earlier);
     }
 }

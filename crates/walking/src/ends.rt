@@ -5,6 +5,7 @@ use crate::lines::print_side;
 use crate::pieces::Charge;
 use crate::words::{cost, decimal, line_end, padded, spaced, text, wide};
 use fracture::Fractured;
+use terminal::output::Output;
 
 // What a fracture told; no shots where it was refused.
 #[derive(Clone, Copy)]
@@ -44,33 +45,33 @@ fn number(list: &[u16], i: usize) -> u64 {
 }
 
 // The four numbers of shot n, counted from 1, as the job program prints them.
-fn print_shot(list: &[u16], n: usize) {
+fn print_shot(out: &mut Output, list: &[u16], n: usize) {
     if 0 < n {
         if n <= 225 {
             let at = 4 * n - 4;
-            decimal(number(list, at));
-            spaced(number(list, at + 1));
-            spaced(number(list, at + 2));
-            spaced(number(list, at + 3));
+            decimal(out, number(list, at));
+            spaced(out, number(list, at + 1));
+            spaced(out, number(list, at + 2));
+            spaced(out, number(list, at + 3));
         }
     }
 }
 
 // One shot with its number.
-fn print_numbered(list: &[u16], n: usize) {
-    text(b"   shot");
-    padded(n as u64, 4);
-    text(b"   ");
-    print_shot(list, n);
-    line_end();
+fn print_numbered(out: &mut Output, list: &[u16], n: usize) {
+    text(out, b"   shot");
+    padded(out, n as u64, 4);
+    text(out, b"   ");
+    print_shot(out, list, n);
+    line_end(out);
 }
 
 // Every shot of the list.
-fn each_shot(list: &[u16], shots: usize) {
+fn each_shot(out: &mut Output, list: &[u16], shots: usize) {
     let mut n = 0;
     while n < shots {
         n += 1;
-        print_numbered(list, n);
+        print_numbered(out, list, n);
     }
 }
 
@@ -91,7 +92,7 @@ fn price(of: Outcome, weight: u64) -> u64 {
 }
 
 // The mistake that is shown where fewer shots would do, and would cost more.
-fn print_fewest(done: Outcome, fewest: Outcome, rule: Charge) {
+fn print_fewest(out: &mut Output, done: Outcome, fewest: Outcome, rule: Charge) {
     let few = fewest.shots;
     if done.shots <= few {
         return;
@@ -100,36 +101,43 @@ fn print_fewest(done: Outcome, fewest: Outcome, rule: Charge) {
     if dear <= cost(done.cost) {
         return;
     }
-    text(b"   Mistake: fewest shots is best.\n  ");
-    spaced(few as u64);
-    text(b" shots would do, with a sliver length of");
-    spaced(fewest.sliver as u64);
-    text(b": 1000 x");
-    spaced(few as u64);
-    text(b" +");
-    spaced(rule.weight);
-    text(b" x");
-    spaced(fewest.sliver as u64);
-    text(b" =");
-    spaced(dear);
-    text(b", and not");
-    spaced(cost(done.cost));
-    line_end();
+    text(out, b"   Mistake: fewest shots is best.\n  ");
+    spaced(out, few as u64);
+    text(out, b" shots would do, with a sliver length of");
+    spaced(out, fewest.sliver as u64);
+    text(out, b": 1000 x");
+    spaced(out, few as u64);
+    text(out, b" +");
+    spaced(out, rule.weight);
+    text(out, b" x");
+    spaced(out, fewest.sliver as u64);
+    text(out, b" =");
+    spaced(out, dear);
+    text(out, b", and not");
+    spaced(out, cost(done.cost));
+    line_end(out);
 }
 
 // Step 7: the shots of the figure.
-pub fn print_shots(list: &[u16], k: usize, done: Outcome, fewest: Outcome, rule: Charge) {
-    text(b"\n7. The shots\n\n   outline");
-    spaced(k as u64);
-    text(b" shots");
-    spaced(done.shots as u64);
-    text(b" cost");
-    spaced(done.cost as u64);
-    text(b" sliver");
-    spaced(done.sliver as u64);
-    line_end();
-    each_shot(list, done.shots as usize);
-    print_fewest(done, fewest, rule);
+pub fn print_shots(
+    out: &mut Output,
+    list: &[u16],
+    k: usize,
+    done: Outcome,
+    fewest: Outcome,
+    rule: Charge,
+) {
+    text(out, b"\n7. The shots\n\n   outline");
+    spaced(out, k as u64);
+    text(out, b" shots");
+    spaced(out, done.shots as u64);
+    text(out, b" cost");
+    spaced(out, done.cost as u64);
+    text(out, b" sliver");
+    spaced(out, done.sliver as u64);
+    line_end(out);
+    each_shot(out, list, done.shots as usize);
+    print_fewest(out, done, fewest, rule);
 }
 
 // Number i of the runs, 0 past their end.
@@ -141,40 +149,40 @@ fn run_number(runs: &[usize], i: usize) -> usize {
 }
 
 // The shot and side of a run.
-fn print_landing(list: &[u16], shot: usize, side: u8) {
+fn print_landing(out: &mut Output, list: &[u16], shot: usize, side: u8) {
     if side == 0 {
-        text(b"no wall, so on no shot");
+        text(out, b"no wall, so on no shot");
         return;
     }
-    print_side(side);
-    text(b" side of shot");
-    spaced(shot as u64);
-    text(b", printed as ");
-    print_shot(list, shot);
+    print_side(out, side);
+    text(out, b" side of shot");
+    spaced(out, shot as u64);
+    text(out, b", printed as ");
+    print_shot(out, list, shot);
 }
 
 // One run of the edge on a new line: from, to, the shot and its side.
-fn print_run(list: &[u16], runs: &[usize], n: usize) {
+fn print_run(out: &mut Output, list: &[u16], runs: &[usize], n: usize) {
     if n < 1000 {
         let at = 4 * n;
-        text(b"\n   from");
-        padded(run_number(runs, at) as u64, 6);
-        text(b" to");
-        padded(run_number(runs, at + 1) as u64, 6);
-        text(b": ");
+        text(out, b"\n   from");
+        padded(out, run_number(runs, at) as u64, 6);
+        text(out, b" to");
+        padded(out, run_number(runs, at + 1) as u64, 6);
+        text(out, b": ");
         let side = run_number(runs, at + 3);
         if side <= 4 {
-            print_landing(list, run_number(runs, at + 2), side as u8);
+            print_landing(out, list, run_number(runs, at + 2), side as u8);
         }
     }
 }
 
 // Step 8: the runs of the edge, from its low end to its high end.
-pub fn print_runs(list: &[u16], runs: &[usize], count: usize) {
-    text(b"\n8. The edge and its shots\n");
+pub fn print_runs(out: &mut Output, list: &[u16], runs: &[usize], count: usize) {
+    text(out, b"\n8. The edge and its shots\n");
     let mut n = 0;
     while n < count {
-        print_run(list, runs, n);
+        print_run(out, list, runs, n);
         n += 1;
     }
 }

@@ -2,6 +2,7 @@
 //   walk                the walk over drawing B, by three rules, in numbers
 //   walk JOB K EDGE     the walk of edge number EDGE of figure K of a job, step by step
 #![tactic(auto)]
+
 mod block;
 mod corners;
 mod cuts;
@@ -30,7 +31,8 @@ use pieces::{Charge, print_pieces};
 use refusal::Refusal;
 use terminal::arguments::{NO_NUMBER, is_argument, number_argument, read_argument};
 use terminal::errors::{complain, complain_of, say};
-use terminal::output::close;
+use terminal::host::Host;
+use terminal::output::{Output, close, nothing_yet};
 use terminal::{DONE, FAILED, REFUSED};
 use words::text;
 
@@ -42,11 +44,11 @@ struct Shape {
 }
 
 // The end of the walk: where writing some of it failed, or closing it does, that is told.
-fn ended() -> u32 {
-    if close() {
+fn ended(out: &mut Output) -> u32 {
+    if close(*out) {
         return DONE;
     }
-    complain(b"walk: writing failed\n")
+    complain(out.console.err, b"walk: writing failed\n")
 }
 
 // The bytes of figure k of a job that was read; none where there is no such figure.
@@ -215,6 +217,7 @@ fn runs_of(
 
 // Steps 5 to 8: the figure is fractured, and the edge followed from the frame to its shots.
 fn walk_down(
+    out: &mut Output,
     job: &[u8],
     header: Header,
     k: usize,
@@ -242,21 +245,30 @@ fn walk_down(
     let earlier = earlier_costs(job, header, k, entries, &mut found, &mut list);
     let done = outcome_of(fracture(corners, lengths, threshold, weight, &mut table, &mut list));
     let count = runs_of(corners, lengths, edge.start, &list, done.shots, &mut runs);
-    print_pieces(&table, grid, xs, ys, cells, lies, rule);
-    print_cuts(&table, &found, grid, xs, ys, cells, lies, rule, earlier);
-    print_shots(&list, k, done, fewest, rule);
-    print_runs(&list, &runs, count);
+    print_pieces(out, &table, grid, xs, ys, cells, lies, rule);
+    print_cuts(
+        out, &table, &found, grid, xs, ys, cells, lies, rule, earlier,
+    );
+    print_shots(out, &list, k, done, fewest, rule);
+    print_runs(out, &list, &runs, count);
 }
 
 // A figure with nothing to walk, told in words.
-fn refuse_figure(k: usize, why: Refusal, corners: &[u16], lengths: &[u16]) -> u32 {
-    say(b"walk: ");
-    figures::explain(k, why, corners, lengths);
+fn refuse_figure(
+    out: &mut Output,
+    k: usize,
+    why: Refusal,
+    corners: &[u16],
+    lengths: &[u16],
+) -> u32 {
+    say(out.console.err, b"walk: ");
+    figures::explain(out.console.err, k, why, corners, lengths);
     REFUSED
 }
 
 // The walk of one edge of a figure that was drawn.
 fn walk_drawn(
+    out: &mut Output,
     job: &[u8],
     header: Header,
     at: Bytes,
@@ -271,10 +283,14 @@ fn walk_drawn(
 ) -> u32 {
     let count = corners.len() / 2;
     if number == NO_NUMBER {
-        return complain(b"walk: the number of an edge is wanted, from 0\n");
+        return complain(
+            out.console.err,
+            b"walk: the number of an edge is wanted, from 0\n",
+        );
     }
     if count <= number {
         return complain_of(
+            out.console.err,
             b"walk: no edge ",
             number as u64,
             b": the figure has ",
@@ -284,17 +300,20 @@ fn walk_drawn(
     }
     let edge = edge_of(corners, lengths, number);
     let lies = lies_of(edge, xs, ys);
-    print_bytes(job, header, at, k);
-    print_corners(corners, lengths, edge);
-    print_grid(xs, ys, cells, grid, lies);
-    print_exposure(xs, ys, cells, lies);
-    walk_down(job, header, k, corners, lengths, edge, xs, ys, cells, grid);
-    text(b"\n");
-    ended()
+    print_bytes(out, job, header, at, k);
+    print_corners(out, corners, lengths, edge);
+    print_grid(out, xs, ys, cells, grid, lies);
+    print_exposure(out, xs, ys, cells, lies);
+    walk_down(
+        out, job, header, k, corners, lengths, edge, xs, ys, cells, grid,
+    );
+    text(out, b"\n");
+    ended(out)
 }
 
 // The walk of one edge of a figure.
 fn walk_edge(
+    out: &mut Output,
     job: &[u8],
     header: Header,
     at: Bytes,
@@ -313,15 +332,16 @@ fn walk_edge(
     };
     let answer = drawing.answer;
     match answer {
-        Answer::Refused(why) => refuse_figure(k, why, corners, lengths),
+        Answer::Refused(why) => refuse_figure(out, k, why, corners, lengths),
         Answer::Accepted => walk_drawn(
-            job, header, at, k, corners, lengths, number, &xs, &ys, &cells, grid,
+            out, job, header, at, k, corners, lengths, number, &xs, &ys, &cells, grid,
         ),
     }
 }
 
 // The same by the front parts of two lists.
 fn walk_front(
+    out: &mut Output,
     job: &[u8],
     header: Header,
     at: Bytes,
@@ -341,6 +361,7 @@ fn walk_front(
         return FAILED;
     }
     walk_edge(
+        out,
         job,
         header,
         at,
@@ -352,13 +373,17 @@ fn walk_front(
 }
 
 // The walk of one edge of figure k of a job that was read.
-fn walk_figure(job: &[u8], header: Header, k: usize, number: usize) -> u32 {
+fn walk_figure(out: &mut Output, job: &[u8], header: Header, k: usize, number: usize) -> u32 {
     let figures = header.figures;
     if k == NO_NUMBER {
-        return complain(b"walk: the number of a figure is wanted, from 0\n");
+        return complain(
+            out.console.err,
+            b"walk: the number of a figure is wanted, from 0\n",
+        );
     }
     if figures as usize <= k {
         return complain_of(
+            out.console.err,
             b"walk: no figure ",
             k as u64,
             b": the job has ",
@@ -370,20 +395,20 @@ fn walk_figure(job: &[u8], header: Header, k: usize, number: usize) -> u32 {
     let mut lengths = [0u16; MOST_RINGS];
     let at = bytes_of(job, header, k);
     let size = unpack_bytes(job, at, &mut corners, &mut lengths);
-    walk_front(job, header, at, k, &corners, &lengths, size, number)
+    walk_front(out, job, header, at, k, &corners, &lengths, size, number)
 }
 
 // A job that is refused, told in words.
-fn refuse_job(job: &[u8], why: Refusal, at: usize) -> u32 {
-    say(b"walk: job ");
-    jobs::explain(job, why, at);
+fn refuse_job(out: &mut Output, job: &[u8], why: Refusal, at: usize) -> u32 {
+    say(out.console.err, b"walk: job ");
+    jobs::explain(out.console.err, job, why, at);
     REFUSED
 }
 
 // The walk of one edge of figure k of a job.
-fn walk_job(job: &[u8], k: usize, number: usize) -> u32 {
+fn walk_job(out: &mut Output, job: &[u8], k: usize, number: usize) -> u32 {
     match whole(job) {
-        Head::Fault(why, at) => refuse_job(job, why, at),
+        Head::Fault(why, at) => refuse_job(out, job, why, at),
         Head::Header {
             threshold,
             weight,
@@ -397,81 +422,96 @@ fn walk_job(job: &[u8], k: usize, number: usize) -> u32 {
                 figures: outlines,
                 first,
             };
-            walk_figure(job, header, k, number)
+            walk_figure(out, job, header, k, number)
         }
     }
 }
 
 // The walk that three words ask for, the first of them by its number. One byte more than the longest job is read, so that a longer one
 // shows.
-fn walk_asked(first: usize) -> u32
+fn walk_asked<H: Host>(host: &H, out: &mut Output, first: usize) -> u32
     requires { first ≤ 2 }
 {
     let mut job = [0u8; MOST_BYTES + 1];
-    let got = read_argument(b"walk", first, &mut job);
+    let got = read_argument(host, b"walk", first, &mut job);
     let failed = got.failed;
     if failed {
         return FAILED;
     }
     let n = got.bytes;
     walk_read(
+        out,
         &job,
         n,
-        number_argument(first + 1),
-        number_argument(first + 2),
+        number_argument(host, first + 1),
+        number_argument(host, first + 2),
     )
 }
 
 // The same by so many bytes at the front of a buffer.
-fn walk_read(job: &[u8], n: usize, k: usize, number: usize) -> u32 {
+fn walk_read(out: &mut Output, job: &[u8], n: usize, k: usize, number: usize) -> u32 {
     let front = 0;
     if job.len() < n {
         return FAILED;
     }
-    walk_job(&job[front..n], k, number)
+    walk_job(out, &job[front..n], k, number)
 }
 
 // What the words are.
-fn help() -> u32 {
-    text(b"walk                the walk over drawing B, by three rules, in numbers\n");
+fn help(out: &mut Output) -> u32 {
     text(
+        out,
+        b"walk                the walk over drawing B, by three rules, in numbers\n",
+    );
+    text(
+        out,
         b"walk JOB K EDGE     the walk of edge EDGE of figure K of a job, both numbered from 0, step by step;\n",
     );
-    text(b"                    JOB is a file, or - for standard input\n");
     text(
+        out,
+        b"                    JOB is a file, or - for standard input\n",
+    );
+    text(
+        out,
         b"Ends with 0; 1 where the job or the figure is refused; 2 where there is no such figure or edge, or where\n",
     );
-    text(b"reading or writing fails. docs/WALK.md tells what it shows.\n");
-    ended()
+    text(
+        out,
+        b"reading or writing fails. docs/WALK.md tells what it shows.\n",
+    );
+    ended(out)
 }
 
 // The whole run, with its status: 0; 1 where the job or the figure is refused; 2 where the words ask for nothing that there is, or reading
 // or writing failed. The words stand behind the program's name, the first of them as argument 1, or behind a word more, as argument 2.
-fn walk_by(words: usize, first: usize) -> u32
+fn walk_by<H: Host>(host: &H, first: usize) -> u32
     requires { first ≤ 2 }
 {
+    let words = host.word_count();
+    let mut printed = nothing_yet(host.console());
+    let out = &mut printed;
     if words <= first {
-        walk_block();
-        return ended();
+        walk_block(out);
+        return ended(out);
     }
-    if is_argument(first, b"--help") {
-        return help();
+    if is_argument(host, first, b"--help") {
+        return help(out);
     }
     if words != first + 3 {
         return complain(
+            out.console.err,
             b"walk: a job, the number of a figure and the number of an edge are wanted, or nothing\n",
         );
     }
-    walk_asked(first)
+    walk_asked(host, out, first)
 }
 
 // The walk as a part of another program, behind its word.
-pub fn walk_within() -> u32 {
-    walk_by(os::arg_count(), 2)
+pub fn walk_within<H: Host>(host: &H) -> u32 {
+    walk_by(host, 2)
 }
 
-// The walk as a program, for a start that can end with a status (crates/starts/c/main.c).
-#[unsafe(no_mangle)]
-pub extern "C" fn pw_walk() -> u32 {
-    walk_by(os::arg_count(), 1)
+// The walk as a program.
+pub fn pw_walk<H: Host>(host: &H) -> u32 {
+    walk_by(host, 1)
 }

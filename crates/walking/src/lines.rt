@@ -2,6 +2,7 @@
 use crate::corners::Edge;
 use crate::words::{line_end, padded, spaced, text, wide};
 use outline::{MOST_CELLS, MOST_LINES};
+use terminal::output::Output;
 
 // How many columns and rows of cells there are.
 #[derive(Clone, Copy)]
@@ -59,27 +60,27 @@ pub fn lies_of(edge: Edge, xs: &[u16; MOST_LINES], ys: &[u16; MOST_LINES]) -> Li
 }
 
 // The numbers of the lines up to the last, in columns.
-fn line_numbers(last: usize) {
+fn line_numbers(out: &mut Output, last: usize) {
     let mut line: usize = 0;
     while line < MOST_LINES {
         if line <= last {
-            padded(line as u64, 6);
+            padded(out, line as u64, 6);
         }
         line += 1;
     }
-    line_end();
+    line_end(out);
 }
 
 // Their places below them.
-fn line_places(lines: &[u16; MOST_LINES], last: usize) {
+fn line_places(out: &mut Output, lines: &[u16; MOST_LINES], last: usize) {
     let mut line: usize = 0;
     while line < MOST_LINES {
         if line <= last {
-            padded(wide(place(lines, line)), 6);
+            padded(out, wide(place(lines, line)), 6);
         }
         line += 1;
     }
-    line_end();
+    line_end(out);
 }
 
 // Whether the cell (i, j) is inside.
@@ -109,47 +110,47 @@ fn is_wall(lies: Lies, i: usize, j: usize) -> bool {
 }
 
 // One cell, and left of it a blank or the edge.
-fn print_cell(cells: &[u8; MOST_CELLS], lies: Lies, i: usize, j: usize) {
+fn print_cell(out: &mut Output, cells: &[u8; MOST_CELLS], lies: Lies, i: usize, j: usize) {
     if is_wall(lies, i, j) {
-        text(b"|");
+        text(out, b"|");
     } else {
-        text(b" ");
+        text(out, b" ");
     }
     if cell(cells, i, j) {
-        text(b"#");
+        text(out, b"#");
     } else {
-        text(b".");
+        text(out, b".");
     }
 }
 
 // A row of cells from left to right.
-fn print_row(cells: &[u8; MOST_CELLS], columns: usize, lies: Lies, j: usize) {
-    text(b"   row");
-    padded(j as u64, 3);
-    text(b"  ");
+fn print_row(out: &mut Output, cells: &[u8; MOST_CELLS], columns: usize, lies: Lies, j: usize) {
+    text(out, b"   row");
+    padded(out, j as u64, 3);
+    text(out, b"  ");
     let mut i = 0;
     while i < columns {
-        print_cell(cells, lies, i, j);
+        print_cell(out, cells, lies, i, j);
         i += 1;
     }
     if is_wall(lies, columns, j) {
-        text(b"|");
+        text(out, b"|");
     }
-    line_end();
+    line_end(out);
 }
 
 // Of a level edge the part above or below the column i.
-fn print_dash(lies: Lies, i: usize) {
+fn print_dash(out: &mut Output, lies: Lies, i: usize) {
     if between(lies.from, i, lies.to) {
-        text(b" -");
+        text(out, b" -");
     }
     if i < lies.from {
-        text(b"  ");
+        text(out, b"  ");
     }
 }
 
 // The line below row j, where the edge is level and lies on it.
-fn print_level(columns: usize, lies: Lies, j: usize) {
+fn print_level(out: &mut Output, columns: usize, lies: Lies, j: usize) {
     let upright = lies.upright;
     if upright {
         return;
@@ -157,66 +158,67 @@ fn print_level(columns: usize, lies: Lies, j: usize) {
     if lies.line != j {
         return;
     }
-    text(b"           ");
+    text(out, b"           ");
     let mut i = 0;
     while i < columns {
-        print_dash(lies, i);
+        print_dash(out, lies, i);
         i += 1;
     }
-    line_end();
+    line_end(out);
 }
 
 // The rows of cells, the highest first, as one sees the drawing.
-fn print_rows(cells: &[u8; MOST_CELLS], grid: Grid, lies: Lies) {
+fn print_rows(out: &mut Output, cells: &[u8; MOST_CELLS], grid: Grid, lies: Lies) {
     let columns = grid.columns;
     let mut j = grid.rows;
     while 0 < j {
-        print_level(columns, lies, j);
+        print_level(out, columns, lies, j);
         j -= 1;
-        print_row(cells, columns, lies, j);
+        print_row(out, cells, columns, lies, j);
     }
-    print_level(columns, lies, 0);
+    print_level(out, columns, lies, 0);
 }
 
 // Which lines the edge lies on.
-fn print_lies(lies: Lies) {
+fn print_lies(out: &mut Output, lies: Lies) {
     let upright = lies.upright;
     if upright {
-        text(b"   the edge lies on x line");
+        text(out, b"   the edge lies on x line");
     } else {
-        text(b"   the edge lies on y line");
+        text(out, b"   the edge lies on y line");
     }
-    spaced(lies.line as u64);
+    spaced(out, lies.line as u64);
     if upright {
-        text(b", from y line");
+        text(out, b", from y line");
     } else {
-        text(b", from x line");
+        text(out, b", from x line");
     }
-    spaced(lies.from as u64);
-    text(b" to");
-    spaced(lies.to as u64);
-    line_end();
+    spaced(out, lies.from as u64);
+    text(out, b" to");
+    spaced(out, lies.to as u64);
+    line_end(out);
 }
 
 // Step 3: lines and cells.
 pub fn print_grid(
+    out: &mut Output,
     xs: &[u16; MOST_LINES],
     ys: &[u16; MOST_LINES],
     cells: &[u8; MOST_CELLS],
     grid: Grid,
     lies: Lies,
 ) {
-    text(b"\n3. Lines and cells\n\n   x line");
-    line_numbers(grid.columns);
-    text(b"   x =   ");
-    line_places(xs, grid.columns);
-    text(b"   y line");
-    line_numbers(grid.rows);
-    text(b"   y =   ");
-    line_places(ys, grid.rows);
-    print_lies(lies);
-    text(b"   # inside, . outside, | or - the edge\n");
-    print_rows(cells, grid, lies);
+    text(out, b"\n3. Lines and cells\n\n   x line");
+    line_numbers(out, grid.columns);
+    text(out, b"   x =   ");
+    line_places(out, xs, grid.columns);
+    text(out, b"   y line");
+    line_numbers(out, grid.rows);
+    text(out, b"   y =   ");
+    line_places(out, ys, grid.rows);
+    print_lies(out, lies);
+    text(out, b"   # inside, . outside, | or - the edge\n");
+    print_rows(out, cells, grid, lies);
 }
 
 // Whether the cell on the low side of the edge is inside, in its part number n along it: left of an upright one, below a level one.
@@ -265,75 +267,88 @@ pub fn side(cells: &[u8; MOST_CELLS], lies: Lies, n: usize) -> u8 {
 }
 
 // A side in a word.
-pub fn print_side(side: u8) {
+pub fn print_side(out: &mut Output, side: u8) {
     if side == 1 {
-        text(b"left");
+        text(out, b"left");
     }
     if side == 2 {
-        text(b"right");
+        text(out, b"right");
     }
     if side == 3 {
-        text(b"bottom");
+        text(out, b"bottom");
     }
     if side == 4 {
-        text(b"top");
+        text(out, b"top");
     }
 }
 
 // Inside or outside, in words of one length.
-fn print_inside(inside: bool) {
+fn print_inside(out: &mut Output, inside: bool) {
     if inside {
-        text(b"inside ");
+        text(out, b"inside ");
     } else {
-        text(b"outside");
+        text(out, b"outside");
     }
 }
 
 // What lies on either side of a part of the edge between two lines, and so which side of the figure it is.
-fn print_part(cells: &[u8; MOST_CELLS], lies: Lies, along: &[u16; MOST_LINES], n: usize) {
-    text(b"   from");
-    padded(wide(place(along, n)), 6);
-    text(b" to");
+fn print_part(
+    out: &mut Output,
+    cells: &[u8; MOST_CELLS],
+    lies: Lies,
+    along: &[u16; MOST_LINES],
+    n: usize,
+) {
+    text(out, b"   from");
+    padded(out, wide(place(along, n)), 6);
+    text(out, b" to");
     if n < 15 {
-        padded(wide(place(along, n + 1)), 6);
+        padded(out, wide(place(along, n + 1)), 6);
     }
-    text(b"   ");
-    print_inside(low_cell(cells, lies, n));
-    text(b"   ");
-    print_inside(high_cell(cells, lies, n));
-    text(b"   ");
+    text(out, b"   ");
+    print_inside(out, low_cell(cells, lies, n));
+    text(out, b"   ");
+    print_inside(out, high_cell(cells, lies, n));
+    text(out, b"   ");
     if side(cells, lies, n) == 0 {
-        text(b"no wall");
+        text(out, b"no wall");
     } else {
-        print_side(side(cells, lies, n));
+        print_side(out, side(cells, lies, n));
     }
-    line_end();
+    line_end(out);
 }
 
 // Each part of the edge from its low end to its high end.
-fn each_part(cells: &[u8; MOST_CELLS], lies: Lies, along: &[u16; MOST_LINES]) {
+fn each_part(out: &mut Output, cells: &[u8; MOST_CELLS], lies: Lies, along: &[u16; MOST_LINES]) {
     let to = lies.to;
     let mut n = lies.from;
     while n < to {
-        print_part(cells, lies, along, n);
+        print_part(out, cells, lies, along, n);
         n += 1;
     }
 }
 
 // Step 4: exposure, the side of the figure along the edge.
 pub fn print_exposure(
+    out: &mut Output,
     xs: &[u16; MOST_LINES],
     ys: &[u16; MOST_LINES],
     cells: &[u8; MOST_CELLS],
     lies: Lies,
 ) {
     let upright = lies.upright;
-    text(b"\n4. Exposure\n\n");
+    text(out, b"\n4. Exposure\n\n");
     if upright {
-        text(b"                         left      right     side of the figure\n");
-        each_part(cells, lies, ys);
+        text(
+            out,
+            b"                         left      right     side of the figure\n",
+        );
+        each_part(out, cells, lies, ys);
     } else {
-        text(b"                         below     above     side of the figure\n");
-        each_part(cells, lies, xs);
+        text(
+            out,
+            b"                         below     above     side of the figure\n",
+        );
+        each_part(out, cells, lies, xs);
     }
 }

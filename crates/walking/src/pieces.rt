@@ -5,6 +5,7 @@ use crate::lines::{Grid, Lies, between, cell, place, side};
 use crate::words::{cost, line_end, padded, spaced, text};
 use outline::{Line, MOST_CELLS, MOST_LINES};
 use table::numbering::entry;
+use terminal::output::Output;
 
 // A piece: between the x lines a < c and the y lines b < d.
 #[derive(Clone, Copy)]
@@ -207,17 +208,17 @@ fn span(low: u16, high: u16) -> u64
 }
 
 // The lines of a piece, its entry and its cost.
-pub fn print_piece(table: &[u32], grid: Grid, p: Piece) {
-    text(b"x lines");
-    padded(p.a as u64, 3);
-    padded(p.c as u64, 3);
-    text(b"  y lines");
-    padded(p.b as u64, 3);
-    padded(p.d as u64, 3);
-    text(b": entry");
-    padded(entry_of(grid, p) as u64, 6);
-    text(b"  cost");
-    padded(cost_of(table, grid, p), 11);
+pub fn print_piece(out: &mut Output, table: &[u32], grid: Grid, p: Piece) {
+    text(out, b"x lines");
+    padded(out, p.a as u64, 3);
+    padded(out, p.c as u64, 3);
+    text(out, b"  y lines");
+    padded(out, p.b as u64, 3);
+    padded(out, p.d as u64, 3);
+    text(out, b": entry");
+    padded(out, entry_of(grid, p) as u64, 6);
+    text(out, b"  cost");
+    padded(out, cost_of(table, grid, p), 11);
 }
 
 // What makes a shot cost more than 1,000: so much of its long sides is wall.
@@ -251,28 +252,29 @@ fn longer(width: u64, height: u64) -> u64
 
 // A shot of this width and height at this cost: whether it is narrow, and how much of its two longer sides counts. Gives whether some
 // of them does not.
-fn print_shot(width: u64, height: u64, charged: u64, rule: Charge) -> bool
+fn print_shot(out: &mut Output, width: u64, height: u64, charged: u64, rule: Charge) -> bool
     requires { (width ≤ 65535) × (height ≤ 65535) }
 {
     let narrow = shorter(width, height);
     let long = longer(width, height);
     let weight = rule.weight;
     if rule.threshold <= narrow || weight == 0 {
-        text(b"  a shot");
+        text(out, b"  a shot");
         return false;
     }
     let counts = sliver(charged, weight);
-    text(b"  a sliver,");
-    spaced(narrow);
-    text(b" nm: 1000 +");
-    spaced(weight);
-    text(b" x");
-    spaced(counts);
+    text(out, b"  a sliver,");
+    spaced(out, narrow);
+    text(out, b" nm: 1000 +");
+    spaced(out, weight);
+    text(out, b" x");
+    spaced(out, counts);
     counts < 2 * long
 }
 
 // What becomes of a piece, where it is one shot. Gives whether it is a sliver with a side that is no wall.
 pub fn print_kind(
+    out: &mut Output,
     table: &[u32],
     grid: Grid,
     xs: &[u16; MOST_LINES],
@@ -286,11 +288,12 @@ pub fn print_kind(
     }
     let width = extent(xs, p.a, p.c);
     let height = extent(ys, p.b, p.d);
-    print_shot(width, height, cost_of(table, grid, p), rule)
+    print_shot(out, width, height, cost_of(table, grid, p), rule)
 }
 
 // A piece on a line of its own. Gives whether it is a sliver with a side that is no wall.
 fn print_held(
+    out: &mut Output,
     table: &[u32],
     grid: Grid,
     xs: &[u16; MOST_LINES],
@@ -299,16 +302,17 @@ fn print_held(
     p: Piece,
     rule: Charge,
 ) -> bool {
-    text(b"   piece ");
-    print_piece(table, grid, p);
-    let spared = print_kind(table, grid, xs, ys, cells, p, rule);
-    line_end();
+    text(out, b"   piece ");
+    print_piece(out, table, grid, p);
+    let spared = print_kind(out, table, grid, xs, ys, cells, p, rule);
+    line_end(out);
     spared
 }
 
 // The four lines of number n: told where they are a piece that holds something of the edge. Gives whether this piece or one before it
 // is a sliver with a side that is no wall.
 fn held_piece(
+    out: &mut Output,
     table: &[u32],
     grid: Grid,
     xs: &[u16; MOST_LINES],
@@ -322,12 +326,13 @@ fn held_piece(
     if !is_held(cells, grid, lies, n) {
         return spared;
     }
-    let here = print_held(table, grid, xs, ys, cells, named(n), rule);
+    let here = print_held(out, table, grid, xs, ys, cells, named(n), rule);
     here || spared
 }
 
 // Every piece that holds something of the edge, in the order of entries.
 fn each_held(
+    out: &mut Output,
     table: &[u32],
     grid: Grid,
     xs: &[u16; MOST_LINES],
@@ -339,20 +344,27 @@ fn each_held(
     let mut spared = false;
     let mut n = 0;
     while n < FOUR_LINES {
-        spared = held_piece(table, grid, xs, ys, cells, lies, rule, n, spared);
+        spared = held_piece(out, table, grid, xs, ys, cells, lies, rule, n, spared);
         n += 1;
     }
     spared
 }
 
 // The first mistake that newcomers make.
-fn print_spared() {
-    text(b"   Mistake: a narrow shot is charged along all its sides.\n");
-    text(b"   It is charged along its two longer sides, and there only where they are walls.\n");
+fn print_spared(out: &mut Output) {
+    text(
+        out,
+        b"   Mistake: a narrow shot is charged along all its sides.\n",
+    );
+    text(
+        out,
+        b"   It is charged along its two longer sides, and there only where they are walls.\n",
+    );
 }
 
 // Step 5: the pieces that hold the edge. Of a large grid their number alone is told: those on the way from the frame follow in step 6.
 pub fn print_pieces(
+    out: &mut Output,
     table: &[u32],
     grid: Grid,
     xs: &[u16; MOST_LINES],
@@ -361,15 +373,18 @@ pub fn print_pieces(
     lies: Lies,
     rule: Charge,
 ) {
-    text(b"\n5. The pieces that hold the edge\n\n  ");
+    text(out, b"\n5. The pieces that hold the edge\n\n  ");
     let count = count_held(cells, grid, lies);
-    spaced(count as u64);
+    spaced(out, count as u64);
     if MOST_LISTED < count {
-        text(b" pieces; those on the way from the frame stand in step 6\n");
+        text(
+            out,
+            b" pieces; those on the way from the frame stand in step 6\n",
+        );
         return;
     }
-    text(b" pieces\n");
-    if each_held(table, grid, xs, ys, cells, lies, rule) {
-        print_spared();
+    text(out, b" pieces\n");
+    if each_held(out, table, grid, xs, ys, cells, lies, rule) {
+        print_spared(out);
     }
 }

@@ -1,52 +1,52 @@
 // Words and numbers on standard output, numbers also in columns.
 ghost use Rattle.std.specs.Prelude.{◌≤◌};
 
-use terminal::output::write_now;
+use terminal::output::{Output, write_now};
 
 // Some words.
-pub fn text(words: &[u8]) {
-    write_now(words);
+pub fn text(out: &mut Output, words: &[u8]) {
+    write_now(out, words);
 }
 
 // The end of a line.
-pub fn line_end() {
-    text(b"\n");
+pub fn line_end(out: &mut Output) {
+    text(out, b"\n");
 }
 
 // A number.
-pub fn decimal(n: u64) {
+pub fn decimal(out: &mut Output, n: u64) {
     let mut digits = [0u8; 20];
     let count = io::decimal(n, &mut digits);
-    text(&digits[..count]);
+    text(out, &digits[..count]);
 }
 
 // A number behind a blank.
-pub fn spaced(n: u64) {
-    text(b" ");
-    decimal(n);
+pub fn spaced(out: &mut Output, n: u64) {
+    text(out, b" ");
+    decimal(out, n);
 }
 
 // The first n of some words.
-fn text_front(words: &[u8], n: usize) {
+fn text_front(out: &mut Output, words: &[u8], n: usize) {
     let start = 0;
     if n <= words.len() {
-        text(&words[start..n]);
+        text(out, &words[start..n]);
     }
 }
 
 // So many blanks, no more than twelve.
-fn blanks(n: usize) {
-    text_front(b"            ", n);
+fn blanks(out: &mut Output, n: usize) {
+    text_front(out, b"            ", n);
 }
 
 // A number at the right end of so many places.
-pub fn padded(n: u64, places: usize) {
+pub fn padded(out: &mut Output, n: u64, places: usize) {
     let mut digits = [0u8; 20];
     let count = io::decimal(n, &mut digits);
     if count < places {
-        blanks(places - count);
+        blanks(out, places - count);
     }
-    text(&digits[..count]);
+    text(out, &digits[..count]);
 }
 
 // A place, a cell or a cost as a number to print.

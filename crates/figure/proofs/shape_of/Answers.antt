@@ -1,6 +1,5 @@
 -- `figure::shape_of` meets its contract. Each test passed is one condition that does not hold. Assumes nothing.
 use mathlib.Core.Path.{sym, ◌∙◌}
-use borrow.Author.Rules.{rules}
 use borrow.Author.Tests.{not-true, not-false}
 use Rattle.figure.proofs.Crooked.{fault-right_angled, fault-unturned}
 use Rattle.figure.proofs.Fault.{fault_2, fault_3}
@@ -23,7 +22,9 @@ returns-then-slanted c = record { settled = fault_3 _ (sym c.bad_figure.ensures 
 
 pub returns : goal.returns
 returns c =
-    record { settled = fault-unturned _
-    (sym c.bad_figure.ensures ∙ c.if-bad_figure.false)
-    (sym c.crooked.ensures ∙ not-false _ c.if-not-crooked.false-raw)
-    (sym c.slanted.ensures ∙ c.if-slanted.false) }
+    record {
+      settled = fault-unturned _
+          (sym c.bad_figure.ensures ∙ c.if-bad_figure.false)
+          (sym c.crooked.ensures ∙ not-false _ c.if-not-crooked.false-raw)
+          (sym c.slanted.ensures ∙ c.if-slanted.false);
+    }

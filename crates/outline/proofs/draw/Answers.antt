@@ -1,9 +1,6 @@
 -- `outline::draw` meets its contract: a right_angled figure is plotted, and any other refused for its shape. Assumes nothing.
 use mathlib.Core.Path.{sym}
-use borrow.Author.Rules.{rules}
-use Rattle.figure.specs.Figure.{shape_no}
 use Rattle.figure.proofs.Fault.{fault-right}
-use Rattle.refusal.proofs.Refusals.{told_as}
 use Rattle.outline.proofs.Promise.{promise_fault}
 use Rattle.outline.proofs.draw.Goals as goal
 

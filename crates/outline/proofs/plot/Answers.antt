@@ -1,7 +1,6 @@
 -- `outline::plot` meets its contract. The whole grid was drawn; it is refused where no cell is 1. Assumes nothing.
 use native.Mathlib.Omega.{arith}
 use borrow.Author.Tests.{not-true, not-false}
-use borrow.Author.Rules.{rules}
 use Rattle.outline.specs.Promise.{sheet}
 use Rattle.outline.proofs.Promise.{promise_empty, promise_accepted}
 use Rattle.outline.proofs.plot.Goals as goal

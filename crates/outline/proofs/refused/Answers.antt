@@ -1,5 +1,4 @@
 -- `outline::refused` meets its contract. Assumes nothing.
-use borrow.Author.Rules.{rules}
 use Rattle.outline.proofs.Promise.{sheet-without}
 use Rattle.outline.proofs.refused.Goals as goal
 

@@ -2,7 +2,6 @@
 use mathlib.Core.Path.{sym, ◌∙◌, ap}
 use native.Mathlib.Omega.{arith}
 use lib.ListN.{length}
-use borrow.Author.Rules.{rules}
 use Rattle.figure.specs.declared.Axis.TheVariants.{X, Y}
 use Rattle.figure.proofs.Sharing.{corners-whole}
 use Rattle.outline.specs.Lines.{lines}

@@ -1,8 +1,6 @@
 -- `rule::longer` meets its contract: by which extent is the lesser. Assumes nothing.
-use Prim.Native.Nat.{max}
-use mathlib.Core.Path.{◌≡◌, sym, ◌∙◌, ap}
+use mathlib.Core.Path.{sym}
 use native.Mathlib.Omega.{arith}
-use Rattle.rule.specs.Charge.{longer}
 use Rattle.rule.proofs.Charge.{longer-upright, longer_level, longer-even}
 use Rattle.rule.proofs.longer.Goals as goal
 

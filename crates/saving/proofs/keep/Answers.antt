@@ -1,10 +1,6 @@
 -- `keep` meets its contract: those read so far are read in a row. Assumes nothing.
-use Prim.Native.Nat.{◌-◌, ◌≤◌}
 use native.Mathlib.Omega.{arith}
-use Rattle.refusal.proofs.Refusals.{told_as}
-use Rattle.job.specs.Steps.{located_told}
-use Rattle.saving.proofs.Keeping.{Keeping, keeping_start, keeping_more, keeping_fault, keeping_done}
-use borrow.Author.Rules.{rules}
+use Rattle.saving.proofs.Keeping.{keeping_start, keeping_more, keeping_fault, keeping_done}
 use Rattle.saving.proofs.keep.Goals as goal
 
 pub loop-n-init : goal.loop-n-init

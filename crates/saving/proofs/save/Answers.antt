@@ -1,11 +1,8 @@
 -- `save` meets its contract, by the way that it ends. Assumes nothing.
 use native.Mathlib.Omega.{arith}
-use Rattle.refusal.proofs.Refusals.{told_as}
 use Rattle.number.proofs.Bytes.{AllBytes}
-use Rattle.job.specs.Steps.{head_told}
 use Rattle.saving.proofs.Saves.{header-range, saves_long, saves_fault, saves_within, saves_range, saves_short, saves_room, saves_done}
 use mathlib.Core.Path.{sym}
-use borrow.Author.Rules.{rules}
 use Rattle.saving.proofs.save.Goals as goal
 
 pub returns-then-job-gt-MOST_BYTES : goal.returns-then-job-gt-MOST_BYTES

@@ -4,7 +4,6 @@ use native.Mathlib.Omega.{arith}
 use lib.ListN.{length}
 use Rattle.index.proofs.Anew.{header-known, header_never}
 use Rattle.saving.proofs.Saves.{kept-room, kept-fits}
-use borrow.Author.Rules.{rules}
 use Rattle.saving.proofs.write_kept.Goals as goal
 
 pub overflow_add-bytes : goal.overflow_add-bytes

@@ -1,14 +1,10 @@
 -- `shallow::fill` meets its contract: the strips that begin at the line a or above are filled. Assumes nothing.
-use Prim.Native.Nat.{◌+◌, ◌-◌, ◌≤◌}
+use Prim.Native.Nat.{◌+◌, ◌≤◌}
 use mathlib.Core.Path.{◌≡◌}
-use native.Mathlib.Omega.{arith}
 use Rattle.outline.specs.Grid.{stored}
 use Rattle.piece.specs.declared.Mode.TheVariants.{Straight}
 use Rattle.table.specs.Entry.{pairs_below, entry_count}
 use Rattle.table.specs.Fill.{Reached, Beyond}
-use Rattle.table.proofs.Pairs.{first-all, first_back, first-enough}
-use Rattle.table.proofs.Fill.{beyond-none, beyond_trans, ready_later, fill_limits, fill_none, fill_back, fill_all}
-use borrow.Author.Rules.{rules}
 use Rattle.shallow.proofs.fill.Given as goal
 
 abbrev pub invariant-loop-a : goal.invariant-loop-a

@@ -2,7 +2,6 @@
 use mathlib.Core.Path.{◌≡◌}
 use Rattle.table.proofs.Fill.{fill_limits}
 use Rattle.shallow.proofs.Filling.{to-ready, to-reached, back-filled, five-left}
-use borrow.Author.Rules.{rules}
 use Rattle.shallow.proofs.fill_from.Goals as goal
 
 pub fill_one-requires : goal.fill_one-requires

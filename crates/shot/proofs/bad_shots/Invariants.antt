@@ -1,9 +1,7 @@
 -- `shot::bad_shots` meets its contract. The invariant: what 21 says is told by the shots from this place on. Assumes nothing.
 use Prim.Native.Nat.{◌-◌}
-use native.Mathlib.Omega.{arith}
-use borrow.Author.Rules.{rules}
 use lib.ListN.{length}
-use Rattle.shot.proofs.Bad.{Passed, passed_start, passed-empty, passed-more, passed-end, uneven_bad}
+use Rattle.shot.proofs.Bad.{Passed}
 use Rattle.shot.proofs.bad_shots.Given as goal
 
 abbrev pub invariant-loop-at : goal.invariant-loop-at

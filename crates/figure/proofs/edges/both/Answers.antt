@@ -1,5 +1,4 @@
 -- `figure::edges::both` meets its contract. Both tests are made one after the other. Assumes nothing.
-use borrow.Author.Rules.{rules}
 use Rattle.figure.specs.Corners.{both}
 use Rattle.figure.proofs.Corners
 use Rattle.figure.proofs.edges.both.Goals as goal

@@ -1,7 +1,6 @@
 -- `figure::edges::crooked` meets its contract. The invariant: the edges passed change x and y by turns. Assumes nothing.
-use Prim.Native.Nat.{◌-◌}
 use borrow.Author.Rules.{rules}
-use Rattle.figure.proofs.Crooked.{Square, square-start, square-more, square-end, crooked-edge, crooked-turn}
+use Rattle.figure.proofs.Crooked.{square-start, square-more, square-end, crooked-edge, crooked-turn}
 use Rattle.figure.proofs.edges.crooked.Goals as goal
 
 pub loop-turn-init : goal.loop-turn-init

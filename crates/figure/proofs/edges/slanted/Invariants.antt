@@ -1,12 +1,9 @@
 -- `figure::edges::slanted` meets its contract. The invariant: no edge passed so far changes both coordinates. Assumes nothing.
 use Prim.Native.Nat.{ℕ, ◌<◌, ◌-◌}
-use mathlib.Core.Path.{◌≡◌, sym, ◌∙◌}
+use mathlib.Core.Path.{◌≡◌}
 use mathlib.Core.Bool.{false}
-use borrow.Author.Count.{below_none, below_more}
-use borrow.Author.Rules.{rules}
 use Rattle.figure.specs.Corners.{both}
 use Rattle.figure.specs.Steps.{edge}
-use Rattle.figure.proofs.Corners
 use Rattle.figure.proofs.edges.slanted.Given as goal
 
 abbrev pub invariant-loop-end : goal.invariant-loop-end

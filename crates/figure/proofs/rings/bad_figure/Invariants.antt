@@ -1,8 +1,6 @@
 -- `figure::rings::bad_figure` meets its contract. The invariant: the lengths so far are good, and this is their sum. Assumes nothing.
 use Prim.Native.Nat.{◌-◌}
-use borrow.Author.Rules.{rules}
 use Rattle.figure.proofs.Walking.{Added}
-use Rattle.figure.proofs.Walking as walk
 use Rattle.figure.proofs.rings.bad_figure.Given as goal
 
 abbrev pub invariant-loop-k : goal.invariant-loop-k

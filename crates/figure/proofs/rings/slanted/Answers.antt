@@ -1,9 +1,7 @@
 -- `figure::rings::slanted` meets its contract. The invariant: what is asked is told by the rings from this one on. Assumes nothing.
-use Prim.Native.Nat.{◌-◌, ◌≤◌}
 use mathlib.Core.Path.{refl, sym, ◌∙◌}
 use native.Mathlib.Omega.{arith}
 use borrow.Author.Rules.{rules}
-use Rattle.figure.specs.Corners as t
 use Rattle.figure.proofs.Walking.{Left}
 use Rattle.figure.proofs.Walking as walk
 use Rattle.figure.proofs.rings.slanted.Goals as goal
@@ -26,12 +24,11 @@ returns-then-slanted c =
     (sym c.slanted.ensures ∙ c.if-slanted.true)
 
 pub loop-k-preserved : goal.loop-k-preserved
-loop-k-preserved c =
-    (
-      search rules,
-      walk.left-more _ _ _ _ _ _ _ c.loop-k.invariant.1 (search rules) c.wide.ensures refl
-          (sym c.slanted.ensures ∙ c.if-slanted.false),
-    )
+loop-k-preserved c = (
+  search rules,
+  walk.left-more _ _ _ _ _ _ _ c.loop-k.invariant.1 (search rules) c.wide.ensures refl
+      (sym c.slanted.ensures ∙ c.if-slanted.false),
+)
 
 pub returns : goal.returns
 returns c = walk.left_end _ _ _ _ _ c.loop-k.invariant.1 (search rules)

@@ -1,11 +1,7 @@
 -- `figure::rings::slanted` meets its contract. The invariant: what is asked is told by the rings from this one on. Assumes nothing.
-use Prim.Native.Nat.{◌-◌, ◌≤◌}
-use mathlib.Core.Path.{refl, sym, ◌∙◌}
-use native.Mathlib.Omega.{arith}
-use borrow.Author.Rules.{rules}
+use Prim.Native.Nat.{◌≤◌}
 use Rattle.figure.specs.Corners as t
 use Rattle.figure.proofs.Walking.{Left}
-use Rattle.figure.proofs.Walking as walk
 use Rattle.figure.proofs.rings.slanted.Given as goal
 
 abbrev pub invariant-loop-k : goal.invariant-loop-k

@@ -1,18 +1,14 @@
 -- `append` meets its contract: each exit is a case of `appended`. Assumes nothing.
-use Prim.Native.Nat.{ℕ, ◌-◌, ◌≤◌}
-use mathlib.Core.List.{List}
+use Prim.Native.Nat.{ℕ, ◌-◌}
 use mathlib.Core.Path.{refl, sym, ap, ◌∙◌}
 use native.Mathlib.Omega.{arith}
 use lib.ListN.{length}
 use Rattle.number.proofs.Bytes.{AllBytes}
-use Rattle.refusal.proofs.Refusals.{told_as}
 use Rattle.figure.specs.Figure.{figure}
 use Rattle.job.specs.Job.{most_bytes}
-use Rattle.job.specs.Steps.{head_told}
 use Rattle.job.proofs.Calls.{read_whole}
 use Rattle.index.proofs.Anew.{front-short, figure-known, figure-refused}
 use Rattle.index.proofs.Made.{all_words, run_short, first-within, append-parted, append-is, append-fault, append_bad, append-full}
-use borrow.Author.Rules.{rules}
 use Rattle.index.proofs.changing.append.Goals as goal
 
 pub returns-then-k-ge-MOST_OUTLINES : goal.returns-then-k-ge-MOST_OUTLINES

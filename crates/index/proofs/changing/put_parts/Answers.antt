@@ -4,7 +4,6 @@ use native.Mathlib.Omega.{arith}
 use lib.ListN.{length}
 use lib.Seq.{length-sets}
 use Rattle.index.proofs.Anew.{parts-length, parts-put}
-use borrow.Author.Rules.{rules}
 use Rattle.index.proofs.changing.put_parts.Goals as goal
 
 pub put_bytes-requires : goal.put_bytes-requires

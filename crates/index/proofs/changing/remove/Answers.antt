@@ -1,16 +1,12 @@
 -- `remove` meets its contract: each exit is a case of `removed`. Assumes nothing.
 use Prim.Native.Nat.{ℕ, ◌-◌, ◌≤◌}
-use mathlib.Core.List.{List}
 use mathlib.Core.Path.{refl}
 use native.Mathlib.Omega.{arith}
 use lib.ListN.{length}
 use Rattle.number.proofs.Bytes.{AllBytes}
-use Rattle.refusal.proofs.Refusals.{told_as}
-use Rattle.job.specs.Steps.{head_told, located_told}
 use Rattle.job.proofs.Calls.{read_whole, located-nth, taken_never}
 use Rattle.index.proofs.Within.{found_within}
 use Rattle.index.proofs.Made.{run_short, first-within, remove_parted, remove_is, remove_fault, remove_missing}
-use borrow.Author.Rules.{rules}
 use Rattle.index.proofs.changing.remove.Goals as goal
 
 pub returns-then-count-k : goal.returns-then-count-k

@@ -8,7 +8,6 @@ use Rattle.job.specs.Bytes.{header_bytes}
 use Rattle.job.specs.Job.{most_bytes}
 use lib.Seq.{length-sets, length-take-le, sets}
 use Rattle.index.proofs.Anew.{header-known, header_never, parts-length, parts-fit, front-short, anew_long, anew_out, anew_index, anew_done}
-use borrow.Author.Rules.{rules}
 use Rattle.index.proofs.changing.write_anew.Goals as goal
 
 pub overflow_add-bytes : goal.overflow_add-bytes

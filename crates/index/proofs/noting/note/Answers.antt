@@ -1,11 +1,7 @@
 -- `note` meets its contract: those read so far are read in a row, and their starts are stored. Assumes nothing.
-use Prim.Native.Nat.{◌-◌, ◌≤◌}
-use mathlib.Core.Path.{◌≡◌, refl}
+use mathlib.Core.Path.{refl}
 use native.Mathlib.Omega.{arith}
-use lib.ListN.{length}
-use Rattle.refusal.proofs.Refusals.{told_as}
-use Rattle.job.specs.Steps.{located_told}
-use Rattle.index.proofs.Starts.{Noting, noting_start, noting_more, noting_fault, noting_done, here-within}
+use Rattle.index.proofs.Starts.{noting_start, noting_more, noting_fault, noting_done, here-within}
 use borrow.Author.Rules.{rules}
 use Rattle.index.proofs.noting.note.Goals as goal
 

@@ -2,11 +2,10 @@
 use mathlib.Core.Path.{sym}
 use native.Mathlib.Omega.{arith}
 use Rattle.refusal.proofs.Refusals.{told_as}
-use Rattle.job.specs.Steps.{head_told, past_told}
+use Rattle.job.specs.Steps.{past_told}
 use Rattle.job.proofs.Accepted.{header-range}
 use Rattle.job.proofs.Job.{job-long, job-header, job-outlines, job_extra}
 use Rattle.index.proofs.Opens.{opened-fault, opened-front, opened-room, opened-fits}
-use borrow.Author.Rules.{rules}
 use Rattle.index.proofs.opening.open.Goals as goal
 
 pub returns-then-job-gt-MOST_BYTES : goal.returns-then-job-gt-MOST_BYTES

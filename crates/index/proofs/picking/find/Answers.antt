@@ -1,7 +1,6 @@
 -- `find` meets its contract: each exit is a case of `found`. Assumes nothing.
 use native.Mathlib.Omega.{arith}
 use Rattle.index.proofs.Starts.{found-long, found-count, found-room, found_here}
-use borrow.Author.Rules.{rules}
 use Rattle.index.proofs.picking.find.Goals as goal
 
 pub returns-then-job-gt-MOST_BYTES : goal.returns-then-job-gt-MOST_BYTES

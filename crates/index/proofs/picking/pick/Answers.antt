@@ -1,9 +1,6 @@
 -- `pick` meets its contract: what `find` tells, as that part of the job's own bytes. Assumes nothing.
 use native.Mathlib.Omega.{arith}
-use Rattle.refusal.proofs.Refusals.{told_as}
-use Rattle.job.specs.Steps.{located_told}
 use Rattle.index.proofs.Starts.{picked-fault, picked-part, picked-within, at-fault, at_part}
-use borrow.Author.Rules.{rules}
 use Rattle.index.proofs.picking.pick.Goals as goal
 
 pub slice_bounds-result-count-in-Part : goal.slice_bounds-result-count-in-Part

@@ -1,5 +1,4 @@
 -- `announces` meets its contract: a byte 0 stands there, or the bytes end. Assumes nothing.
-use borrow.Author.Rules.{rules}
 use Rattle.job.proofs.Job.{announces-none, announces_byte}
 use Rattle.job.proofs.read.announces.Goals as goal
 

@@ -1,7 +1,6 @@
 -- `begin` meets its contract: the number that 0 announces, or one ring. Assumes nothing.
 use mathlib.Core.Path.{sym, ◌∙◌}
 use native.Mathlib.Omega.{arith}
-use borrow.Author.Rules.{rules}
 use Rattle.job.proofs.Job.{announces_true, begun-many, begun-one}
 use Rattle.job.proofs.read.begin.Goals as goal
 

@@ -1,8 +1,5 @@
 -- `check` meets its contract: what `whole` tells, without the place of the first outline. Assumes nothing.
-use Rattle.refusal.proofs.Refusals.{told_as}
-use Rattle.job.specs.Steps.{head_told}
 use Rattle.job.proofs.Calls.{checked-fault, checked-read}
-use borrow.Author.Rules.{rules}
 use Rattle.job.proofs.read.check.Goals as goal
 
 pub returns-in-Fault : goal.returns-in-Fault

@@ -1,13 +1,7 @@
 -- `coordinates` meets its contract: what is left to read from here gives what the whole gives. Assumes nothing.
 use Prim.Native.Nat.{◌≤◌, ◌-◌}
-use mathlib.Core.Path.{◌≡◌, ◌∙◌, sym, ap}
-use native.Mathlib.Nat.{sub-zero}
-use native.Mathlib.Omega.{arith}
-use borrow.Author.Rules.{rules}
-use Rattle.number.specs.Number.{read_told}
+use mathlib.Core.Path.{◌≡◌}
 use Rattle.number.specs.Reading.{past}
-use Rattle.refusal.proofs.Refusals.{told_as}
-use Rattle.number.proofs.Reading.{many-more-left, many-stop-left, many-done-left}
 use Rattle.job.specs.Job.{coordinates}
 use Rattle.job.proofs.read.coordinates.Given as goal
 

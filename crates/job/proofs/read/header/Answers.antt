@@ -1,8 +1,5 @@
 -- `header` meets its contract: each exit is a case of the definition's `header`. Assumes nothing.
-use Rattle.number.specs.Number.{read_told}
-use Rattle.refusal.proofs.Refusals.{told_as}
 use Rattle.job.proofs.Job.{header-threshold, header-weight, header-count, header_read}
-use borrow.Author.Rules.{rules}
 use Rattle.job.proofs.read.header.Goals as goal
 
 pub returns-in-Fault : goal.returns-in-Fault

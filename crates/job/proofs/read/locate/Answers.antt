@@ -1,8 +1,5 @@
 -- `locate` meets its contract: past k outlines, and then past one more. Assumes nothing.
-use Rattle.refusal.proofs.Refusals.{told_as}
-use Rattle.job.specs.Steps.{past_told}
 use Rattle.job.proofs.Calls.{located-before, located-fault, located-part}
-use borrow.Author.Rules.{rules}
 use Rattle.job.proofs.read.locate.Goals as goal
 
 pub returns-in-Fault : goal.returns-in-Fault

@@ -1,9 +1,6 @@
 -- `outline` meets its contract: by how many rings it has, and then by the rings. Assumes nothing.
 use mathlib.Core.Path.{ap}
-use borrow.Author.Rules.{rules}
-use Rattle.number.specs.Number.{read_told}
 use Rattle.number.specs.Reading.{past}
-use Rattle.refusal.proofs.Refusals.{told_as}
 use Rattle.job.proofs.Job.{outline-fault, outline-rings, outline-past}
 use Rattle.job.proofs.read.outline.Goals as goal
 

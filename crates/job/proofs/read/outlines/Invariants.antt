@@ -1,15 +1,8 @@
 -- `outlines` meets its contract: what is left to read from here gives what the whole gives. Assumes nothing.
 use Prim.Native.Nat.{◌≤◌, ◌-◌}
-use mathlib.Core.Path.{◌≡◌, ◌∙◌, sym}
-use native.Mathlib.Nat.{sub-zero}
-use native.Mathlib.Omega.{arith}
-use borrow.Author.Rules.{rules}
+use mathlib.Core.Path.{◌≡◌}
 use Rattle.number.specs.Reading.{past}
-use Rattle.refusal.proofs.Refusals.{told_as}
-use Rattle.number.proofs.Reading.{many-more-left, many-stop-left, many-done-left}
 use Rattle.job.specs.Job.{outlines}
-use Rattle.job.specs.Steps.{past_told}
-use Rattle.job.proofs.Job.{part-past}
 use Rattle.job.proofs.read.outlines.Given as goal
 
 abbrev pub invariant-loop-i : goal.invariant-loop-i

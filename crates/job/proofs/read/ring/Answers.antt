@@ -1,10 +1,6 @@
 -- `ring` meets its contract: by its V, and then by its coordinates. Assumes nothing.
 use mathlib.Core.Path.{sym}
 use native.Mathlib.Omega.{arith}
-use borrow.Author.Rules.{rules}
-use Rattle.number.specs.Number.{read_told}
-use Rattle.refusal.proofs.Refusals.{told_as}
-use Rattle.job.specs.Steps.{past_told}
 use Rattle.job.proofs.Job.{value_read, sized-V, sized-fault, sized-read}
 use Rattle.job.proofs.read.ring.Goals as goal
 

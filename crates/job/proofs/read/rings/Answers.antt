@@ -1,10 +1,6 @@
 -- `rings` meets its contract: the corners so far, and the rings still to be read from here, give what the whole gives. Assumes nothing.
-use Prim.Native.Nat.{◌-◌}
 use native.Mathlib.Omega.{arith}
-use borrow.Author.Rules.{rules}
-use Rattle.number.specs.Number.{read_told}
-use Rattle.refusal.proofs.Refusals.{told_as}
-use Rattle.job.proofs.Walking.{Counting, counting-start, counting-stop, counting_more, counting-done}
+use Rattle.job.proofs.Walking.{counting-start, counting-stop, counting_more, counting-done}
 use Rattle.job.proofs.read.rings.Goals as goal
 
 pub loop-i-init : goal.loop-i-init

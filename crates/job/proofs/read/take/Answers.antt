@@ -1,11 +1,8 @@
 -- `take` meets its contract: the job's fault, or 13, or the part that `locate` finds, which is outline k's and lies where outline k
 -- stands. Assumes nothing.
 use native.Mathlib.Omega.{arith}
-use Rattle.refusal.proofs.Refusals.{told_as}
-use Rattle.job.specs.Steps.{head_told, located_told}
 use Rattle.job.proofs.Calls.{located-within, taken-fault, taken_missing, taken_never, taken-part}
 use Rattle.job.proofs.Placing.{lies, placed-fault, placed_missing, placed-part}
-use borrow.Author.Rules.{rules}
 use Rattle.job.proofs.read.take.Goals as goal
 
 pub returns-then-count-k : goal.returns-then-count-k

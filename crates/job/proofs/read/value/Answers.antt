@@ -1,11 +1,8 @@
 -- `value` meets its contract: each exit is a case of the definition's `value`. Assumes nothing.
 use mathlib.Core.Path.{sym}
 use native.Mathlib.Omega.{arith}
-use Rattle.number.specs.Number.{read_told}
 use Rattle.number.proofs.Bytes.{number-onward}
-use Rattle.refusal.proofs.Refusals.{told_as}
 use Rattle.job.proofs.Job.{value-fault, value-under, value-over, value_in}
-use borrow.Author.Rules.{rules}
 use Rattle.job.proofs.read.value.Goals as goal
 
 -- a number has a last byte

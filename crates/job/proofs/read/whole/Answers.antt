@@ -1,10 +1,7 @@
 -- `whole` meets its contract: each exit is a case of the definition's `job`. Assumes nothing.
 use native.Mathlib.Omega.{arith}
-use Rattle.refusal.proofs.Refusals.{told_as}
-use Rattle.job.specs.Steps.{head_told, past_told}
 use Rattle.job.proofs.Job.{job-long, job-header, job-outlines, job_extra, job_read}
 use Rattle.job.proofs.Calls.{whole-fault, whole-read}
-use borrow.Author.Rules.{rules}
 use Rattle.job.proofs.read.whole.Goals as goal
 
 pub returns-then-job-gt-MOST_BYTES : goal.returns-then-job-gt-MOST_BYTES

@@ -1,13 +1,6 @@
 -- `store` meets its contract: what is stored and what is still to be read give the whole. Assumes nothing.
 use Prim.Native.Nat.{◌-◌}
-use mathlib.Core.Path.{sym}
-use native.Mathlib.Omega.{arith}
-use borrow.Author.Rules.{rules}
-use Rattle.number.specs.Number.{read_told}
-use Rattle.refusal.proofs.Refusals.{told_as}
-use Rattle.figure.specs.Figure.{most_place}
-use Rattle.job.proofs.Job.{value_read}
-use Rattle.job.proofs.Unpacking.{Storing, storing_start, storing_more, storing_never, storing_done}
+use Rattle.job.proofs.Unpacking.{Storing}
 use Rattle.job.proofs.unpack.store.Given as goal
 
 abbrev pub invariant-loop-i : goal.invariant-loop-i

@@ -1,8 +1,5 @@
 -- `store_ring` meets its contract: V is read, and then the coordinates are stored. Assumes nothing.
 use mathlib.Core.Path.{◌∙◌}
-use borrow.Author.Rules.{rules}
-use Rattle.number.specs.Number.{read_told}
-use Rattle.refusal.proofs.Refusals.{told_as}
 use Rattle.job.proofs.Job.{sized-read}
 use Rattle.job.proofs.Unpacking.{ring_never, ring-reads, ring-room, ring-stored}
 use Rattle.job.proofs.unpack.store_ring.Goals as goal

@@ -1,8 +1,6 @@
 -- `store_rings` meets its contract: the rings stored and those still to be read give the whole, in both lists. Assumes nothing.
-use Prim.Native.Nat.{◌-◌}
 use native.Mathlib.Omega.{arith}
-use borrow.Author.Rules.{rules}
-use Rattle.job.proofs.Unpacking.{Filling, filling_start, filling_ring, filling_room, filling_few, filling_more, filling_done}
+use Rattle.job.proofs.Unpacking.{filling_start, filling_ring, filling_room, filling_few, filling_more, filling_done}
 use Rattle.job.proofs.unpack.store_rings.Goals as goal
 
 pub loop-k-init : goal.loop-k-init

@@ -1,8 +1,5 @@
 -- `unpack` meets its contract: each exit is a case of `unpacked`. Assumes nothing.
 use native.Mathlib.Omega.{arith}
-use borrow.Author.Rules.{rules}
-use Rattle.number.specs.Number.{read_told}
-use Rattle.refusal.proofs.Refusals.{told_as}
 use Rattle.job.proofs.Unpacking.{shown-reads, shown-numbers, unpacked-begun, unpacked-rings, unpacked_extra, unpacked-short, unpacked-narrow, unpacked-stored}
 use Rattle.job.proofs.unpack.unpack.Goals as goal
 

@@ -1,7 +1,6 @@
 -- `announcement` meets its contract: one ring has none, others have 0 and their number. Assumes nothing.
 use mathlib.Core.List.{[]}
 use native.Mathlib.Omega.{arith}
-use borrow.Author.Rules.{rules}
 use Rattle.job.proofs.Writing.{announced_nothing, announced-length}
 use Rattle.job.proofs.write.announcement.Goals as goal
 

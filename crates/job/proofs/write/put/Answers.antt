@@ -3,7 +3,6 @@ use native.Mathlib.Omega.{arith}
 use lib.ListN.{length-set}
 use Rattle.number.proofs.Bytes.{bytes-length}
 use Rattle.job.proofs.Writing.{size-two, size-three, put_one, put_two, put_three}
-use borrow.Author.Rules.{rules}
 use Rattle.job.proofs.write.put.Goals as goal
 
 pub bounds-out-at : goal.bounds-out-at

@@ -1,13 +1,9 @@
 -- `put_all` meets its contract: what is put and what is still to be put give what the whole gives. Assumes nothing.
-use Prim.Native.Nat.{ℕ, ◌+◌, ◌-◌, ◌≤◌}
-use mathlib.Core.Path.{◌≡◌, ◌∙◌, refl, ap}
-use mathlib.Core.List.{List}
-use native.Mathlib.Omega.{arith}
-use borrow.Author.Rules.{rules}
+use Prim.Native.Nat.{◌+◌, ◌-◌, ◌≤◌}
+use mathlib.Core.Path.{◌≡◌}
 use lib.ListN.{length, drop}
-use lib.Seq.{sets, length-sets}
+use lib.Seq.{sets}
 use Rattle.job.specs.Bytes.{coordinate_bytes}
-use Rattle.job.proofs.Writing.{coordinates-done, put-more, put-room, put-done}
 use Rattle.job.proofs.write.put_all.Given as goal
 
 abbrev pub invariant-loop-i : goal.invariant-loop-i

@@ -3,7 +3,6 @@ use mathlib.Core.Path.{ap}
 use native.Mathlib.Omega.{arith}
 use lib.ListN.{length}
 use lib.Seq.{length-sets}
-use borrow.Author.Rules.{rules}
 use Rattle.job.proofs.Writing.{announced_nothing, announced-length, announced-put}
 use Rattle.job.proofs.write.put_announcement.Goals as goal
 

@@ -3,7 +3,6 @@ use mathlib.Core.Path.{refl, ap}
 use native.Mathlib.Omega.{arith}
 use lib.ListN.{length}
 use lib.Seq.{length-sets}
-use borrow.Author.Rules.{rules}
 use Rattle.job.proofs.Writing.{ring-length, ring-put}
 use Rattle.job.proofs.write.put_ring.Goals as goal
 

@@ -1,9 +1,8 @@
 -- `put_rings` meets its contract: the rings put and those still to be put give what the whole gives. Assumes nothing.
-use Prim.Native.Nat.{◌-◌, ◌≤◌}
 use mathlib.Core.Path.{refl}
 use native.Mathlib.Omega.{arith}
 use borrow.Author.Rules.{rules}
-use Rattle.job.proofs.Writing.{Putting, putting_start, putting_part, putting_short, putting_room, putting_more, putting_done}
+use Rattle.job.proofs.Writing.{putting_start, putting_part, putting_short, putting_room, putting_more, putting_done}
 use Rattle.job.proofs.write.put_rings.Goals as goal
 
 pub loop-k-init : goal.loop-k-init

@@ -1,11 +1,9 @@
 -- `sizes` meets its contract: the bytes counted and those of the numbers still to come are all. Assumes nothing.
-use Prim.Native.Nat.{ℕ, ◌+◌, ◌-◌, ◌*◌, ◌≤◌}
-use mathlib.Core.Path.{◌≡◌, ap}
+use Prim.Native.Nat.{ℕ}
+use mathlib.Core.Path.{ap}
 use mathlib.Core.List.{List}
 use native.Mathlib.Omega.{arith}
-use borrow.Author.Rules.{rules}
-use lib.ListN.{length, drop}
-use Rattle.job.specs.Bytes.{coordinate_bytes}
+use lib.ListN.{length}
 use Rattle.job.proofs.Writing.{sizes_more, coordinates-done}
 use Rattle.job.proofs.write.sizes.Goals as goal
 

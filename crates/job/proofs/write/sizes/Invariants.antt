@@ -1,12 +1,8 @@
 -- `sizes` meets its contract: the bytes counted and those of the numbers still to come are all. Assumes nothing.
-use Prim.Native.Nat.{ℕ, ◌+◌, ◌-◌, ◌*◌, ◌≤◌}
-use mathlib.Core.Path.{◌≡◌, ap}
-use mathlib.Core.List.{List}
-use native.Mathlib.Omega.{arith}
-use borrow.Author.Rules.{rules}
+use Prim.Native.Nat.{◌+◌, ◌-◌, ◌*◌, ◌≤◌}
+use mathlib.Core.Path.{◌≡◌}
 use lib.ListN.{length, drop}
 use Rattle.job.specs.Bytes.{coordinate_bytes}
-use Rattle.job.proofs.Writing.{sizes_more, coordinates-done}
 use Rattle.job.proofs.write.sizes.Given as goal
 
 abbrev pub invariant-loop-i : goal.invariant-loop-i

@@ -3,11 +3,8 @@ use mathlib.Core.Path.{ap}
 use native.Mathlib.Omega.{arith}
 use lib.ListN.{length}
 use lib.Seq.{length-sets}
-use Rattle.refusal.proofs.Refusals.{told_as}
-use Rattle.rule.specs.Rules.{made_told}
 use Rattle.rule.proofs.Rules.{rule-made, range_true}
 use Rattle.job.proofs.Writing.{header-rule, header-many, header-room, header-fits, header-put}
-use borrow.Author.Rules.{rules}
 use Rattle.job.proofs.write.write_header.Goals as goal
 
 pub returns-then-outlines-gt-MOST_OUTLINES : goal.returns-then-outlines-gt-MOST_OUTLINES

@@ -3,7 +3,6 @@ use mathlib.Core.Path.{sym, ◌∙◌, ap}
 use native.Mathlib.Omega.{arith}
 use lib.ListN.{length}
 use lib.Seq.{length-sets}
-use borrow.Author.Rules.{rules}
 use Rattle.figure.proofs.Fault.{rings-good}
 use Rattle.job.proofs.Writing.{rings-length, outline_bad, outline-room, outline-fits}
 use Rattle.job.proofs.write.write_outline.Goals as goal

@@ -2,8 +2,6 @@
 -- What it is lent are bytes at every exit: `AllBytes`, which the theorems of one form ask for.
 use native.Mathlib.Omega.{arith}
 use Rattle.number.proofs.Number.{number-none, number-one, number-ends-two, number_padded_two, number-two, number-ends-three, number-fourth, number_padded_three, number-three}
-use Rattle.number.specs.Faults.{AllBytes}
-use borrow.Author.Rules.{rules}
 use Rattle.number.proofs.Cursor.number.Goals as goal
 
 pub returns-then-s-at : goal.returns-then-s-at

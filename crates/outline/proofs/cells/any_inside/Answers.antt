@@ -1,7 +1,4 @@
 -- `outline::cells::any_inside` meets its contract. The invariant: every cell passed is 0. Assumes nothing.
-use Prim.Native.Nat.{ℕ, ◌≤◌, ◌<◌, ◌-◌}
-use mathlib.Core.Path.{◌≡◌}
-use lib.ListN.{length, get_or}
 use borrow.Author.Count.{below_none, below_more}
 use borrow.Author.Rules.{rules}
 use Rattle.outline.proofs.Sweeping.{lit-some, lit-none}

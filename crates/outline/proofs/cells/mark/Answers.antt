@@ -1,5 +1,4 @@
 -- `outline::cells::mark` meets its contract. A wall turns over the cells that it covers. Assumes nothing.
-use borrow.Author.Rules.{rules}
 use Rattle.outline.proofs.Marking.{upright-before, ruled-listed, ruled-top, marked_bits, marked_wall}
 use Rattle.outline.proofs.cells.mark.Goals as goal
 

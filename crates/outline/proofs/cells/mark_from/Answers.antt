@@ -1,9 +1,6 @@
 -- `outline::cells::mark_from` meets its contract. The invariant: the walls passed are marked, and the next edge is one. Assumes nothing.
-use Prim.Native.Nat.{◌-◌}
-use mathlib.Core.Path.{◌≡◌}
-use lib.ListN.{length}
 use borrow.Author.Rules.{rules}
-use Rattle.outline.proofs.Marking.{Edges, edges-start, edges-upright, edges_more, edges-end}
+use Rattle.outline.proofs.Marking.{edges-start, edges-upright, edges_more, edges-end}
 use Rattle.outline.proofs.cells.mark_from.Goals as goal
 
 pub loop-edge-init : goal.loop-edge-init

@@ -2,8 +2,7 @@
 use Prim.Native.Nat.{◌-◌}
 use mathlib.Core.Path.{◌≡◌}
 use lib.ListN.{length}
-use borrow.Author.Rules.{rules}
-use Rattle.outline.proofs.Marking.{Edges, edges-start, edges-upright, edges_more, edges-end}
+use Rattle.outline.proofs.Marking.{Edges}
 use Rattle.outline.proofs.cells.mark_from.Given as goal
 
 abbrev pub invariant-loop-edge : goal.invariant-loop-edge

@@ -1,10 +1,8 @@
 -- `outline::cells::mark_walls` meets its contract. The invariant: the rings passed are marked. Assumes nothing.
-use Prim.Native.Nat.{◌-◌, ◌≤◌}
-use mathlib.Core.Path.{◌≡◌, refl}
+use mathlib.Core.Path.{refl}
 use native.Mathlib.Omega.{arith}
-use lib.ListN.{length}
 use borrow.Author.Rules.{rules}
-use Rattle.outline.proofs.Marking.{Rings, rings-start, rings-room, rings-ruled, rings-more, rings-end}
+use Rattle.outline.proofs.Marking.{rings-start, rings-room, rings-ruled, rings-more, rings-end}
 use Rattle.outline.proofs.cells.mark_walls.Goals as goal
 
 pub loop-k-init : goal.loop-k-init

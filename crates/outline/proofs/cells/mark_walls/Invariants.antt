@@ -1,10 +1,8 @@
 -- `outline::cells::mark_walls` meets its contract. The invariant: the rings passed are marked. Assumes nothing.
-use Prim.Native.Nat.{◌-◌, ◌≤◌}
-use mathlib.Core.Path.{◌≡◌, refl}
-use native.Mathlib.Omega.{arith}
+use Prim.Native.Nat.{◌≤◌}
+use mathlib.Core.Path.{◌≡◌}
 use lib.ListN.{length}
-use borrow.Author.Rules.{rules}
-use Rattle.outline.proofs.Marking.{Rings, rings-start, rings-room, rings-ruled, rings-more, rings-end}
+use Rattle.outline.proofs.Marking.{Rings}
 use Rattle.outline.proofs.cells.mark_walls.Given as goal
 
 abbrev pub invariant-loop-k : goal.invariant-loop-k

@@ -1,5 +1,4 @@
 -- `outline::cells::shade` meets its contract. The marks of all walls, swept, are the cells inside. Assumes nothing.
-use borrow.Author.Rules.{rules}
 use Rattle.outline.proofs.Marking.{lined_x, zeros_marks}
 use Rattle.outline.proofs.Promise.{cells-shaded}
 use Rattle.outline.proofs.cells.shade.Goals as goal

@@ -1,9 +1,5 @@
 -- `outline::cells::sweep` meets its contract. The invariant: the columns before column i are swept. Assumes nothing.
-use Prim.Native.Nat.{◌-◌, ◌≤◌}
-use mathlib.Core.Path.{◌≡◌}
-use lib.ListN.{length}
 use borrow.Author.Rules.{rules}
-use Rattle.outline.specs.Steps.{Swept}
 use Rattle.outline.proofs.Sweeping.{swept-start, swept-marks, swept-end}
 use Rattle.outline.proofs.cells.sweep.Goals as goal
 

@@ -2,9 +2,7 @@
 use Prim.Native.Nat.{◌-◌, ◌≤◌}
 use mathlib.Core.Path.{◌≡◌}
 use lib.ListN.{length}
-use borrow.Author.Rules.{rules}
 use Rattle.outline.specs.Steps.{Swept}
-use Rattle.outline.proofs.Sweeping.{swept-start, swept-marks, swept-end}
 use Rattle.outline.proofs.cells.sweep.Given as goal
 
 abbrev pub invariant-loop-i : goal.invariant-loop-i

@@ -1,9 +1,8 @@
 -- `outline::cells::sweep_column` meets its contract. The invariant: the cells passed have taken in those left of them. Assumes nothing.
-use Prim.Native.Nat.{◌-◌}
 use mathlib.Core.Path.{refl}
 use native.Mathlib.Omega.{arith}
 use borrow.Author.Rules.{rules}
-use Rattle.outline.proofs.Sweeping.{Sweeping, sweeping_start, sweeping_bits, sweeping_more, sweeping_end}
+use Rattle.outline.proofs.Sweeping.{sweeping_start, sweeping_bits, sweeping_more, sweeping_end}
 use Rattle.outline.proofs.cells.sweep_column.Goals as goal
 
 pub loop-j-init : goal.loop-j-init

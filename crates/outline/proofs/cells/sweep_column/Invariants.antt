@@ -1,9 +1,6 @@
 -- `outline::cells::sweep_column` meets its contract. The invariant: the cells passed have taken in those left of them. Assumes nothing.
 use Prim.Native.Nat.{◌-◌}
-use mathlib.Core.Path.{refl}
-use native.Mathlib.Omega.{arith}
-use borrow.Author.Rules.{rules}
-use Rattle.outline.proofs.Sweeping.{Sweeping, sweeping_start, sweeping_bits, sweeping_more, sweeping_end}
+use Rattle.outline.proofs.Sweeping.{Sweeping}
 use Rattle.outline.proofs.cells.sweep_column.Given as goal
 
 abbrev pub invariant-loop-j : goal.invariant-loop-j

@@ -1,8 +1,6 @@
 -- `outline::cells::turn_over` meets its contract. The invariant: of the cells right of the line those passed are turned over, all others are as they were. Assumes nothing.
 use Prim.Native.Nat.{◌-◌}
-use mathlib.Core.Path.{refl}
-use borrow.Author.Rules.{rules}
-use Rattle.outline.proofs.Turning.{Turning, turning_start, turning_bit, turning_more, turning_end}
+use Rattle.outline.proofs.Turning.{Turning}
 use Rattle.outline.proofs.cells.turn_over.Given as goal
 
 abbrev pub invariant-loop-j : goal.invariant-loop-j

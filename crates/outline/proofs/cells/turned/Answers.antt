@@ -1,5 +1,4 @@
 -- `outline::cells::turned` meets its contract. A bit turned over is one less the bit. Assumes nothing.
-use borrow.Author.Rules.{rules}
 use Rattle.outline.proofs.Turning.{flip_true, flip_false}
 use Rattle.outline.proofs.cells.turned.Goals as goal
 

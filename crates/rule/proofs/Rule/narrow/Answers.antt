@@ -1,6 +1,5 @@
 -- `Rule::narrow` meets its contract. Assumes nothing.
 use mathlib.Core.Path.{◌∙◌}
-use borrow.Author.Rules.{rules}
 use Rattle.rule.proofs.Charge.{narrow-made}
 use Rattle.rule.proofs.Rule.narrow.Goals as goal
 

@@ -1,5 +1,4 @@
 -- `Rule::preset` meets its contract: each exit is a case of `preset_told`. Assumes nothing.
-use borrow.Author.Rules.{rules}
 use native.Mathlib.Omega.{arith}
 use Rattle.rule.proofs.Rules.{preset_row, preset_past}
 use Rattle.rule.proofs.Rule.preset.Goals as goal

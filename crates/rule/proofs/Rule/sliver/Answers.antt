@@ -1,6 +1,5 @@
 -- `Rule::sliver` meets its contract. Assumes nothing.
 use mathlib.Core.Path.{◌∙◌}
-use borrow.Author.Rules.{rules}
 use Rattle.rule.proofs.Charge.{sliver-made}
 use Rattle.rule.proofs.Rule.sliver.Goals as goal
 

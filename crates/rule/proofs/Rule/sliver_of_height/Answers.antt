@@ -1,6 +1,5 @@
 -- `Rule::sliver_of_height` meets its contract: by whether the rule spares bottom and top. Assumes nothing.
 use mathlib.Core.Path.{sym, ◌∙◌}
-use borrow.Author.Rules.{rules}
 use Rattle.rule.proofs.Charge.{sliver_tall, sliver-low}
 use Rattle.rule.proofs.Rule.sliver_of_height.Goals as goal
 

@@ -1,13 +1,9 @@
 -- `shallow::cuts::least_cut` meets its contract: the cuts below the line j are weighed. Assumes nothing.
-use Prim.Native.Nat.{◌+◌, ◌-◌}
-use mathlib.Core.Path.{refl, ◌∙◌, subst, sym}
-use native.Mathlib.Omega.{arith}
+use Prim.Native.Nat.{◌-◌}
 use Rattle.table.specs.Run.{Lowest}
 use Rattle.table.specs.Cuts.{uncut}
 use Rattle.table.specs.Cuts.{parted}
-use Rattle.table.proofs.Run.{lowest-none, lowest-more}
-use Rattle.shallow.proofs.Parting.{At, at-start, start_small, at_more, at_small, at_read, lowest-end}
-use borrow.Author.Rules.{rules}
+use Rattle.shallow.proofs.Parting.{At}
 use Rattle.shallow.proofs.cuts.least_cut.Given as goal
 
 abbrev pub invariant-loop-j : goal.invariant-loop-j

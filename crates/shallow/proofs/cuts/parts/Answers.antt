@@ -1,6 +1,5 @@
 -- `shallow::cuts::parts` meets its contract. Assumes nothing.
 use mathlib.Core.Path.{refl}
-use borrow.Author.Rules.{rules}
 use Rattle.shallow.proofs.cuts.parts.Goals as goal
 
 pub overflow_add-result : goal.overflow_add-result

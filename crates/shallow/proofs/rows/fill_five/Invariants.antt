@@ -1,17 +1,8 @@
 -- `shallow::rows::fill_five` meets its contract: the strips that end below the line c are filled. Assumes nothing.
-use Prim.Native.Nat.{◌+◌, ◌*◌, ◌-◌, ◌≤◌}
-use mathlib.Core.Path.{◌≡◌, refl, sym}
-use native.Mathlib.Omega.{arith}
-use lib.ListN.{length}
-use Rattle.outline.specs.Grid.{Grid, stored}
-use Rattle.table.specs.Entry.{pairs_below, pair_count}
-use Rattle.table.proofs.Entry.{below-most}
-use Rattle.shallow.specs.declared.cuts.Strip.{Strip}
+use Prim.Native.Nat.{◌+◌, ◌-◌}
+use Rattle.outline.specs.Grid.{stored}
 use Rattle.shallow.specs.Sums.{Summed}
-use Rattle.shallow.specs.Rows.{TopTwo, LowThree, FourRows, LowFour, FifthRow}
-use Rattle.shallow.proofs.Settling.{pairs-five, four-top, four-upper, four-lowest, fifteen_wrote}
-use Rattle.shallow.proofs.Filling.{Strips, Turn, asks_empty, asks_span, asks_grown, columns-few, row-empty, row_next, turn-first, turn-start, turn_more, turn_end, turn-room, turn-four, turn-five, five-right}
-use borrow.Author.Rules.{rules}
+use Rattle.shallow.proofs.Filling.{Strips}
 use Rattle.shallow.proofs.rows.fill_five.Given as goal
 
 abbrev pub invariant-loop-c : goal.invariant-loop-c

@@ -1,16 +1,14 @@
 -- `shallow::rows::fill_one` meets its contract: the strips that end below the line c are filled. Assumes nothing.
-use Prim.Native.Nat.{◌+◌, ◌*◌, ◌-◌, ◌≤◌}
+use Prim.Native.Nat.{◌+◌, ◌*◌, ◌≤◌}
 use mathlib.Core.Path.{◌≡◌, refl, sym}
 use native.Mathlib.Omega.{arith}
 use lib.ListN.{length}
 use Rattle.outline.specs.Grid.{Grid, stored}
 use Rattle.table.specs.Entry.{pairs_below, pair_count}
 use Rattle.shallow.specs.declared.cuts.Strip.{Strip}
-use Rattle.shallow.specs.Sums.{Summed}
 use Rattle.shallow.specs.Rows.{OneRow}
 use Rattle.shallow.proofs.Settling.{pairs-one, one_wrote}
-use Rattle.shallow.proofs.Filling.{Strips, Turn, asks_empty, asks_span, asks_grown, columns-few, row-empty, row_next, turn-first, turn-start, turn_more, turn_end, turn-room, turn_one, one_right}
-use borrow.Author.Rules.{rules}
+use Rattle.shallow.proofs.Filling.{Turn, asks_empty, asks_span, asks_grown, columns-few, row-empty, row_next, turn-first, turn-start, turn_more, turn_end, turn-room, turn_one, one_right}
 use Rattle.shallow.proofs.rows.fill_one.Goals as goal
 
 pub empty-row-requires : goal.empty-row-requires

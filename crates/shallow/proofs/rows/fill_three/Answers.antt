@@ -1,5 +1,5 @@
 -- `shallow::rows::fill_three` meets its contract: the strips that end below the line c are filled. Assumes nothing.
-use Prim.Native.Nat.{◌+◌, ◌*◌, ◌-◌, ◌≤◌}
+use Prim.Native.Nat.{◌+◌, ◌*◌, ◌≤◌}
 use mathlib.Core.Path.{◌≡◌, refl, sym}
 use native.Mathlib.Omega.{arith}
 use lib.ListN.{length}
@@ -7,11 +7,9 @@ use Rattle.outline.specs.Grid.{Grid, stored}
 use Rattle.table.specs.Entry.{pairs_below, pair_count}
 use Rattle.table.proofs.Entry.{below-most}
 use Rattle.shallow.specs.declared.cuts.Strip.{Strip}
-use Rattle.shallow.specs.Sums.{Summed}
 use Rattle.shallow.specs.Rows.{TwoRows, TopTwo, ThreeRows}
 use Rattle.shallow.proofs.Settling.{pairs-three, six_wrote}
-use Rattle.shallow.proofs.Filling.{Strips, Turn, asks_empty, asks_span, asks_grown, columns-few, row-empty, row_next, turn-first, turn-start, turn_more, turn_end, turn-room, turn_two, turn_three, three-right}
-use borrow.Author.Rules.{rules}
+use Rattle.shallow.proofs.Filling.{Turn, asks_empty, asks_span, asks_grown, columns-few, row-empty, row_next, turn-first, turn-start, turn_more, turn_end, turn-room, turn_two, turn_three, three-right}
 use Rattle.shallow.proofs.rows.fill_three.Goals as goal
 
 pub overflow_mul-start : goal.overflow_mul-start

@@ -3,7 +3,6 @@ use native.Mathlib.Omega.{arith}
 use Rattle.table.proofs.Entry.{pair-below}
 use Rattle.shallow.specs.Rows.{up4, up5}
 use Rattle.shallow.proofs.Settling.{placed_cuttable, whole_ready, cost-fits, threes-fit, across-more, across-three, piece_cost}
-use borrow.Author.Rules.{rules}
 use Rattle.shallow.proofs.rows.five_rows.Goals as goal
 
 pub least_cut-best-requires : goal.least_cut-best-requires

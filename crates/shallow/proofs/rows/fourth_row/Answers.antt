@@ -1,5 +1,5 @@
 -- `shallow::rows::fourth_row` meets its contract: the three lower rows first, then all four. Assumes nothing.
-use Prim.Native.Nat.{ℕ, suc, ◌+◌}
+use Prim.Native.Nat.{ℕ, suc}
 use mathlib.Core.Path.{◌≡◌}
 use native.Mathlib.Omega.{arith}
 use Rattle.outline.specs.Grid.{Grid}

@@ -1,7 +1,6 @@
 -- `shallow::rows::one_row` meets its contract. Assumes nothing.
 use native.Mathlib.Omega.{arith}
 use Rattle.shallow.proofs.Settling.{placed_cuttable, whole_ready, row-cost, pairs-one, low-pair}
-use borrow.Author.Rules.{rules}
 use Rattle.shallow.proofs.rows.one_row.Goals as goal
 
 pub least_cut-best-requires : goal.least_cut-best-requires

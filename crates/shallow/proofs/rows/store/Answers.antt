@@ -2,7 +2,6 @@
 use native.Mathlib.Omega.{arith}
 use lib.ListN.{length-set}
 use Rattle.shallow.proofs.Settling.{three_wrote}
-use borrow.Author.Rules.{rules}
 use Rattle.shallow.proofs.rows.store.Goals as goal
 
 pub bounds-table-at-2 : goal.bounds-table-at-2

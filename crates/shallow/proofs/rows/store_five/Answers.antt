@@ -1,6 +1,5 @@
 -- `shallow::rows::store_five` meets its contract. Assumes nothing.
 use Rattle.shallow.proofs.Settling.{five_wrote}
-use borrow.Author.Rules.{rules}
 use Rattle.shallow.proofs.rows.store_five.Goals as goal
 
 pub returns : goal.returns

@@ -1,6 +1,5 @@
 -- `shallow::rows::store_four` meets its contract. Assumes nothing.
 use Rattle.shallow.proofs.Settling.{four_wrote}
-use borrow.Author.Rules.{rules}
 use Rattle.shallow.proofs.rows.store_four.Goals as goal
 
 pub returns : goal.returns

@@ -1,8 +1,6 @@
 -- `shallow::rows::store_ten` meets its contract. Assumes nothing.
-use mathlib.Core.Path.{◌∙◌}
 use native.Mathlib.Omega.{arith}
 use Rattle.shallow.proofs.Settling.{ten_wrote}
-use borrow.Author.Rules.{rules}
 use Rattle.shallow.proofs.rows.store_ten.Goals as goal
 
 pub store-requires : goal.store-requires

@@ -1,6 +1,6 @@
 -- `shallow::rows::third_row` meets its contract: the low row first, then with the middle one, then all three. Assumes nothing.
-use Prim.Native.Nat.{ℕ, suc, ◌+◌}
-use mathlib.Core.Path.{◌≡◌, sym, ◌∙◌, ap, subst}
+use Prim.Native.Nat.{ℕ, suc}
+use mathlib.Core.Path.{◌≡◌, sym, subst}
 use native.Mathlib.Omega.{arith}
 use Rattle.outline.specs.Grid.{Grid}
 use Rattle.piece.specs.declared.Mode.TheVariants.{Straight}
@@ -11,7 +11,6 @@ use Rattle.shallow.specs.Sums.{Whole}
 use Rattle.shallow.specs.Rows.{ThreeRows, up2, up3}
 use Rattle.shallow.proofs.Summing.{whole-stacked}
 use Rattle.shallow.proofs.Settling.{placed_cuttable, whole_ready, cost-fits, across-none, across-more, piece_cost, row-cost, next-pairs, next-room}
-use borrow.Author.Rules.{rules}
 use Rattle.shallow.proofs.rows.third_row.Goals as goal
 
 pub least_cuts-least-requires : goal.least_cuts-least-requires

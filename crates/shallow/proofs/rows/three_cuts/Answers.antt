@@ -1,6 +1,5 @@
 -- `shallow::rows::three_cuts` meets its contract: the cuts are weighed from the lowest on. Assumes nothing.
 use Rattle.shallow.proofs.Settling.{least-made}
-use borrow.Author.Rules.{rules}
 use Rattle.shallow.proofs.rows.three_cuts.Goals as goal
 
 pub returns : goal.returns

@@ -1,6 +1,6 @@
 -- `shallow::rows::two_rows` meets its contract: the two rows first, then both together. Assumes nothing.
-use Prim.Native.Nat.{ℕ, suc, ◌+◌, ◌-◌}
-use mathlib.Core.Path.{◌≡◌, sym, ◌∙◌, ap, subst}
+use Prim.Native.Nat.{ℕ, suc}
+use mathlib.Core.Path.{◌≡◌, sym, subst}
 use native.Mathlib.Omega.{arith}
 use Rattle.outline.specs.Grid.{Grid}
 use Rattle.piece.specs.declared.Mode.TheVariants.{Straight}
@@ -10,7 +10,6 @@ use Rattle.shallow.specs.Sums.{Whole}
 use Rattle.shallow.specs.Rows.{TwoRows, up2}
 use Rattle.shallow.proofs.Summing.{whole-stacked}
 use Rattle.shallow.proofs.Settling.{placed_cuttable, whole_ready, cost-fits, across-none, across-more, piece_cost, row-cost, top-pairs}
-use borrow.Author.Rules.{rules}
 use Rattle.shallow.proofs.rows.two_rows.Goals as goal
 
 pub overflow_sub-strip : goal.overflow_sub-strip

@@ -1,11 +1,10 @@
 -- `shallow::sums::below` meets its contract. Assumes nothing.
 use Prim.Native.Nat.{ℕ, zero, suc, ◌+◌, ◌-◌}
-use mathlib.Core.Path.{◌≡◌, refl, sym, ◌∙◌, ap}
+use mathlib.Core.Path.{◌≡◌, refl, ap}
 use mathlib.Core.List.{List}
 use native.Mathlib.Omega.{arith}
 use lib.ListN.{get_or}
 use Rattle.table.specs.Side.{below_at}
-use borrow.Author.Rules.{rules}
 use Rattle.shallow.proofs.sums.below.Goals as goal
 
 below_none : (cs : List ℕ) (near j : ℕ) → j ≡ 0 → 0 ≡ below_at cs near j

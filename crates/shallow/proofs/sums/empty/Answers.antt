@@ -1,5 +1,4 @@
 -- `shallow::sums::empty` meets its contract. Assumes nothing.
-use borrow.Author.Rules.{rules}
 use Rattle.shallow.specs.Sums.{empty_of}
 use Rattle.shallow.proofs.Summing.{empty-made}
 use Rattle.shallow.proofs.sums.empty.Goals as goal

@@ -1,6 +1,6 @@
 -- `shallow::sums::flanks` meets its contract. Assumes nothing.
 use Prim.Native.Nat.{ℕ, ◌+◌, ◌*◌, ◌-◌, ◌≤◌}
-use mathlib.Core.Path.{◌≡◌, refl, sym, ◌∙◌, ap, ap₂}
+use mathlib.Core.Path.{◌≡◌, sym, ◌∙◌, ap, ap₂}
 use mathlib.Core.Bool.{Bool, true, false, not}
 use mathlib.Core.List.{List}
 use native.Mathlib.Omega.{arith}
@@ -9,7 +9,6 @@ use Rattle.sum.specs.Sum.{only}
 use Rattle.table.specs.Run.{bare}
 use Rattle.table.specs.Side.{before_at}
 use Rattle.shallow.specs.Sums.{flanks_at}
-use borrow.Author.Rules.{rules}
 use Rattle.shallow.proofs.sums.flanks.Goals as goal
 
 spared-none : (t u : Bool) (n : ℕ) → t ≡ true → t ≡ u → (0 ≡ only (not u) n) × (0 ≤ 131070)

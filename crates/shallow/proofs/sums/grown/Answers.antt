@@ -1,7 +1,6 @@
 -- `shallow::sums::grown` meets its contract. Assumes nothing.
 use native.Mathlib.Omega.{arith}
 use Rattle.shallow.proofs.Summing.{grown-made}
-use borrow.Author.Rules.{rules}
 use Rattle.shallow.proofs.sums.grown.Goals as goal
 
 pub overflow_add-result-4 : goal.overflow_add-result-4

@@ -5,7 +5,6 @@ use native.Mathlib.Omega.{arith}
 use Rattle.rule.specs.Charge.{charge_of}
 use Rattle.rule.proofs.Charge.{sliver-most}
 use Rattle.shallow.specs.Sums.{shot_of}
-use borrow.Author.Rules.{rules}
 use Rattle.shallow.proofs.sums.settled.Goals as goal
 
 pub charge-requires : goal.charge-requires

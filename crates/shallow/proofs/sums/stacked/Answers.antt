@@ -1,6 +1,5 @@
 -- `shallow::sums::stacked` meets its contract. Assumes nothing.
 use mathlib.Core.Path.{refl}
-use borrow.Author.Rules.{rules}
 use Rattle.shallow.specs.Sums.{stacked_of}
 use Rattle.shallow.proofs.sums.stacked.Goals as goal
 

@@ -4,7 +4,6 @@ use Prim.Native.Nat.{◌*◌}
 use native.Mathlib.Omega.{arith}
 use native.Mathlib.Nat.{mul-le-mul}
 use Rattle.table.specs.Entry.{entry_count}
-use borrow.Author.Rules.{rules}
 use Rattle.table.proofs.numbering.entries.Goals as goal
 
 pub overflow_mul-result : goal.overflow_mul-result

@@ -2,7 +2,6 @@
 use native.Mathlib.Omega.{arith}
 use native.Mathlib.Nat.{mul-le-mul}
 use Rattle.table.proofs.Entry.{entry-join}
-use borrow.Author.Rules.{rules}
 use Rattle.table.proofs.numbering.entry.Goals as goal
 
 pub overflow_mul-result : goal.overflow_mul-result

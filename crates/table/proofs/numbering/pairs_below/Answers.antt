@@ -1,7 +1,6 @@
 -- `table::numbering::pairs_below` meets its contract: the closed formula counts the pairs. Assumes nothing.
 use native.Mathlib.Omega.{arith}
 use Rattle.table.proofs.Entry.{product-fits, below-lines, below-most}
-use borrow.Author.Rules.{rules}
 use Rattle.table.proofs.numbering.pairs_below.Goals as goal
 
 pub overflow_mul-result-2 : goal.overflow_mul-result-2

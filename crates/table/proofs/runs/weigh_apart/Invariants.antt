@@ -1,9 +1,6 @@
 -- `table::runs::weigh_apart` meets its contract: the pieces before the i-th have the cut weighed. Assumes nothing.
 use Prim.Native.Nat.{◌-◌, ◌≤◌}
-use native.Mathlib.Omega.{arith}
 use Rattle.table.specs.Run.{Wrote, weighed_apart}
-use Rattle.table.proofs.Run.{wrote_none, wrote_end, apart_more}
-use borrow.Author.Rules.{rules}
 use Rattle.table.proofs.runs.weigh_apart.Given as goal
 
 abbrev pub invariant-loop-i : goal.invariant-loop-i

@@ -1,6 +1,5 @@
 -- `table::sides::column_before` meets its contract. Assumes nothing.
 use Rattle.table.proofs.Side.{before-first, before_later}
-use borrow.Author.Rules.{rules}
 use Rattle.table.proofs.sides.column_before.Goals as goal
 
 pub returns-then-line-eq0 : goal.returns-then-line-eq0

@@ -1,11 +1,7 @@
 -- `tally::growing::add_flanks` meets its contract: the strips before the l-th have their flanks. Assumes nothing.
 use Prim.Native.Nat.{◌-◌, ◌≤◌}
-use native.Mathlib.Omega.{arith}
 use Rattle.table.specs.Run.{Wrote}
-use Rattle.table.proofs.Run.{wrote_none, wrote_end}
 use Rattle.tally.specs.Growth.{flank_sum}
-use Rattle.tally.proofs.Growth.{flank_fits, flank_more}
-use borrow.Author.Rules.{rules}
 use Rattle.tally.proofs.growing.add_flanks.Given as goal
 
 abbrev pub invariant-loop-l : goal.invariant-loop-l

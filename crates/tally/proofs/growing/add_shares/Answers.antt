@@ -1,11 +1,7 @@
 -- `tally::growing::add_shares` meets its contract: the sums before the l-th have their share. Assumes nothing.
-use Prim.Native.Nat.{◌-◌, ◌≤◌}
 use native.Mathlib.Omega.{arith}
-use Rattle.table.specs.Run.{Wrote}
 use Rattle.table.proofs.Run.{wrote_none, wrote_end}
-use Rattle.tally.specs.Growth.{added}
 use Rattle.tally.proofs.Growth.{add-fits, add-more}
-use borrow.Author.Rules.{rules}
 use Rattle.tally.proofs.growing.add_shares.Goals as goal
 
 pub loop-l-init : goal.loop-l-init

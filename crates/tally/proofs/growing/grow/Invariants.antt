@@ -1,10 +1,6 @@
 -- `tally::growing::grow` meets its contract: the rows below j are grown. Assumes nothing.
 use Prim.Native.Nat.{◌-◌, ◌≤◌}
-use mathlib.Core.Path.{refl}
-use native.Mathlib.Omega.{arith}
 use Rattle.tally.specs.Growth.{RowsGrown}
-use Rattle.tally.proofs.Growth.{rows_none, rows_fit, rows_more, rows_all}
-use borrow.Author.Rules.{rules}
 use Rattle.tally.proofs.growing.grow.Given as goal
 
 abbrev pub invariant-loop-j : goal.invariant-loop-j

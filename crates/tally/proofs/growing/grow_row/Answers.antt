@@ -2,7 +2,6 @@
 use mathlib.Core.Path.{◌∙◌}
 use native.Mathlib.Omega.{arith}
 use Rattle.tally.proofs.Growth.{row_first, row-second, row-third, row-grown}
-use borrow.Author.Rules.{rules}
 use Rattle.tally.proofs.growing.grow_row.Goals as goal
 
 pub overflow_mul-at : goal.overflow_mul-at

@@ -1,10 +1,7 @@
 -- `tally::measuring::measure` meets its contract: the rows below j are measured. Assumes nothing.
 use Prim.Native.Nat.{◌*◌, ◌-◌, ◌≤◌}
-use native.Mathlib.Omega.{arith}
 use Rattle.outline.specs.Grid.{stored}
 use Rattle.tally.specs.Units.{UnitsTo}
-use Rattle.tally.proofs.Shares.{units-none, measurable, row_at, units-end}
-use borrow.Author.Rules.{rules}
 use Rattle.tally.proofs.measuring.measure.Given as goal
 
 abbrev pub invariant-loop-j : goal.invariant-loop-j

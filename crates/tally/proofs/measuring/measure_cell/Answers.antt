@@ -1,7 +1,6 @@
 -- `tally::measuring::measure_cell` meets its contract. Assumes nothing.
 use mathlib.Core.Path.{refl}
 use Rattle.tally.proofs.Shares.{put-shares}
-use borrow.Author.Rules.{rules}
 use Rattle.tally.proofs.measuring.measure_cell.Goals as goal
 
 pub returns : goal.returns

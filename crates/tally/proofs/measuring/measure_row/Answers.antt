@@ -1,12 +1,7 @@
 -- `tally::measuring::measure_row` meets its contract: the cells of the row before the i-th are measured. Assumes nothing.
-use Prim.Native.Nat.{◌+◌, ◌*◌, ◌-◌, ◌≤◌}
-use mathlib.Core.Path.{◌≡◌, ◌∙◌}
-use lib.ListN.{length}
+use mathlib.Core.Path.{◌∙◌}
 use native.Mathlib.Omega.{arith}
-use Rattle.outline.specs.Grid.{Grid}
-use Rattle.tally.specs.Units.{Row, UnitsTo}
 use Rattle.tally.proofs.Shares.{units-at, units-more, units_row}
-use borrow.Author.Rules.{rules}
 use Rattle.tally.proofs.measuring.measure_row.Goals as goal
 
 pub loop-i-init : goal.loop-i-init

@@ -1,6 +1,5 @@
 -- `tally::measuring::put_shares` meets its contract. Assumes nothing.
 use Rattle.tally.proofs.Shares.{put_five}
-use borrow.Author.Rules.{rules}
 use Rattle.tally.proofs.measuring.put_shares.Goals as goal
 
 pub returns : goal.returns

@@ -1,11 +1,7 @@
 -- `tally::measuring::widths` meets its contract: the strips before the a-th have their width. Assumes nothing.
-use Prim.Native.Nat.{◌-◌, ◌≤◌}
 use native.Mathlib.Omega.{arith}
-use Rattle.table.specs.Run.{Wrote}
 use Rattle.table.proofs.Run.{wrote_none}
-use Rattle.tally.specs.Units.{span_of}
 use Rattle.tally.proofs.Shares.{widths-more, widths-all}
-use borrow.Author.Rules.{rules}
 use Rattle.tally.proofs.measuring.widths.Goals as goal
 
 pub overflow_add-strips : goal.overflow_add-strips

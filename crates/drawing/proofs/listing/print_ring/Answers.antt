@@ -1,0 +1,11 @@
+-- `print_ring` forgets no failure: no corner does. The loop passes each corner once. Assumes nothing.
+use Prim.Native.Nat.{◌-◌}
+use Rattle.terminal.specs.Output.{Remembers}
+use borrow.Author.Rules.{rules}
+use Rattle.drawing.proofs.listing.print_ring.Goals as goal
+
+pub loop-k-preserved : goal.loop-k-preserved
+loop-k-preserved c = λ e. c.print_corner-next.ensures (c.loop-k.invariant e)
+
+pub returns : goal.returns
+returns c = λ e. c.loop-k.invariant (c.print-next.ensures e)

@@ -1,0 +1,11 @@
+-- `print_ring` forgets no failure: no corner does. The loop passes each corner once. Assumes nothing.
+use Prim.Native.Nat.{◌-◌}
+use Rattle.terminal.specs.Output.{Remembers}
+use borrow.Author.Rules.{rules}
+use Rattle.drawing.proofs.listing.print_ring.Given as goal
+
+abbrev pub invariant-loop-k : goal.invariant-loop-k
+invariant-loop-k l = Remembers l.initial.next l.next
+
+abbrev pub decreases-loop-k : goal.decreases-loop-k
+decreases-loop-k l = l.to - l.k

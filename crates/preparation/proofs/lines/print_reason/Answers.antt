@@ -1,0 +1,6 @@
+-- `print_reason` forgets no failure. Assumes nothing.
+use borrow.Author.Rules.{rules}
+use Rattle.preparation.proofs.lines.print_reason.Goals as goal
+
+pub returns : goal.returns
+returns c = λ e. c.print.ensures (c.print_number-told.ensures e)

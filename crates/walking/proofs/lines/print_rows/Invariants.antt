@@ -1,0 +1,9 @@
+-- The loop passes each turn once. Assumes nothing.
+use borrow.Author.Rules.{rules}
+use Rattle.walking.proofs.lines.print_rows.Given as goal
+
+abbrev pub invariant-loop-j : goal.invariant-loop-j
+invariant-loop-j l = Unit {0}
+
+abbrev pub decreases-loop-j : goal.decreases-loop-j
+decreases-loop-j l = l.j
