@@ -20,7 +20,7 @@ use lib.ListN.{length, take, get_or}
 use Rattle.sum.specs.Sum.{sum_of, All}
 use Rattle.sum.proofs.Sum.{le-or}
 use Rattle.sum.proofs.Lists.{sum_of-same, sum_of-map, All-imp}
-use Rattle.recurrence.specs.Scheme.{outside, full, mixed}
+use Rattle.recurrence.specs.Scheme.{mixed}
 use Rattle.refusal.specs.declared.Refusal.{Refusal}
 use Rattle.refusal.specs.declared.Refusal.TheVariants as because
 use Rattle.refusal.specs.Refusals.{refusal_no}

@@ -1,7 +1,6 @@
 -- The rows of cuts weighed, computed. They come first, so that they refuse a wrong count before a law that only no longer fits it. Assumes nothing.
 --
 --   cut-rows       == the cuts of each row's grid are those that the row says
-use Prim.Native.Nat.{ℕ}
 use mathlib.Core.Path.{◌≡◌, refl}
 use Rattle.sum.specs.Sum.{All, over, join, sum_of}
 use Rattle.figure.specs.Corners.{corners, coordinate, last, steps, around, any, edges, threes, last_but_one, turns, changes, odd}

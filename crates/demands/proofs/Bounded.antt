@@ -6,8 +6,8 @@
 --   lines-all                    == the lines within all pieces, by the numbers of columns and rows
 --   pairs-closed, lines-closed   == pairs and triples of lines
 --   lines-most                   == with at most 16 lines each way there are at most 134,400
-use Prim.Native.Nat.{ℕ, zero, suc, ◌+◌, ◌*◌, ◌-◌, ◌/◌, ◌≤◌, ◌<◌}
-use mathlib.Core.Path.{◌≡◌, refl, sym, ◌∙◌, ap, ap₂}
+use Prim.Native.Nat.{ℕ, zero, suc, ◌+◌, ◌*◌, ◌-◌, ◌≤◌, ◌<◌}
+use mathlib.Core.Path.{◌≡◌, ◌∙◌, ap, ap₂}
 use native.Mathlib.Omega.{arith}
 use native.Mathlib.Nat.{mul-le-mul}
 use Rattle.sum.specs.Sum.{over}

@@ -34,7 +34,7 @@ use Rattle.demands.specs.Ways.{On}
 use Rattle.demands.specs.Demands.{Words}
 use Rattle.demands.proofs.Outcome.{accepted, short, Ended, ended, outcome-zero, outcome-rule, outcome-figure}
 use Rattle.demands.proofs.General.{weighed_bound, weighed-limit}
-use Rattle.demands.proofs.Cuts.{Marked, weighed_squares}
+use Rattle.demands.proofs.Cuts.{weighed_squares}
 use Rattle.demands.proofs.Accepted.{shown, sound, lined}
 
 -- a place is marked just if a corner lies at it

@@ -6,7 +6,7 @@
 --   kind_squares         == a piece has the kind that its rectangle has at unit squares
 --   weighed-partly       == its cuts are weighed just where its rectangle is partly inside
 --   weighed_squares      == the cuts weighed over the grid are those of the figure at unit squares
-use Prim.Native.Nat.{ℕ, zero, suc, ◌+◌, ◌*◌, ◌-◌, ◌≤◌, ◌<◌}
+use Prim.Native.Nat.{ℕ, zero, suc, ◌+◌, ◌-◌, ◌≤◌, ◌<◌}
 use mathlib.Core.Path.{◌≡◌, refl, sym, ◌∙◌, ap, ap₂}
 use mathlib.Core.Bool.{Bool, true, false, ◌&&◌}
 use mathlib.Core.Logic.{inl, inr}

@@ -23,7 +23,6 @@ use Rattle.outline.specs.Inside.{grid}
 use Rattle.outline.specs.Promise.{refusal}
 use Rattle.rule.specs.declared.Rule.{Rule}
 use Rattle.rule.specs.Rules.{in_range}
-use Rattle.piece.specs.declared.Mode.{Mode}
 use Rattle.piece.specs.declared.Mode.TheVariants.{Straight, Pinwheel}
 use Rattle.piece.specs.declared.Turn.{Turn}
 use Rattle.piece.specs.declared.Turn.TheVariants.{First, Second}

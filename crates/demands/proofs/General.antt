@@ -4,8 +4,8 @@
 --   weighed_general      == so all together are no more than the lines within all pieces
 --   weighed_bound        == by the numbers of lines
 --   weighed-limit        == with at most 16 lines each way they are at most 134,400
-use Prim.Native.Nat.{ℕ, suc, ◌+◌, ◌*◌, ◌≤◌}
-use mathlib.Core.Path.{◌≡◌, ap₂}
+use Prim.Native.Nat.{suc, ◌+◌, ◌*◌, ◌≤◌}
+use mathlib.Core.Path.{ap₂}
 use native.Mathlib.Omega.{arith}
 use Rattle.recurrence.specs.Scheme.{Kind, outside, full, mixed}
 use Rattle.outline.specs.Grid.{Grid}

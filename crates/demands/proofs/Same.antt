@@ -6,7 +6,7 @@
 --   moved-either      == so a drawing that is moved in any direction, too
 --   dearer            == of two accepted fractures with all else equal, that by a greater weight and a greater threshold costs no less
 --   dearer_entry      == nor does any entry of the table
-use Prim.Native.Nat.{ℕ, ◌+◌, ◌*◌, ◌<◌, ◌≤◌}
+use Prim.Native.Nat.{ℕ, ◌*◌, ◌<◌, ◌≤◌}
 use mathlib.Core.Path.{◌≡◌, refl, sym, ◌∙◌, ap, ap₂, subst}
 use mathlib.Core.Bool.{Bool, true, false, cond}
 use mathlib.Core.Logic.{inl, inr}
@@ -20,7 +20,7 @@ use Rattle.sum.proofs.Sum.{le-or}
 use Rattle.rule.specs.declared.Rule.{Rule}
 use Rattle.rule.specs.Rules.{in_range}
 use Rattle.figure.specs.Corners.{Corner}
-use Rattle.figure.specs.Figure.{Figure, fault}
+use Rattle.figure.specs.Figure.{fault}
 use Rattle.figure.specs.Redrawn.{of_rings, Redrawn, shifted}
 use Rattle.outline.specs.Grid.{Grid}
 use Rattle.outline.specs.Inside.{grid, empty}
@@ -32,7 +32,6 @@ use Rattle.piece.specs.Piece.{Piece, frame, kind, inside_cells, rectangle}
 use Rattle.piece.specs.Cuts.{cost}
 use Rattle.piece.proofs.Moved.{sliver-moved, charge-moved, shots-moved, cost-moved}
 use Rattle.piece.proofs.Dearer.{cost_dearer}
-use Rattle.shot.specs.Shot.{Shot}
 use Rattle.table.specs.Entry.{entry_count, tabled, costs}
 use Rattle.demands.specs.Cuts.{weighed, weighed_cuts}
 use Rattle.demands.specs.Promise.{Asked, drawn, rule_of, Outcome, frame_shots, frame_cost, frame_sliver, written, refused, delivered, gridded, ruled, outcome}
