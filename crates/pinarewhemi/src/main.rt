@@ -1,9 +1,6 @@
-// The program for what people do with figures.
+// The program for what people do with figures, as a program of the kit, which gives no status back.
 #![tactic(auto)]
 
-use std::process::ExitCode;
-use terminal::exit_code;
-
-fn main(rt: HostRuntime) -> ExitCode {
-    exit_code(subcommands::pw_pinarewhemi(&rt))
+fn main(rt: HostRuntime) {
+    subcommands::pw_pinarewhemi(&rt);
 }

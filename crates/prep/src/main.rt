@@ -1,9 +1,6 @@
-// The job program.
+// The job program. A program of the kit gives no status back: it ends with 0 whatever was refused or failed.
 #![tactic(auto)]
 
-use std::process::ExitCode;
-use terminal::exit_code;
-
-fn main(rt: HostRuntime) -> ExitCode {
-    exit_code(preparation::pw_prep(&rt))
+fn main(rt: HostRuntime) {
+    preparation::pw_prep(&rt);
 }

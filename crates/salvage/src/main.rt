@@ -1,9 +1,6 @@
-// What is left of a job, as a program.
+// What is left of a job. A program of the kit gives no status back: it ends with 0 whatever was refused, lost or failed.
 #![tactic(auto)]
 
-use std::process::ExitCode;
-use terminal::exit_code;
-
-fn main(rt: HostRuntime) -> ExitCode {
-    exit_code(rescue::pw_salvage_run(&rt))
+fn main(rt: HostRuntime) {
+    rescue::pw_salvage_run(&rt);
 }

@@ -11,8 +11,6 @@ pub mod output;
 mod reason;
 mod waiting;
 
-use std::process::ExitCode;
-
 // How a program ends: all was done; the job, or something of it, was refused; reading or writing failed, or the words ask for nothing
 // that there is.
 pub const DONE: u32 = 0;
@@ -20,14 +18,3 @@ pub const DONE: u32 = 0;
 pub const REFUSED: u32 = 1;
 
 pub const FAILED: u32 = 2;
-
-// The status as what a program's main gives back.
-pub fn exit_code(status: u32) -> ExitCode {
-    if status == DONE {
-        return ExitCode::SUCCESS;
-    }
-    if status == REFUSED {
-        return ExitCode::from(1);
-    }
-    ExitCode::from(2)
-}

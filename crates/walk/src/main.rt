@@ -1,9 +1,6 @@
-// The newcomers' walk as a program.
+// The newcomers' walk as a program of the kit, which gives no status back.
 #![tactic(auto)]
 
-use std::process::ExitCode;
-use terminal::exit_code;
-
-fn main(rt: HostRuntime) -> ExitCode {
-    exit_code(walking::pw_walk(&rt))
+fn main(rt: HostRuntime) {
+    walking::pw_walk(&rt);
 }
