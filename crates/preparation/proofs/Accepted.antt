@@ -8,10 +8,9 @@
 --   figure_words         == the figure that an accepted job says has places for numbers
 use Prim.Native.Nat.{ℕ, ◌*◌, ◌≤◌, ◌<◌}
 use mathlib.Core.Path.{◌≡◌, refl, sym, ◌∙◌, ap, subst}
-use mathlib.Core.Bool.{true, cond, ◌&&◌}
+use mathlib.Core.Bool.{true}
 use mathlib.Core.List.{List, ◌++◌}
 use native.Mathlib.Omega.{arith}
-use lib.Dec.{leb}
 use lib.ListN.{length, take, drop, get_or, length-append}
 use lib.Seq.{take_at}
 use borrow.Author.Tests.{le-leb}
@@ -26,9 +25,9 @@ use Rattle.figure.specs.Figure.{Figure, total}
 use Rattle.figure.proofs.Fault.{rings-good}
 use Rattle.job.specs.declared.unpack.Unpacked.{Unpacked}
 use Rattle.job.specs.declared.unpack.Unpacked.TheVariants as unpack
-use Rattle.job.specs.Job.{most_outlines, Part, Job, Header as Head, value, header, figure_of, job}
-use Rattle.job.specs.Calls.{CheckSaid, no_part, job_said, checked, TakeSaid, told, taken, UnpackSaid, unfilled, filled_by, unpacked, unpack_told}
-use Rattle.job.proofs.Job.{value_read, counted, weighed, heard, Whole, job-whole}
+use Rattle.job.specs.Job.{most_outlines, Job, Header as Head, value, header, figure_of, job}
+use Rattle.job.specs.Calls.{CheckSaid, no_part, job_said, checked, TakeSaid, told, taken, UnpackSaid, filled_by, unpacked, unpack_told}
+use Rattle.job.proofs.Job.{value_read, counted, weighed, heard, job-whole}
 use Rattle.job.proofs.RoundTrip.{Drawable, said-taken, said-unpacked}
 use Rattle.demands.specs.Demands.{Words}
 use Rattle.preparation.specs.declared.outlines.Header.{Header}

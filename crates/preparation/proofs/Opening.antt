@@ -21,7 +21,7 @@ use Rattle.number.proofs.Bytes.{AllBytes}
 use Rattle.job.specs.declared.read.Checked.{Checked}
 use Rattle.job.specs.declared.read.Checked.TheVariants as check
 use Rattle.job.specs.Job.{Header, header, Job, job}
-use Rattle.job.specs.Calls.{CheckSaid, job_said, checked, check_told, TakeSaid, told, taken}
+use Rattle.job.specs.Calls.{CheckSaid, job_said, checked, check_told, told, taken}
 use Rattle.job.proofs.Job.{job-whole}
 use Rattle.job.proofs.Calls.{job-said}
 use Rattle.job.proofs.Anew.{accepted-range}

@@ -1,10 +1,9 @@
-/* The start in C of a program of ours. START names its run, a function of crates/starts, and NAMED the word that names its
-   file: 1, or 2 behind a subcommand. The programs of the kit (crates/prep and its like) end with the same status; this start is for
-   whoever links the runs into something of their own. A static library reaches neither the words nor a file, so both are read here, and
-   this is all that is not proved. A write to a pipe that nobody reads any more ends a program by default; where that signal is ignored
-   it is a write that fails, and is told like any other. A static library cannot wait by a clock either: so a stream that does not block
-   is made to block. The C library's headers are not at hand for every processor that this is compiled on, so the numbers are written
-   out. */
+/* The start of a program of ours that ends with a status; START names its run, a function of crates/starts, and NAMED the word that names
+   its file: 1, or 2 behind a subcommand. A program of the kit has none: its main gives nothing back, and it always ends with 0. So the proved
+   run is a function here, and this is all that is not proved. A static library reaches neither the words nor a file, so both are read here.
+   A write to a pipe that nobody reads any more ends a program by default; where that signal is ignored it is a write that fails, and is told
+   like any other. A static library cannot wait by a clock either: so a stream that does not block is made to block. The C library's headers
+   are not at hand for every processor that this is compiled on, so the numbers are written out. */
 enum { BROKEN_PIPE = 13, IGNORED = 1, INTERRUPTED = 4, GET_FLAGS = 3, SET_FLAGS = 4, NOT_BLOCKING = 04000, MOST_FILE = 1 << 20,
        MOST_WORDS = 1 << 22 };
 typedef void (*Handler)(int);

@@ -84,3 +84,57 @@ pub extern "C" fn pw_start_pinarewhemi(
 ) -> u32 {
     subcommands::pw_pinarewhemi(&given(input, out, err, words, named, file, failure))
 }
+
+// The same runs by the names that their libraries exported before: today a library hands nothing to C.
+
+#[unsafe(no_mangle)]
+pub extern "C" fn pw_prep(
+    input: Stdin,
+    out: Stdout,
+    err: Stderr,
+    words: &[u8],
+    named: usize,
+    file: &[u8],
+    failure: i32,
+) -> u32 {
+    pw_start_prep(input, out, err, words, named, file, failure)
+}
+
+#[unsafe(no_mangle)]
+pub extern "C" fn pw_salvage_run(
+    input: Stdin,
+    out: Stdout,
+    err: Stderr,
+    words: &[u8],
+    named: usize,
+    file: &[u8],
+    failure: i32,
+) -> u32 {
+    pw_start_salvage(input, out, err, words, named, file, failure)
+}
+
+#[unsafe(no_mangle)]
+pub extern "C" fn pw_walk(
+    input: Stdin,
+    out: Stdout,
+    err: Stderr,
+    words: &[u8],
+    named: usize,
+    file: &[u8],
+    failure: i32,
+) -> u32 {
+    pw_start_walk(input, out, err, words, named, file, failure)
+}
+
+#[unsafe(no_mangle)]
+pub extern "C" fn pw_pinarewhemi(
+    input: Stdin,
+    out: Stdout,
+    err: Stderr,
+    words: &[u8],
+    named: usize,
+    file: &[u8],
+    failure: i32,
+) -> u32 {
+    pw_start_pinarewhemi(input, out, err, words, named, file, failure)
+}

@@ -1,5 +1,4 @@
 -- The loop passes each turn once. Assumes nothing.
-use borrow.Author.Rules.{rules}
 use Prim.Native.Nat.{◌≤◌, ◌-◌}
 use Rattle.damaged.proofs.cuts.Given as goal
 

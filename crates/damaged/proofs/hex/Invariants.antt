@@ -1,5 +1,4 @@
 -- The loop passes each turn once. Assumes nothing.
-use borrow.Author.Rules.{rules}
 use Prim.Native.Nat.{◌≤◌, ◌-◌}
 use lib.ListN.{length}
 use Rattle.damaged.proofs.hex.Given as goal

@@ -2,9 +2,7 @@
 use Prim.Native.Nat.{ℕ}
 use mathlib.Core.Path.{◌≡◌, sym, ap}
 use native.Mathlib.Omega.{arith}
-use Rattle.refusal.proofs.Refusals.{told_as}
-use Rattle.job.specs.Calls.{CheckSaid, check_told}
-use borrow.Author.Rules.{rules}
+use Rattle.job.specs.Calls.{CheckSaid}
 use Rattle.drawing.proofs.is_sound.Goals as goal
 
 pub returns-in-Refused : goal.returns-in-Refused

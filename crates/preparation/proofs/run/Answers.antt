@@ -4,7 +4,6 @@ use Rattle.refusal.proofs.Refusals.{told_as}
 use Rattle.job.specs.Calls.{check_told}
 use Rattle.preparation.proofs.Opening.{indexed_true}
 use Rattle.preparation.proofs.Status.{ends-refused, ends-accepted}
-use borrow.Author.Rules.{rules}
 use Rattle.preparation.proofs.run.Goals as goal
 
 pub run_outlines-ran-requires : goal.run_outlines-ran-requires

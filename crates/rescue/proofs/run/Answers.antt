@@ -4,7 +4,6 @@ use mathlib.Core.Logic.{inr}
 use lib.Seq.{length-take-le}
 use Rattle.saving.proofs.Settled.{told_held}
 use Rattle.rescue.proofs.Status.{status-refused, ends-saved}
-use borrow.Author.Rules.{rules}
 use Rattle.rescue.proofs.run.Goals as goal
 
 pub slice_bounds-print-end : goal.slice_bounds-print-end

@@ -1,5 +1,5 @@
 -- `compare` is safe. Assumes nothing.
-use Rattle.std.proofs.Common.{sym, arith, length-take-le, rules}
+use Rattle.std.proofs.Common.{sym, arith, length-take-le}
 use Rattle.rows.proofs.compare.Goals as goal
 
 pub slice_bounds-fracture-end : goal.slice_bounds-fracture-end

@@ -1,5 +1,5 @@
 -- `main` is safe and ends: the measure is what is left of its range. Assumes nothing.
-use Rattle.std.proofs.Common.{◌-◌, rules}
+use Rattle.std.proofs.Common.{◌-◌}
 use Rattle.rows.proofs.main.Given as goal
 
 abbrev pub invariant-loop-sort : goal.invariant-loop-sort

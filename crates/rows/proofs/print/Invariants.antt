@@ -1,5 +1,5 @@
 -- `print` is safe and ends: the measure is what is left of its range. Assumes nothing.
-use Rattle.std.proofs.Common.{◌-◌, rules}
+use Rattle.std.proofs.Common.{◌-◌}
 use Rattle.rows.proofs.print.Given as goal
 
 abbrev pub invariant-loop-i : goal.invariant-loop-i

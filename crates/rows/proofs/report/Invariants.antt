@@ -1,5 +1,5 @@
 -- `report` is safe and ends: the measure is what is left of its range. Assumes nothing.
-use Rattle.std.proofs.Common.{◌-◌, rules}
+use Rattle.std.proofs.Common.{◌-◌}
 use Rattle.rows.proofs.report.Given as goal
 
 abbrev pub invariant-loop-k : goal.invariant-loop-k

@@ -1,5 +1,5 @@
 -- `run` is safe. Assumes nothing.
-use Rattle.std.proofs.Common.{sym, arith, length-take-le, rules}
+use Rattle.std.proofs.Common.{sym, arith, length-take-le}
 use Rattle.rows.proofs.run.Goals as goal
 
 pub slice_bounds-compare-end : goal.slice_bounds-compare-end

@@ -1,5 +1,5 @@
 -- `same_costs` is safe and ends: the measure is what is left of its range. Assumes nothing.
-use Rattle.std.proofs.Common.{◌-◌, rules}
+use Rattle.std.proofs.Common.{◌-◌}
 use Rattle.rows.proofs.same_costs.Given as goal
 
 abbrev pub invariant-loop-p : goal.invariant-loop-p

@@ -1,7 +1,6 @@
 -- `count_figures` ends: each turn passes a line. Assumes nothing.
 use Prim.Native.Nat.{◌-◌}
 use lib.ListN.{length}
-use borrow.Author.Rules.{rules}
 use Rattle.drawing.proofs.lines.count_figures.Given as goal
 
 abbrev pub invariant-loop-at : goal.invariant-loop-at

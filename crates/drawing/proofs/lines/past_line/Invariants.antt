@@ -1,7 +1,6 @@
 -- `past_line` ends, past where it began: each turn passes a byte. Assumes nothing.
 use Prim.Native.Nat.{◌-◌, ◌≤◌}
 use lib.ListN.{length}
-use borrow.Author.Rules.{rules}
 use Rattle.drawing.proofs.lines.past_line.Given as goal
 
 abbrev pub invariant-loop-at : goal.invariant-loop-at

@@ -1,7 +1,4 @@
 -- `print_figures` forgets no failure: no figure does. The loop passes each figure once. Assumes nothing.
-use Prim.Native.Nat.{◌-◌}
-use Rattle.terminal.specs.Output.{Remembers}
-use borrow.Author.Rules.{rules}
 use Rattle.drawing.proofs.listing.print_figures.Goals as goal
 
 pub returns-in-Fault : goal.returns-in-Fault

@@ -1,5 +1,4 @@
 -- `print_job` forgets no failure: neither the rule nor the figures do. Assumes nothing.
-use borrow.Author.Rules.{rules}
 use Rattle.drawing.proofs.listing.print_job.Goals as goal
 
 pub returns-in-Job : goal.returns-in-Job

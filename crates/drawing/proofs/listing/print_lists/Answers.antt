@@ -1,5 +1,4 @@
 -- `print_lists` forgets no failure: neither print does. Assumes nothing.
-use borrow.Author.Rules.{rules}
 use Rattle.drawing.proofs.listing.print_lists.Goals as goal
 
 pub returns-then-rings-lengths : goal.returns-then-rings-lengths

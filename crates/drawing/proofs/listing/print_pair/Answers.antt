@@ -1,5 +1,4 @@
 -- `print_pair` forgets no failure: none of the three prints does. Assumes nothing.
-use borrow.Author.Rules.{rules}
 use Rattle.drawing.proofs.listing.print_pair.Goals as goal
 
 pub returns : goal.returns

@@ -1,7 +1,4 @@
 -- `print_ring` forgets no failure: no corner does. The loop passes each corner once. Assumes nothing.
-use Prim.Native.Nat.{◌-◌}
-use Rattle.terminal.specs.Output.{Remembers}
-use borrow.Author.Rules.{rules}
 use Rattle.drawing.proofs.listing.print_ring.Goals as goal
 
 pub loop-k-preserved : goal.loop-k-preserved

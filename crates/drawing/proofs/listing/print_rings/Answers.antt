@@ -1,8 +1,4 @@
 -- `print_rings` forgets no failure: no ring does. The loop passes each ring once. Assumes nothing.
-use Prim.Native.Nat.{◌-◌}
-use lib.ListN.{length}
-use Rattle.terminal.specs.Output.{Remembers}
-use borrow.Author.Rules.{rules}
 use Rattle.drawing.proofs.listing.print_rings.Goals as goal
 
 pub loop-ring-preserved : goal.loop-ring-preserved

@@ -2,7 +2,6 @@
 use Prim.Native.Nat.{◌-◌}
 use lib.ListN.{length}
 use Rattle.terminal.specs.Output.{Remembers}
-use borrow.Author.Rules.{rules}
 use Rattle.drawing.proofs.listing.print_rings.Given as goal
 
 abbrev pub invariant-loop-ring : goal.invariant-loop-ring

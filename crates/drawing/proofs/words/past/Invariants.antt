@@ -1,7 +1,6 @@
 -- `past` ends: each turn passes a byte. Assumes nothing.
 use Prim.Native.Nat.{◌-◌}
 use lib.ListN.{length}
-use borrow.Author.Rules.{rules}
 use Rattle.drawing.proofs.words.past.Given as goal
 
 abbrev pub invariant-loop-at : goal.invariant-loop-at

@@ -1,6 +1,5 @@
 -- The loop passes each edge once. Assumes nothing.
 use Prim.Native.Nat.{◌-◌}
-use borrow.Author.Rules.{rules}
 use Rattle.explanation.proofs.figures.first_at_fault.Given as goal
 
 abbrev pub invariant-loop-k : goal.invariant-loop-k

@@ -1,7 +1,6 @@
 -- The loop passes each ring once. Assumes nothing.
 use Prim.Native.Nat.{◌-◌}
 use lib.ListN.{length}
-use borrow.Author.Rules.{rules}
 use Rattle.explanation.proofs.figures.say_first.Given as goal
 
 abbrev pub invariant-loop-r : goal.invariant-loop-r

@@ -1,6 +1,5 @@
 -- The loop reads no more numbers than a job has bytes, and one. Assumes nothing.
 use Prim.Native.Nat.{◌-◌, ◌≤◌}
-use borrow.Author.Rules.{rules}
 use Rattle.explanation.proofs.jobs.say_first_fault.Given as goal
 
 abbrev pub invariant-loop-done : goal.invariant-loop-done

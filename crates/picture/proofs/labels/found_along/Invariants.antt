@@ -1,6 +1,5 @@
 -- The loop passes each turn once. Assumes nothing.
 use Prim.Native.Nat.{◌-◌}
-use borrow.Author.Rules.{rules}
 use Rattle.picture.proofs.labels.found_along.Given as goal
 
 abbrev pub invariant-loop-k : goal.invariant-loop-k

@@ -1,7 +1,6 @@
 -- A product of two bounded numbers is bounded. Assumes nothing.
 use native.Mathlib.Omega.{arith}
 use native.Mathlib.Nat.{mul-le-mul}
-use borrow.Author.Rules.{rules}
 use Rattle.picture.proofs.sheet.product.Goals as goal
 
 pub overflow_mul-result : goal.overflow_mul-result

@@ -1,7 +1,6 @@
 -- The loop passes each turn once. Assumes nothing.
 use Prim.Native.Nat.{◌-◌}
 use lib.ListN.{length}
-use borrow.Author.Rules.{rules}
 use Rattle.picture.proofs.shots.each_ring.Given as goal
 
 abbrev pub invariant-loop-ring : goal.invariant-loop-ring

@@ -1,5 +1,4 @@
 -- `print_done` forgets no failure: none of its words does, nor the lines of its shots. Assumes nothing.
-use borrow.Author.Rules.{rules}
 use Rattle.preparation.proofs.lines.print_done.Goals as goal
 
 pub returns : goal.returns

@@ -1,5 +1,4 @@
 -- `print_job` forgets no failure. Assumes nothing.
-use borrow.Author.Rules.{rules}
 use Rattle.preparation.proofs.lines.print_job.Goals as goal
 
 pub returns : goal.returns

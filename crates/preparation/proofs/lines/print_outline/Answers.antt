@@ -1,7 +1,6 @@
 -- `print_outline` forgets no failure, whichever answer it prints; the list holds the shots of an answer that is no refusal. Assumes nothing.
 use mathlib.Core.Path.{subst}
 use lib.ListN.{length}
-use borrow.Author.Rules.{rules}
 use Rattle.fracture.specs.declared.Fractured.{Fractured}
 use Rattle.preparation.specs.Lines.{Listed}
 use Rattle.preparation.proofs.lines.print_outline.Goals as goal

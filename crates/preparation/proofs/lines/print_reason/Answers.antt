@@ -1,5 +1,4 @@
 -- `print_reason` forgets no failure. Assumes nothing.
-use borrow.Author.Rules.{rules}
 use Rattle.preparation.proofs.lines.print_reason.Goals as goal
 
 pub returns : goal.returns

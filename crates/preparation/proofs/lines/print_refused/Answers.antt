@@ -1,5 +1,4 @@
 -- `print_refused` forgets no failure. Assumes nothing.
-use borrow.Author.Rules.{rules}
 use Rattle.preparation.proofs.lines.print_refused.Goals as goal
 
 pub returns : goal.returns

@@ -1,5 +1,4 @@
 -- `print_shot` is safe and forgets no failure: none of its five words does. Assumes nothing.
-use borrow.Author.Rules.{rules}
 use Rattle.preparation.proofs.lines.print_shot.Goals as goal
 
 pub returns : goal.returns

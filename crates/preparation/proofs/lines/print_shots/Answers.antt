@@ -1,7 +1,5 @@
 -- `print_shots` is safe and ends, and forgets no failure: no line of a shot does. Assumes nothing.
-use Prim.Native.Nat.{◌-◌, ◌≤◌}
 use borrow.Author.Rules.{rules}
-use Rattle.terminal.specs.Output.{Remembers}
 use Rattle.preparation.proofs.lines.print_shots.Goals as goal
 
 pub loop-i-preserved : goal.loop-i-preserved

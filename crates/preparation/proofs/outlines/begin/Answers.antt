@@ -2,11 +2,8 @@
 use Prim.Native.Nat.{ℕ}
 use mathlib.Core.List.{List}
 use native.Mathlib.Omega.{arith}
-use Rattle.refusal.proofs.Refusals.{told_as}
 use Rattle.number.proofs.Bytes.{AllBytes}
-use Rattle.job.specs.Steps.{head_told}
 use Rattle.preparation.proofs.Opening.{begin_refused, begin_index, begin_never, begin_accepted}
-use borrow.Author.Rules.{rules}
 use Rattle.preparation.proofs.outlines.begin.Goals as goal
 
 pub returns-in-Refused : goal.returns-in-Refused

@@ -1,6 +1,5 @@
 -- `fracture_outline` fractures the figure that the job says: the two lists are handed on as far as the figure goes. Assumes nothing.
 use mathlib.Core.Path.{◌∙◌}
-use borrow.Author.Rules.{rules}
 use Rattle.preparation.proofs.Fracturing.{outcome_of}
 use Rattle.preparation.proofs.outlines.fracture_outline.Goals as goal
 

@@ -5,7 +5,6 @@ use native.Mathlib.Omega.{arith}
 use Rattle.number.proofs.Bytes.{AllBytes}
 use Rattle.preparation.proofs.Accepted.{taken-whole}
 use Rattle.preparation.proofs.Opening.{picked-taken}
-use borrow.Author.Rules.{rules}
 use Rattle.preparation.proofs.outlines.part_of.Goals as goal
 
 pub returns : goal.returns

@@ -3,7 +3,6 @@ use Prim.Native.Nat.{ℕ}
 use mathlib.Core.List.{List}
 use mathlib.Core.Path.{◌∙◌}
 use native.Mathlib.Omega.{arith}
-use borrow.Author.Rules.{rules}
 use Rattle.number.proofs.Bytes.{AllBytes}
 use Rattle.preparation.specs.Outlines.{is_refused}
 use Rattle.preparation.proofs.Accepted.{sound-accepted, figure_words}

@@ -1,13 +1,9 @@
 -- `run_outlines` says whether one of the outlines is refused, unless a write failed: the loop knows it of those that it passed. Assumes nothing.
 use Prim.Native.Nat.{◌-◌, ◌≤◌}
-use mathlib.Core.Logic.{inl, inr}
-use mathlib.Core.Path.{◌≡◌, ◌∙◌, ap}
-use native.Mathlib.Omega.{arith}
+use mathlib.Core.Path.{◌≡◌}
 use lib.ListN.{length}
-use borrow.Author.Rules.{rules}
 use Rattle.terminal.specs.Output.{Remembers}
 use Rattle.preparation.specs.Outlines.{any_refused}
-use Rattle.preparation.proofs.Status.{any-more}
 use Rattle.preparation.proofs.outlines.run_outlines.Given as goal
 
 abbrev pub invariant-loop-k : goal.invariant-loop-k

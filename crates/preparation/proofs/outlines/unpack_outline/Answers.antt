@@ -1,6 +1,5 @@
 -- `unpack_outline` leaves the figure that the job says at the front of the two lists; its other arm is never taken. Assumes nothing.
 use native.Mathlib.Omega.{arith}
-use borrow.Author.Rules.{rules}
 use Rattle.number.proofs.Bytes.{AllBytes}
 use Rattle.preparation.proofs.Accepted.{refused_never, unpacked_fronts}
 use Rattle.preparation.proofs.outlines.unpack_outline.Goals as goal

@@ -1,5 +1,5 @@
 -- `draw` is safe and ends: the measure is what is left of its range. Assumes nothing.
-use Rattle.std.proofs.Common.{◌≡◌, ◌-◌, length, rules}
+use Rattle.std.proofs.Common.{◌≡◌, ◌-◌, length}
 use Rattle.rows.proofs.drawings.draw.Given as goal
 
 abbrev pub invariant-loop-i : goal.invariant-loop-i

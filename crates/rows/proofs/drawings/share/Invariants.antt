@@ -1,5 +1,5 @@
 -- `share` is safe and ends: the measure is what is left of its range. Assumes nothing.
-use Rattle.std.proofs.Common.{◌≡◌, ◌-◌, length, rules}
+use Rattle.std.proofs.Common.{◌≡◌, ◌-◌, length}
 use Rattle.rows.proofs.drawings.share.Given as goal
 
 abbrev pub invariant-loop-r : goal.invariant-loop-r

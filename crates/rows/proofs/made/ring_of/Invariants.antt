@@ -1,5 +1,5 @@
 -- `ring_of` is safe and ends: the measure is what is left of its range. Assumes nothing.
-use Rattle.std.proofs.Common.{◌-◌, rules}
+use Rattle.std.proofs.Common.{◌-◌}
 use Rattle.rows.proofs.made.ring_of.Given as goal
 
 abbrev pub invariant-loop-r : goal.invariant-loop-r

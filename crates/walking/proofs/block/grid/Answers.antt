@@ -1,6 +1,5 @@
 -- A drawing keeps the lengths of the lists that it was lent. Assumes nothing.
 use mathlib.Core.Path.{sym}
-use borrow.Author.Rules.{rules}
 use Rattle.outline.specs.Promise.{sheet}
 use Rattle.outline.proofs.Memory.{drawing-lengths}
 use Rattle.walking.proofs.block.grid.Goals as goal

@@ -1,6 +1,5 @@
 -- The loop passes each turn once. Assumes nothing.
-use Prim.Native.Nat.{◌≤◌, ◌-◌}
-use borrow.Author.Rules.{rules}
+use Prim.Native.Nat.{◌≤◌}
 use Rattle.walking.proofs.block.rows.Given as goal
 
 abbrev pub invariant-loop-j : goal.invariant-loop-j

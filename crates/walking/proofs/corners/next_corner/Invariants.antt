@@ -1,7 +1,6 @@
 -- The loop passes each ring once. Assumes nothing.
 use Prim.Native.Nat.{◌-◌, ◌≤◌}
 use lib.ListN.{length}
-use borrow.Author.Rules.{rules}
 use Rattle.walking.proofs.corners.next_corner.Given as goal
 
 abbrev pub invariant-loop-ring : goal.invariant-loop-ring

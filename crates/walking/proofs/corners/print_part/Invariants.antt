@@ -1,7 +1,6 @@
 -- The loop passes each turn once. Assumes nothing.
 use Prim.Native.Nat.{◌-◌}
 use lib.ListN.{length}
-use borrow.Author.Rules.{rules}
 use Rattle.walking.proofs.corners.print_part.Given as goal
 
 abbrev pub invariant-loop-i : goal.invariant-loop-i

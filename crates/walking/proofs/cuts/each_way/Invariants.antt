@@ -1,6 +1,5 @@
 -- The loop passes each turn once. Assumes nothing.
 use Prim.Native.Nat.{◌-◌}
-use borrow.Author.Rules.{rules}
 use Rattle.walking.proofs.cuts.each_way.Given as goal
 
 abbrev pub invariant-loop-n : goal.invariant-loop-n

@@ -1,6 +1,5 @@
 -- The loop passes each turn once. Assumes nothing.
 use Prim.Native.Nat.{◌-◌}
-use borrow.Author.Rules.{rules}
 use Rattle.walking.proofs.lines.print_level.Given as goal
 
 abbrev pub invariant-loop-i : goal.invariant-loop-i

@@ -1,5 +1,4 @@
 -- The loop passes each turn once. Assumes nothing.
-use borrow.Author.Rules.{rules}
 use Rattle.walking.proofs.lines.print_rows.Given as goal
 
 abbrev pub invariant-loop-j : goal.invariant-loop-j
