@@ -1,6 +1,5 @@
 -- What is left between the two ends falls. Assumes nothing.
 use Prim.Native.Nat.{◌-◌, ◌<◌, ◌≤◌}
-use borrow.Author.Rules.{rules}
 use Rattle.subcommands.proofs.elements.raised.Given as goal
 
 abbrev pub invariant-loop-between : goal.invariant-loop-between

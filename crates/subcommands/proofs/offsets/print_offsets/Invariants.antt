@@ -1,6 +1,5 @@
 -- The loop passes each outline once. Assumes nothing.
 use Prim.Native.Nat.{◌-◌, ◌≤◌}
-use borrow.Author.Rules.{rules}
 use Rattle.subcommands.proofs.offsets.print_offsets.Given as goal
 
 abbrev pub invariant-loop-k : goal.invariant-loop-k
