@@ -1,11 +1,11 @@
-/* The start of a program of ours that ends with a status; START names its run, a function of crates/starts, and NAMED the word that names
-   its file: 1, or 2 behind a subcommand. A program of the kit has none: its main gives nothing back, and it always ends with 0. So the proved
-   run is a function here, and this is all that is not proved. A static library reaches neither the words nor a file, so both are read here.
-   A write to a pipe that nobody reads any more ends a program by default; where that signal is ignored it is a write that fails, and is told
-   like any other. A static library cannot wait by a clock either: so a stream that does not block is made to block. The C library's headers
-   are not at hand for every processor that this is compiled on, so the numbers are written out. */
-enum { BROKEN_PIPE = 13, IGNORED = 1, INTERRUPTED = 4, GET_FLAGS = 3, SET_FLAGS = 4, NOT_BLOCKING = 04000, MOST_FILE = 1 << 20,
-       MOST_WORDS = 1 << 22 };
+/* The start of a program of ours that ends with a status; START names its run, a function of crates/starts, NAMED the word that names its
+   file (1, or 2 behind a subcommand), WORDS how many words there then are (0: any), and MOST_FILE how many bytes the run reads at most. Our
+   programs as the kit builds them have no status: their main gives nothing back, and they always end with 0. So the proved run is a function
+   here, and this is all that is not proved. A static library reaches neither the words nor a file, so both are read here. A write to a pipe
+   that nobody reads any more ends a program by default; where that signal is ignored it is a write that fails, and is told like any other. A
+   static library cannot wait by a clock either: so a stream that does not block is made to block. The C library's headers are not at hand for
+   every processor that this is compiled on, so the numbers are written out. */
+enum { BROKEN_PIPE = 13, IGNORED = 1, INTERRUPTED = 4, GET_FLAGS = 3, SET_FLAGS = 4, NOT_BLOCKING = 04000, MOST_WORDS = 1 << 22 };
 typedef void (*Handler)(int);
 extern Handler signal(int, Handler);
 extern int open(const char *, int, ...);
@@ -33,7 +33,7 @@ static unsigned long hand_words(int count, char **given) {
     return end;
 }
 
-/* Reads the file of this name to its end, or as much of it as there is room for, which is more than any run asks for; what failed. */
+/* Reads the file of this name to its end, or as much of it as the run reads at most; what failed. */
 static int hand_file(const char *name, unsigned long *bytes) {
     int opened = open(name, 0);
     if (opened < 0) return *__errno_location();
@@ -62,6 +62,6 @@ int main(int count, char **given) {
     signal(BROKEN_PIPE, (Handler)IGNORED);
     block(0);
     block(1);
-    if (NAMED < count && names_file(given[NAMED])) failure = hand_file(given[NAMED], &bytes);
+    if (NAMED < count && (!WORDS || count == WORDS) && names_file(given[NAMED])) failure = hand_file(given[NAMED], &bytes);
     return (int)START(words, hand_words(count, given), NAMED, file, bytes, failure);
 }
