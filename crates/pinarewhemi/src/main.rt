@@ -1,4 +1,4 @@
-// The program for what people do with figures, as a program of the kit, which gives no status back.
+// The program for what people do with figures, as the kit builds it: it gives no status back.
 #![tactic(auto)]
 
 fn main(rt: HostRuntime) {

@@ -1,4 +1,4 @@
-// The job program. A program of the kit gives no status back: it ends with 0 whatever was refused or failed.
+// The job program as the kit builds it: it gives no status back, and ends with 0 whatever was refused or failed.
 #![tactic(auto)]
 
 fn main(rt: HostRuntime) {

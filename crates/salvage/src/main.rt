@@ -1,4 +1,4 @@
-// What is left of a job. A program of the kit gives no status back: it ends with 0 whatever was refused, lost or failed.
+// What is left of a job, as the kit builds it: it gives no status back, and ends with 0 whatever was refused, lost or failed.
 #![tactic(auto)]
 
 fn main(rt: HostRuntime) {

@@ -1,4 +1,4 @@
-// The newcomers' walk as a program of the kit, which gives no status back.
+// The newcomers' walk as the kit builds it: it gives no status back.
 #![tactic(auto)]
 
 fn main(rt: HostRuntime) {

@@ -43,7 +43,7 @@ struct Shape {
     rings: usize,
 }
 
-// The end of the walk: where writing some of it failed, or closing it does, that is told.
+// The end of the walk: where writing some of it failed, that is told.
 fn ended(out: &mut Output) -> u32 {
     if close(*out) {
         return DONE;
