@@ -1,5 +1,6 @@
 -- Laws of the promises said of lent numbers. Assumes nothing.
 --
+--   refused_lent      == a fault said by its number and its place, where both are known
 --   renumbered        == a refusal said by its number, where the number is known
 --   outline-fault     == a job that is refused as a whole refuses outline k
 --   outline_missing   == 13, for k not below the count of a sound job
@@ -16,6 +17,7 @@ use lib.IntN.{ℤ}
 use mir.Syntax.{w32}
 use mir.Val.{SFits, to_z, of_z}
 use mir.ValLaws.{to_z-of_z}
+use Rattle.std.specs.Prelude.{Result, Ok, Err}
 use Rattle.refusal.specs.declared.Refusal.{Refusal}
 use Rattle.refusal.specs.Refusals.{refusal_no}
 use Rattle.number.specs.Reading.{read, fault}
@@ -24,22 +26,24 @@ use Rattle.job.specs.Steps.{whole, located}
 use Rattle.job.specs.Calls.{no_part}
 use Rattle.job.proofs.Calls.{fault-whole, read_whole, job-said, located-nth}
 use Rattle.join.specs.declared.Joined.{Joined}
-use Rattle.join.specs.declared.Pairing.{Pairing}
 use Rattle.join.specs.Join.{join_lent, join_told, Promise}
 use Rattle.capi.specs.Lent.{outline_lent, job_part, part_said, outline_said, flashes_of, pairing_no}
 
 pub renumbered : {A : Type 0} (said : ℕ → A) {n m : ℕ} {b : A} → n ≡ m → said m ≡ b → said n ≡ b
 renumbered said e f = ap said e ∙ f
 
+pub refused_lent : {A : Type 0} (said : ℕ → ℕ → A) {n m p q : ℕ} {b : A} → n ≡ m → p ≡ q → said m q ≡ b → said n p ≡ b
+refused_lent said e f g = ap₂ said e f ∙ g
+
 pub signed_lent : {A : Type 0} (said : ℤ → ℤ → A) {x y : ℤ} {b : A} → SFits w32 x → SFits w32 y → said x y ≡ b
     → said (to_z w32 (of_z w32 x)) (to_z w32 (of_z w32 y)) ≡ b
 signed_lent said {x} {y} f g e = ap₂ said (to_z-of_z w32 x f) (to_z-of_z w32 y g) ∙ e
 
-told_lent : (answer : Pairing) (u : List Joined) → join_told answer u ≡ join_lent (pairing_no answer) (flashes_of answer) u
-told_lent (Pairing.Flashes n) u = refl
-told_lent (Pairing.Refused why) u = refl
+told_lent : (answer : Result ℕ Refusal) (u : List Joined) → join_told answer u ≡ join_lent (pairing_no answer) (flashes_of answer) u
+told_lent (Ok n) u = refl
+told_lent (Err why) u = refl
 
-pub pairing_lent : (l : List ℕ) (t u : List Joined) (answer : Pairing) (n f : ℕ) → Promise l t (join_told answer u) → f ≡ flashes_of answer → n ≡ pairing_no answer
+pub pairing_lent : (l : List ℕ) (t u : List Joined) (answer : Result ℕ Refusal) (n f : ℕ) → Promise l t (join_told answer u) → f ≡ flashes_of answer → n ≡ pairing_no answer
     → Promise l t (join_lent n f u)
 pairing_lent l t u answer n f p e g = simp (e, g) (rw (sym (told_lent answer u)) p)
 

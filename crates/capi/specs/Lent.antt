@@ -11,17 +11,17 @@
 --   outline_lent                == the number returned and the numbers lent
 --   boundary_lent, plate_lent    == the number returned, the numbers lent, and what the slices lent hold then
 --   flashes_of, pairing_no       == the flashes and the number of a pairing's answer; what is lent of it is `join_lent`
-use Rattle.std.specs.Prelude.{ℕ, ◌-◌, List, cond, ltb, length, get_or, ℤ}
+use Rattle.std.specs.Prelude.{ℕ, ◌-◌, List, cond, ltb, length, get_or, ℤ, Result, Ok, Err}
 use Rattle.rule.specs.Rules.{Told}
 use Rattle.demands.specs.Promise.{Outcome}
 use Rattle.demands.specs.Cuts.{Ahead}
+use Rattle.refusal.specs.declared.Refusal.{Refusal}
 use Rattle.refusal.specs.declared.Refusal.TheVariants.{Missing}
 use Rattle.refusal.specs.Refusals.{refusal_no}
 use Rattle.number.specs.Reading.{Reading, read, fault}
 use Rattle.job.specs.Job.{Job, Part, job}
 use Rattle.job.specs.Calls.{CheckSaid, UnpackSaid, WriteSaid, no_part}
 use Rattle.gdsii.specs.Calls.{BoundarySaid, PlateSaid}
-use Rattle.join.specs.declared.Pairing.{Pairing}
 
 abbrev pub preset_lent : ℕ → ℕ → ℕ → Told
 preset_lent n t w = record { number = n; threshold = t; weight = w }
@@ -98,10 +98,10 @@ plate_lent n shots cost sliver cuts x y at table list =
       list = list;
     }
 
-abbrev pub flashes_of : Pairing → ℕ
-flashes_of (Pairing.Flashes n) = n
-flashes_of (Pairing.Refused why) = 0
+abbrev pub flashes_of : Result ℕ Refusal → ℕ
+flashes_of (Ok n) = n
+flashes_of (Err why) = 0
 
-abbrev pub pairing_no : Pairing → ℕ
-pairing_no (Pairing.Flashes n) = 0
-pairing_no (Pairing.Refused why) = refusal_no why
+abbrev pub pairing_no : Result ℕ Refusal → ℕ
+pairing_no (Ok n) = 0
+pairing_no (Err why) = refusal_no why

@@ -4,8 +4,7 @@ ghost use Rattle.figure.specs.Figure.{figure};
 ghost use Rattle.edge.specs.Promise.{edge_walked};
 ghost use Rattle.capi.specs.EdgeLent.{edge_lent};
 
-use edge::{Walked, edge_shots};
-use refusal::refusal_no;
+use edge::edge_shots;
 
 // How many runs an edge has, with four numbers for each at the front of the buffer; or 2 to 5, 21, 23, 14.
 #[unsafe(no_mangle)]
@@ -21,10 +20,10 @@ pub extern "C" fn pw_edge(
 {
     *count = 0;
     match edge_shots(corners, rings, edge, shots, runs) {
-        Walked::Runs(n) => {
+        Ok(n) => {
             *count = n;
             0
         }
-        Walked::Refused(why) => refusal_no(why),
+        Err(why) => u32::from(why),
     }
 }

@@ -5,11 +5,11 @@ ghost use Rattle.index.specs.Index.{opened, appended, removed, change_told};
 ghost use Rattle.capi.specs.Lent.{outline_lent};
 ghost use Rattle.capi.specs.IndexLent.{open_lent, change_lent, pick_said};
 
+use super::refuse;
 use index::changing::{Changed, append, remove};
-use index::opening::{Opened, open};
+use index::opening::open;
 use index::picking::find;
-use job::read::Located;
-use refusal::refusal_no;
+use refusal::Fault;
 
 // How many outlines a job has, with the offset of each at the front of the index; or 12, 8 to 11 and the offset, 14.
 #[unsafe(no_mangle)]
@@ -24,36 +24,34 @@ pub extern "C" fn pw_index_open(
     *outlines = 0;
     *offset = 0;
     match open(job, index) {
-        Opened::Outlines(n) => {
+        Ok(n) => {
             *outlines = n;
             0
         }
-        Opened::Refused(r, p) => {
-            *offset = p;
-            refusal_no(r)
-        }
+        Err(fault) => refuse(fault, offset),
     }
 }
 
 // Lends on what a change answers, whatever index and buffer hold.
-fn lend_change(answer: Changed, written: &mut usize, outlines: &mut u32, offset: &mut usize) -> u32
+fn lend_change(
+    answer: Result<Changed, Fault>,
+    written: &mut usize,
+    outlines: &mut u32,
+    offset: &mut usize,
+) -> u32
     ensures { (index out : List ℕ) → change_lent result written.new outlines.new offset.new index out ≡ change_told answer index out }
 {
     match answer {
-        Changed::Job {
-            bytes: b,
-            outlines: k,
-        } => {
-            *written = b;
-            *outlines = k;
+        Ok(changed) => {
+            *written = changed.bytes;
+            *outlines = changed.outlines;
             *offset = 0;
             0
         }
-        Changed::Refused(why, at) => {
+        Err(fault) => {
             *written = 0;
             *outlines = 0;
-            *offset = at;
-            refusal_no(why)
+            refuse(fault, offset)
         }
     }
 }
@@ -110,13 +108,10 @@ pub extern "C" fn pw_index_pick(
     *length = 0;
     *offset = 0;
     match find(job, index, count, k) {
-        Located::Fault(r, p) => {
-            *offset = p;
-            refusal_no(r)
-        }
-        Located::Part(from, to) => {
-            *start = from;
-            *length = to - from;
+        Err(fault) => refuse(fault, offset),
+        Ok(part) => {
+            *start = part.start;
+            *length = part.end - part.start;
             0
         }
     }

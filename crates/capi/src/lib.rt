@@ -3,6 +3,7 @@
 #![tactic(auto)]
 
 ghost use Rattle.std.specs.Prelude.{◌≡◌, List, ℕ};
+ghost use Rattle.refusal.specs.Refusals.{refusal_no};
 ghost use Rattle.rule.specs.Rules.{preset_told};
 ghost use Rattle.figure.specs.Figure.{figure};
 ghost use Rattle.piece.specs.declared.Mode.TheVariants.{Straight, Pinwheel};
@@ -15,16 +16,12 @@ ghost use Rattle.gdsii.specs.Calls.{boundary_read, boundary_fractured};
 ghost use Rattle.join.specs.Join.{join_lent, Promise};
 ghost use Rattle.capi.specs.Lent.{preset_lent, cuts_lent, number_lent, number_said, check_lent, outline_lent, outline_said, unpack_lent, write_lent, fracture_lent, boundary_lent, plate_lent, flashes_of, pairing_no};
 
-use fracture::{Forecast, Fractured};
-use gdsii::{Boundary, Plate};
-use job::read::{Checked, Head, Located};
-use job::unpack::Unpacked;
-use job::write::Written;
+use fracture::{Denial, Fractured};
 use job::{read, unpack, write};
-use join::{Joined, Pairing};
-use number::{Cursor, Read};
-use refusal::{Refusal, refusal_no};
-use rule::{Preset, Rule};
+use join::Joined;
+use number::Cursor;
+use refusal::{Fault, Refusal};
+use rule::Rule;
 
 mod divided;
 mod edges;
@@ -33,48 +30,58 @@ mod salvages;
 mod texts;
 mod versions;
 
+// Lends on the place of a fault, and tells its number.
+fn refuse(fault: Fault, offset: &mut usize) -> u32
+    ensures number { result ≡ refusal_no fault.why }
+    ensures place { offset.new ≡ fault.at }
+{
+    *offset = fault.at;
+    u32::from(fault.why)
+}
+
 // The rule of a preset, or 15.
 #[unsafe(no_mangle)]
 pub extern "C" fn pw_preset(number: u32, threshold: &mut u32, weight: &mut u32) -> u32
     ensures settled { preset_lent result threshold.new weight.new ≡ preset_told number }
 {
     match Rule::preset(number) {
-        Preset::Row(row) => {
+        Ok(row) => {
             *threshold = row.threshold;
             *weight = row.weight;
             0
         }
-        Preset::Refused(why) => {
+        Err(why) => {
             *threshold = 0;
             *weight = 0;
-            refusal_no(why)
+            u32::from(why)
         }
     }
 }
 
 // Lends on what a fracture answers, whatever its buffers hold.
-fn lend(answer: Fractured, shots: &mut u32, cost: &mut u32, sliver: &mut u32, cuts: &mut u32) -> u32
+fn lend(
+    answer: Result<Fractured, Denial>,
+    shots: &mut u32,
+    cost: &mut u32,
+    sliver: &mut u32,
+    cuts: &mut u32,
+) -> u32
     ensures { (table list : List ℕ) → fracture_lent result shots.new cost.new sliver.new cuts.new table list ≡ told answer table list }
 {
     match answer {
-        Fractured::Done {
-            shots: s,
-            cost: k,
-            sliver: v,
-            cuts: w,
-        } => {
-            *shots = s;
-            *cost = k;
-            *sliver = v;
-            *cuts = w;
+        Ok(done) => {
+            *shots = done.shots;
+            *cost = done.cost;
+            *sliver = done.sliver;
+            *cuts = done.cuts;
             0
         }
-        Fractured::Refused(why, needed) => {
-            *shots = needed;
+        Err(denial) => {
+            *shots = denial.needed;
             *cost = 0;
             *sliver = 0;
             *cuts = 0;
-            refusal_no(why)
+            u32::from(denial.why)
         }
     }
 }
@@ -124,11 +131,11 @@ pub extern "C" fn pw_cuts(corners: &[u16], rings: &[u16], cuts: &mut u32) -> u32
 {
     *cuts = 0;
     match fracture::cuts(corners, rings) {
-        Forecast::Cuts(n) => {
+        Ok(n) => {
             *cuts = n;
             0
         }
-        Forecast::Refused(unfit) => refusal_no(unfit),
+        Err(why) => u32::from(why),
     }
 }
 
@@ -168,15 +175,12 @@ pub extern "C" fn pw_number(
     *offset = 0;
     let cursor = Cursor { at };
     match cursor.number(bytes) {
-        Read::Number(v, c) => {
-            *value = v;
-            *next = c.at;
+        Ok(found) => {
+            *value = found.value;
+            *next = found.next.at;
             0
         }
-        Read::Fault(r, p) => {
-            *offset = p;
-            refusal_no(r)
-        }
+        Err(fault) => refuse(fault, offset),
     }
 }
 
@@ -196,20 +200,13 @@ pub extern "C" fn pw_job_check(
     *outlines = 0;
     *offset = 0;
     match read::check(job) {
-        Checked::Job {
-            threshold: t,
-            weight: w,
-            outlines: k,
-        } => {
-            *threshold = t;
-            *weight = w;
-            *outlines = k;
+        Ok(found) => {
+            *threshold = found.threshold;
+            *weight = found.weight;
+            *outlines = found.outlines;
             0
         }
-        Checked::Refused(r, p) => {
-            *offset = p;
-            refusal_no(r)
-        }
+        Err(fault) => refuse(fault, offset),
     }
 }
 
@@ -228,27 +225,16 @@ pub extern "C" fn pw_job_outline(
     *length = 0;
     *offset = 0;
     match read::whole(job) {
-        Head::Fault(r, p) => {
-            *offset = p;
-            refusal_no(r)
-        }
-        Head::Header {
-            threshold: _,
-            weight: _,
-            outlines: count,
-            next,
-        } => {
-            if count as usize <= k {
-                return refusal_no(Refusal::Missing);
+        Err(fault) => refuse(fault, offset),
+        Ok(header) => {
+            if header.outlines as usize <= k {
+                return u32::from(Refusal::Missing);
             }
-            match read::locate(job, next, k) {
-                Located::Fault(r, p) => {
-                    *offset = p;
-                    refusal_no(r)
-                }
-                Located::Part(from, to) => {
-                    *start = from;
-                    *length = to - from;
+            match read::locate(job, header.next, k) {
+                Err(fault) => refuse(fault, offset),
+                Ok(part) => {
+                    *start = part.start;
+                    *length = part.end - part.start;
                     0
                 }
             }
@@ -273,18 +259,12 @@ pub extern "C" fn pw_unpack(
     *ring_count = 0;
     *offset = 0;
     match unpack::unpack(part, list, rings) {
-        Unpacked::Figure {
-            corners: v,
-            rings: n,
-        } => {
-            *corners = v;
-            *ring_count = n;
+        Ok(figure) => {
+            *corners = figure.corners;
+            *ring_count = figure.rings;
             0
         }
-        Unpacked::Refused(r, p) => {
-            *offset = p;
-            refusal_no(r)
-        }
+        Err(fault) => refuse(fault, offset),
     }
 }
 
@@ -301,11 +281,11 @@ pub extern "C" fn pw_write_header(
 {
     *written = 0;
     match write::write_header(threshold, weight, outlines, out) {
-        Written::Bytes(n) => {
+        Ok(n) => {
             *written = n;
             0
         }
-        Written::Refused(why) => refusal_no(why),
+        Err(why) => u32::from(why),
     }
 }
 
@@ -321,11 +301,11 @@ pub extern "C" fn pw_write_outline(
 {
     *written = 0;
     match write::write_outline(corners, rings, out) {
-        Written::Bytes(size) => {
+        Ok(size) => {
             *written = size;
             0
         }
-        Written::Refused(why) => refusal_no(why),
+        Err(why) => u32::from(why),
     }
 }
 
@@ -347,20 +327,13 @@ pub extern "C" fn pw_gdsii_read(
     *shift_y = 0;
     *offset = 0;
     match gdsii::read_boundary(element, list) {
-        Boundary::Corners {
-            corners: n,
-            shift_x: x,
-            shift_y: y,
-        } => {
-            *corner_count = n;
-            *shift_x = x;
-            *shift_y = y;
+        Ok(boundary) => {
+            *corner_count = boundary.corners;
+            *shift_x = boundary.shift_x;
+            *shift_y = boundary.shift_y;
             0
         }
-        Boundary::Refused(r, p) => {
-            *offset = p;
-            refusal_no(r)
-        }
+        Err(fault) => refuse(fault, offset),
     }
 }
 
@@ -389,47 +362,40 @@ pub extern "C" fn pw_gdsii_fracture(
     *shift_y = 0;
     *offset = 0;
     match gdsii::fracture_boundary(element, table, list) {
-        Plate::Done {
-            shots: found,
-            cost: charged,
-            sliver: long,
-            cuts: weighed,
-            shift_x: dx,
-            shift_y: dy,
-        } => {
-            *shots = found;
-            *cost = charged;
-            *sliver = long;
-            *cuts = weighed;
-            *shift_x = dx;
-            *shift_y = dy;
+        Ok(plate) => {
+            *shots = plate.shots;
+            *cost = plate.cost;
+            *sliver = plate.sliver;
+            *cuts = plate.cuts;
+            *shift_x = plate.shift_x;
+            *shift_y = plate.shift_y;
             0
         }
-        Plate::Refused(r, wanted, p) => {
-            *shots = wanted;
-            *offset = p;
-            refusal_no(r)
+        Err(none) => {
+            *shots = none.needed;
+            *offset = none.at;
+            u32::from(none.why)
         }
     }
 }
 
 // The flashes of an answer; none beside a refusal.
-fn flashes_of(answer: Pairing) -> usize
+fn flashes_of(answer: Result<usize, Refusal>) -> usize
     ensures { result ≡ flashes_of answer }
 {
     match answer {
-        Pairing::Flashes(n) => n,
-        Pairing::Refused(_) => 0,
+        Ok(n) => n,
+        Err(_) => 0,
     }
 }
 
 // The number of an answer's refusal, 0 for none.
-fn pairing_no(answer: Pairing) -> u32
+fn pairing_no(answer: Result<usize, Refusal>) -> u32
     ensures { result ≡ pairing_no answer }
 {
     match answer {
-        Pairing::Flashes(_) => 0,
-        Pairing::Refused(why) => refusal_no(why),
+        Ok(_) => 0,
+        Err(why) => u32::from(why),
     }
 }
 

@@ -3,8 +3,8 @@ ghost use Rattle.std.specs.Prelude.{◌≡◌};
 ghost use Rattle.saving.specs.Salvage.{saved};
 ghost use Rattle.capi.specs.SaveLent.{save_lent};
 
-use refusal::refusal_no;
-use saving::{Saved, save};
+use super::refuse;
+use saving::save;
 
 // How many bytes the sound job of the outlines before the first fault has, at the front of the buffer; how many outlines were kept, how
 // many of those declared were lost, and how many bytes were dropped; or 12, 8 to 10 of the header and the offset, 14.
@@ -26,21 +26,13 @@ pub extern "C" fn pw_salvage(
     *dropped = 0;
     *offset = 0;
     match save(job, out) {
-        Saved::Job {
-            bytes: b,
-            kept: n,
-            lost: m,
-            dropped: d,
-        } => {
-            *written = b;
-            *kept = n;
-            *lost = m;
-            *dropped = d;
+        Ok(saved) => {
+            *written = saved.bytes;
+            *kept = saved.kept;
+            *lost = saved.lost;
+            *dropped = saved.dropped;
             0
         }
-        Saved::Refused(r, p) => {
-            *offset = p;
-            refusal_no(r)
-        }
+        Err(fault) => refuse(fault, offset),
     }
 }

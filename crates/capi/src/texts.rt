@@ -3,8 +3,7 @@ ghost use Rattle.std.specs.Prelude.{◌≡◌};
 ghost use Rattle.cif.specs.Calls.{cif_written, ReadSays};
 ghost use Rattle.capi.specs.TextLent.{text_lent, shots_lent};
 
-use cif::{Listed, Written};
-use refusal::refusal_no;
+use super::refuse;
 
 // How many bytes of the text of a shot list were written; or 21, 14.
 #[unsafe(no_mangle)]
@@ -13,11 +12,11 @@ pub extern "C" fn pw_cif_write(list: &[u16], out: &mut [u8], written: &mut usize
 {
     *written = 0;
     match cif::write(list, out) {
-        Written::Bytes(n) => {
+        Ok(n) => {
             *written = n;
             0
         }
-        Written::Refused(why) => refusal_no(why),
+        Err(why) => u32::from(why),
     }
 }
 
@@ -34,13 +33,10 @@ pub extern "C" fn pw_cif_read(
     *shots = 0;
     *offset = 0;
     match cif::read(text, list) {
-        Listed::Shots(n) => {
+        Ok(n) => {
             *shots = n;
             0
         }
-        Listed::Refused(why, at) => {
-            *offset = at;
-            refusal_no(why)
-        }
+        Err(fault) => refuse(fault, offset),
     }
 }

@@ -19,6 +19,8 @@ use lib.ListN.{length, take, drop, get_or, length-append}
 use lib.Seq.{take_at}
 use Rattle.sum.proofs.Lists.{sets_front}
 use Rattle.sum.specs.Sum.{join, All}
+use Rattle.std.specs.Prelude.{Err}
+use Rattle.refusal.specs.declared.Fault.{Fault}
 use Rattle.refusal.specs.declared.Refusal.TheVariants as because
 use Rattle.refusal.specs.Refusals.{refusal_no}
 use Rattle.shot.specs.Shot.{Shot, numbers, shots_in}
@@ -28,8 +30,8 @@ use Rattle.shot.proofs.Bad.{full, good-shots, numbers-shots}
 use Rattle.number.proofs.Bytes.{stands-front, stands-back, stands-whole}
 use Rattle.cif.specs.Text.{box_line, symbol, layer, finish, call, end, cif_text, cif_bytes, Fit}
 use Rattle.cif.specs.Faults.{Stands, NoBox, Stops, Extra, Closing, FaultAt}
-use Rattle.cif.specs.Calls.{ReadSaid, said, ReadSays, shots, room, line}
-use Rattle.cif.specs.Steps.{Stored}
+use Rattle.cif.specs.Calls.{ReadSaid, said, ReadSays, shots, room, line, read_told}
+use Rattle.cif.specs.Steps.{Stored, ScanTold}
 use Rattle.cif.proofs.Boxing.{boxes-one, box-not-finish}
 
 -- the parts of a text
@@ -150,6 +152,9 @@ read_done s list after n l fit e k h stored =
     let b = stored l (record { fit = fit; stand = (parts s l e).boxes }) k in
     let q = numbers-length l in
     shots l fit e (omega arith) k (b ∙ sets_front list (numbers l) (omega arith) ∙ ap (λ m. numbers l ++ drop m list) q)
+
+pub read_fault : (s list : List ℕ) (f : Fault) → ScanTold s (Err f) → ReadSays s list (read_told (Err f) list)
+read_fault s list f t = subst (λ why. ReadSays s list (said (refusal_no why) 0 f.at list)) (sym t.0) (line f.at t.1 refl)
 
 -- a list that passes 21, each of its numbers of 16 bits, is one of shots that fit
 

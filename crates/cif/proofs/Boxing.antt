@@ -20,15 +20,7 @@ use Rattle.shot.specs.Bad.{shot_of}
 use Rattle.number.proofs.Bytes.{stands-first, stands-room, stands-join, stands-front, stands-back}
 use Rattle.cif.specs.Text.{decimal, field, box_of, doubled_side, doubled_centre, box_line, finish, Fit}
 use Rattle.cif.specs.Faults.{Stands, NoBox}
-use Rattle.cif.specs.declared.numeral.Pair.{Pair}
-use Rattle.cif.specs.declared.numeral.Pair.TheVariants as pair
-use Rattle.cif.specs.declared.boxes.Fields.{Fields}
-use Rattle.cif.specs.declared.boxes.Fields.TheVariants as fields
-use Rattle.cif.specs.declared.boxes.Span.{Span}
-use Rattle.cif.specs.declared.boxes.Span.TheVariants as span
-use Rattle.cif.specs.declared.boxes.Boxed.{Boxed}
-use Rattle.cif.specs.declared.boxes.Boxed.TheVariants as boxed
-use Rattle.cif.specs.Steps.{Apart, NoDigit, Found, Two, PairTold, Four, LineTold, Small, Same, Between, SpanTold, BoxAt, BoxTold, Boxes, BoxesTold}
+use Rattle.cif.specs.Steps.{Apart, NoDigit, Found, Two, Four, Small, Same, Between, BoxAt, Boxes, BoxesTold}
 use Rattle.cif.proofs.Numerals.{stands-within, number-only, spaced_found, two-found}
 
 -- a box line
@@ -309,31 +301,3 @@ between-even side centre low high b =
     let h : side / 2 ≡ high - low = omega (arith, b.sides) in
     let t : centre - side / 2 ≡ 2 * low = omega (arith, b.middle) in
     omega arith
-
--- what each case of an answer tells
-
-module _ (s : List ℕ) (at : ℕ) where
-  pub two_as : {r : Pair} {v w next : ℕ} → r ≡ pair.Found v w next → PairTold s at r → Two s at v w next
-  two_as e t = subst (λ r. PairTold s at r) e t
-
-  pub untwo_as : {r : Pair} → r ≡ pair.Missing → PairTold s at r → PairTold s at pair.Missing
-  untwo_as e t = subst (λ r. PairTold s at r) e t
-
-  pub line_as : {r : Fields} {a b x y next : ℕ} → r ≡ fields.Found a b x y next → LineTold s at r → Four s at a b x y next
-  line_as e t = subst (λ r. LineTold s at r) e t
-
-  pub unline_as : {r : Fields} → r ≡ fields.Missing → LineTold s at r → LineTold s at fields.Missing
-  unline_as e t = subst (λ r. LineTold s at r) e t
-
-  pub box_as : {r : Boxed} {a b c d next : ℕ} → r ≡ boxed.Shot a b c d next → BoxTold s at r → BoxAt s at (shot_of a b c d) next
-  box_as e t = subst (λ r. BoxTold s at r) e t
-
-  pub unbox_as : {r : Boxed} → r ≡ boxed.Wrong → BoxTold s at r → NoBox s at
-  unbox_as e t = subst (λ r. BoxTold s at r) e t
-
-module _ (side centre : ℕ) where
-  pub between_as : {r : Span} {low high : ℕ} → r ≡ span.Between low high → SpanTold side centre r → Between side centre low high
-  between_as e t = subst (λ r. SpanTold side centre r) e t
-
-  pub nowhere_as : {r : Span} → r ≡ span.Nowhere → SpanTold side centre r → SpanTold side centre span.Nowhere
-  nowhere_as e t = subst (λ r. SpanTold side centre r) e t

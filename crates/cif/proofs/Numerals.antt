@@ -20,7 +20,7 @@ use Rattle.number.proofs.Bytes.{stands_at, stands-first, stands-room, stands-joi
 use Rattle.cif.specs.Text.{decimal, field}
 use Rattle.cif.specs.Faults.{Stands}
 use Rattle.cif.specs.declared.numeral.Numeral.{Numeral}
-use Rattle.cif.specs.declared.numeral.Numeral.TheVariants as numeral
+use Rattle.std.specs.Prelude.{Option, Some, None}
 use Rattle.cif.specs.Steps.{Digit, DigitAt, NoDigit, Apart, Found, Absent, NumeralTold, Two}
 use Rattle.cif.proofs.Decimal.{decimal-small, decimal-more, decimal-one, decimal_digits, decimal-first, decimal-some, decimal_six, decimal-few}
 
@@ -47,13 +47,14 @@ stands-within s at l h e = omega (arith, stands-room s at l e)
 -- digits
 
 module _ (s : List ℕ) (at : ℕ) where
-  pub digit_past : length s ≤ at → DigitAt s at 10
+  pub digit_past : length s ≤ at → NoDigit s at
   unfolding NoDigit
-  digit_past h = record { few = omega arith; here = λ q. absurd (omega arith); none = λ q d k p e. omega arith }
+  digit_past h d k p e = omega arith
 
-  pub digit_there : (r : ℕ) → at < length s → Digit (get_or s at 0) r → DigitAt s at r
+  pub digit_there : (r : Option ℕ) → at < length s → Digit (get_or s at 0) r → DigitAt s at r
   unfolding NoDigit
-  digit_there r h d = record { few = d.few; here = λ q. (h, d.here q); none = λ q k m p e. d.none q k m e }
+  digit_there (Some r) h d = (d.0, h, d.1)
+  digit_there None h d = λ k m p e. d k m e
 
 -- a number that stands at a place and cannot go on
 
@@ -137,51 +138,48 @@ module _ (s : List ℕ) (at : ℕ) where
   one-stands : (r : ℕ) → r < 10 → at < length s → get_or s at 0 ≡ 48 + r → Stands s at (decimal r)
   one-stands r h k e = subst (λ l. Stands s at l) (sym (decimal-small r h)) (stands_byte s at (48 + r) k e)
 
-  pub number_missing : (r : ℕ) → DigitAt s at r → r ≡ 10 → Absent decimal s at
+  pub number_missing : NoDigit s at → Absent decimal s at
   unfolding NoDigit
-  number_missing r d e w h there =
+  number_missing d w h there =
       let a = stands-first s at (decimal w) there (decimal-some w h) in
       let q = decimal_digits w 0 h (decimal-some w h) in
-      d.none (omega arith) (get_or (decimal w) 0 0 - 48) (omega arith) (omega (arith, stands-room s at (decimal w) there, decimal-some w h)) (omega (arith, a))
+      d (get_or (decimal w) 0 0 - 48) (omega arith) (omega (arith, stands-room s at (decimal w) there, decimal-some w h)) (omega (arith, a))
 
-  pub number-zero : (r : ℕ) → DigitAt s at r → r ≡ 0 → Found decimal s at 0 (at + 1)
-  number-zero r d e =
-      let k = d.here (omega arith) in
-      let st = one-stands 0 (omega arith) k.0 (k.1 ∙ ap (λ n. 48 + n) e) in
+  pub number-zero : (r : ℕ) → DigitAt s at (Some r) → r ≡ 0 → Found decimal s at 0 (at + 1)
+  number-zero r k e =
+      let st = one-stands 0 (omega arith) k.1 (k.2 ∙ ap (λ n. 48 + n) e) in
       record {
         small = omega arith;
         stands = st;
         past = omega (arith, ap length (decimal-small 0 (omega arith)));
-        within = omega arith;
+        within = omega (arith, k.1);
         only = number-only s at 0 (omega arith) st (inl refl);
       }
 
-  pub number-start : (r : ℕ) → DigitAt s at r → (r ≡ 10 → ⊥) → (r ≡ 0 → ⊥) → Reading s at r (at + 1)
-  number-start r d e f =
-      let few = d.few in
-      let h : r < 10 = omega arith in
-      let k = d.here h in
+  pub number-start : (r : ℕ) → DigitAt s at (Some r) → (r ≡ 0 → ⊥) → Reading s at r (at + 1)
+  number-start r k f =
+      let h : r < 10 = k.0 in
       record {
         some = omega arith;
         small = omega arith;
-        stands = one-stands r h k.0 k.1;
+        stands = one-stands r h k.1 k.2;
         past = omega (arith, ap length (decimal-small r h));
-        within = omega arith;
+        within = omega (arith, k.1);
       }
 
   module _ (v next : ℕ) (g : Reading s at v next) where
-    pub number_more : (d : ℕ) → v < 100000 → DigitAt s next d → (d ≡ 10 → ⊥) → Reading s at (10 * v + d) (next + 1)
-    number_more d h q f =
-        let few = q.few in
-        let k = q.here (omega arith) in
-        let e = decimal-more v d g.some h (omega arith) in
+    pub number_more : (d : ℕ) → v < 100000 → DigitAt s next (Some d) → Reading s at (10 * v + d) (next + 1)
+    number_more d h k =
+        let few : d < 10 = k.0 in
+        let within : next < length s = k.1 in
+        let e = decimal-more v d g.some h few in
         record {
           some = omega (arith, g.some);
           small = omega arith;
           stands =
               subst (λ l. Stands s at l) (sym e)
               (stands-join s at (decimal v) ((48 + d) ∷ []) g.stands
-              (subst (λ n. Stands s n ((48 + d) ∷ [])) g.past (stands_byte s next (48 + d) k.0 k.1)));
+              (subst (λ n. Stands s n ((48 + d) ∷ [])) g.past (stands_byte s next (48 + d) within k.2)));
           past = omega (arith, g.past, ap length e, length-append (decimal v) ((48 + d) ∷ []));
           within = omega arith;
         }
@@ -193,8 +191,8 @@ module _ (s : List ℕ) (at : ℕ) where
     pub number_six : 100000 ≤ v → Found decimal s at v next
     number_six h = found (inr (inl h))
 
-    pub number-ended : (d : ℕ) → DigitAt s next d → d ≡ 10 → Found decimal s at v next
-    number-ended d q e = found (inr (inr (subst (λ n. NoDigit s n) g.past (q.none (omega arith)))))
+    pub number-ended : NoDigit s next → Found decimal s at v next
+    number-ended q = found (inr (inr (subst (λ n. NoDigit s n) g.past q)))
 
 -- a number behind a space
 
@@ -258,15 +256,6 @@ module _ (s : List ℕ) (at : ℕ) where
               let o = onward a (field b ++ rest) ha (field_apart b rest) there in (o.0, g.only b rest hb apart o.1);
         }
 
--- what each case of an answer tells
-
-pub found_as : (form : ℕ → List ℕ) (s : List ℕ) (at : ℕ) {r : Numeral} {v next : ℕ} → r ≡ numeral.Found v next → NumeralTold form s at r
-    → Found form s at v next
-found_as form s at e t = subst (λ r. NumeralTold form s at r) e t
-
-pub missing_as : (form : ℕ → List ℕ) (s : List ℕ) (at : ℕ) {r : Numeral} → r ≡ numeral.Missing → NumeralTold form s at r → Absent form s at
-missing_as form s at e t = subst (λ r. NumeralTold form s at r) e t
-
-pub spaced_told : (s : List ℕ) (at : ℕ) (r : Numeral) → at < length s → get_or s at 0 ≡ 32 → NumeralTold decimal s (at + 1) r → NumeralTold field s at r
-spaced_told s at (numeral.Found v next) h e t = spaced_found s at v next h e t
-spaced_told s at numeral.Missing h e t = spaced_missing s at t
+pub spaced_told : (s : List ℕ) (at : ℕ) (r : Option Numeral) → at < length s → get_or s at 0 ≡ 32 → NumeralTold decimal s (at + 1) r → NumeralTold field s at r
+spaced_told s at (Some n) h e t = spaced_found s at n.value n.next h e t
+spaced_told s at None h e t = spaced_missing s at t

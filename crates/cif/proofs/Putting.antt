@@ -2,35 +2,36 @@
 --
 --   put_small, put-more  == the digits of a number, put one behind the other
 --   put-field            == a number behind a space
---   word_start, word_more, word_end == the loop that puts some bytes
+--   word_put             == some bytes, copied to a part of the buffer
 --   box-length, box-put  == the bytes of a box
 --   doubled_line, box-room, box-sized, box-written == the four numbers of a shot, and its box by them
 --   boxes-bytes, boxes-none == the boxes of a list from a place on
 --   measure-.., putting-.. == the loops over a list
 --   text_length, text_put == a whole text
 --   write_bad, write_short, write_fits == the cases of `cif_written`
-use Prim.Native.Nat.{ℕ, suc, ◌+◌, ◌-◌, ◌*◌, ◌/◌, ◌%◌, ◌<◌, ◌≤◌}
-use mathlib.Core.Path.{◌≡◌, ◌∙◌, refl, sym, ap, ap₂, subst}
+use Prim.Native.Nat.{ℕ, ◌+◌, ◌-◌, ◌*◌, ◌/◌, ◌%◌, ◌<◌, ◌≤◌}
+use mathlib.Core.Path.{◌≡◌, ◌∙◌, refl, sym, ap, ap₂}
 use mathlib.Core.Bool.{true, false}
-use mathlib.Core.List.{List, [], ◌∷◌, ◌++◌}
+use mathlib.Core.List.{List, [], ◌∷◌, ◌++◌, append_assoc}
 use native.Mathlib.Omega.{arith}
 use native.Mathlib.Numerals.{add-one}
-use native.Mathlib.Nat.{add-zero}
-use lib.ListN.{length, get_or, drop, set, length-append, length-set, drop_of_length-le}
-use lib.Seq.{sets, length-sets, drop-cons}
+use lib.ListN.{length, take, drop, set, length-append, drop_of_length-le}
+use lib.Seq.{sets, length-sets, drop-drop}
 use borrow.Author.Tests.{le-leb, lt-leb}
 use Rattle.sum.specs.Sum.{join}
 use Rattle.sum.proofs.Lists.{sets_append, sets_front}
+use Rattle.refusal.specs.declared.Refusal.{Refusal}
 use Rattle.refusal.specs.declared.Refusal.TheVariants as because
 use Rattle.refusal.specs.Refusals.{refusal_no}
+use borrow.Rule.Slice.PartMut.{put_mid}
+use Rattle.std.proofs.lemmas.List.Edits.{sets-eq}
+use Rattle.cif.specs.declared.boxes.Sides.{Sides}
 use Rattle.shot.specs.Shot.{Shot, shots_in}
 use Rattle.shot.specs.Bad.{shot_of, bad_shots}
 use Rattle.shot.proofs.Bad.{good-shots, four-at}
 use Rattle.cif.specs.Text.{decimal, field, box_of, box_line, symbol, layer, finish, call, end, cif_text, cif_bytes}
 use Rattle.cif.specs.Calls.{WriteSaid, unwritten, written_to, cif_written}
-use Rattle.cif.specs.declared.writing.Measured.{Measured}
-use Rattle.cif.specs.declared.writing.Measured.TheVariants as measured
-use Rattle.cif.specs.Steps.{Reckoned, boxes_bytes, MeasureTold}
+use Rattle.cif.specs.Steps.{shot_with, listed, Reckoned, boxes_bytes}
 use Rattle.cif.proofs.Decimal.{decimal-small, decimal_split}
 
 -- a number
@@ -57,35 +58,15 @@ pub put-field : (out : List ℕ) (at n last : ℕ) (after : List ℕ) → last �
     → after ≡ sets (set out at 32) (at + 1) (decimal n) → (last ≡ at + length (field n)) × (after ≡ sets out at (field n))
 put-field out at n last after e f = (omega (arith, e), f ∙ ap (λ i. sets (set out at 32) i (decimal n)) (add-one at))
 
--- some bytes
+-- some bytes, copied to a part of the buffer
 
-pub record Copying (word out₀ : List ℕ) (at i : ℕ) (out : List ℕ) : Type 0 where
-  pub within : i ≤ length word
-  pub same : length out ≡ length out₀
-  pub left : sets out (at + i) (drop i word) ≡ sets out₀ at word
-
-module _ (word out₀ : List ℕ) (at : ℕ) where
-  pub word_start : Copying word out₀ at 0 out₀
-  word_start = record { within = omega arith; same = refl; left = ap (λ n. sets out₀ n word) (add-zero at) }
-
-  module _ (i : ℕ) (out : List ℕ) (p : Copying word out₀ at i out) where
-    pub word_more : i < length word → Copying word out₀ at (i + 1) (set out (at + i) (get_or word i 0))
-    word_more h =
-        let k : suc (at + i) ≡ at + (i + 1) = omega arith in
-        record {
-          within = omega arith;
-          same = length-set out (at + i) (get_or word i 0) ∙ p.same;
-          left =
-              ap₂ (λ n m. sets (set out (at + i) (get_or word i 0)) n (drop m word)) (sym k) (add-one i)
-              ∙ ap (sets out (at + i)) (sym (drop-cons word i 0 h))
-              ∙ p.left;
-        }
-
-    pub word_end : length word ≤ i → (at + i ≡ at + length word) × (out ≡ sets out₀ at word)
-    word_end h = (
-      omega (arith, p.within),
-      ap (sets out (at + i)) (sym (drop_of_length-le word {i = i} h)) ∙ p.left,
-    )
+pub word_put : (out word : List ℕ) (at : ℕ) → at + length word ≤ length out → put_mid at (at + length word - at) out word ≡ sets out at word
+word_put out word at h =
+    let k : at + length word - at ≡ length word = omega arith in
+    ap (λ (n : ℕ). put_mid at n out word) k
+    ∙ ap (λ (l : List ℕ). take at out ++ (word ++ l)) (drop-drop (length word) at out)
+    ∙ sym (append_assoc (take at out) word (drop (at + length word) out))
+    ∙ sym (sets-eq word out at h)
 
 -- a box
 
@@ -122,7 +103,7 @@ box-put out at a b x y p q r t u last o₁ o₂ o₃ o₄ o₅ after e₁ f₁ e
 -- the boxes of a list
 
 pub boxes-bytes : (l : List ℕ) (at : ℕ) → at + 3 < length l
-    → boxes_bytes (drop at l) ≡ box_line (shot_of (get_or l at 0) (get_or l (at + 1) 0) (get_or l (at + 2) 0) (get_or l (at + 3) 0)) ++ boxes_bytes (drop (at + 4) l)
+    → boxes_bytes (drop at l) ≡ box_line (listed l at) ++ boxes_bytes (drop (at + 4) l)
 unfolding boxes_bytes join shots_in
 boxes-bytes l at h = ap (λ (m : List ℕ). join box_line (shots_in m)) (four-at l at h)
 
@@ -130,91 +111,93 @@ pub boxes-none : (l : List ℕ) (at : ℕ) → length l ≤ at → boxes_bytes (
 unfolding boxes_bytes join shots_in
 boxes-none l at h = ap (λ (m : List ℕ). join box_line (shots_in m)) (drop_of_length-le l {i = at} h)
 
--- the shot at a place of a good list
-pub record Upright (l : List ℕ) (at : ℕ) : Type 0 where
-  pub room : at + 3 < length l
-  pub wide : get_or l at 0 ≤ get_or l (at + 2) 0
-  pub high : get_or l (at + 1) 0 ≤ get_or l (at + 3) 0
+-- shot i of a good list, as it is read
+pub record Upright (l : List ℕ) (i : ℕ) (r : Sides) : Type 0 where
+  pub room : 4 * i + 3 < length l
+  pub rising : (r.x_low ≤ r.x_high) × (r.y_low ≤ r.y_high)
 
-pub upright : (l : List ℕ) (at : ℕ) → bad_shots l ≡ false → at % 4 ≡ 0 → at < length l → Upright l at
-upright l at e f h =
+pub upright : (l : List ℕ) (i : ℕ) (r : Sides) → bad_shots l ≡ false → 4 * i + 4 ≤ length l → shot_with r ≡ listed l (4 * i) → Upright l i r
+upright l i r e h k =
     let g = good-shots l e in
-    let i = at / 4 in
-    let k : at ≡ 4 * i = omega arith in
-    let r : 4 * i + 4 ≤ length l = omega (arith, g.fours) in
-    let w = g.wide i r in
-    let v = g.high i r in
-    let a = ap (λ n. get_or l n 0) k in
-    let b = ap (λ n. get_or l (n + 1) 0) k in
-    let c = ap (λ n. get_or l (n + 2) 0) k in
-    let d = ap (λ n. get_or l (n + 3) 0) k in
-    record { room = omega (arith, g.fours); wide = omega (arith, w, a, c); high = omega (arith, v, b, d) }
+    record {
+      room = omega arith;
+      rising = (
+        omega (arith, g.wide i h, ap (λ (s : Shot). s.xlow) k, ap (λ (s : Shot). s.xhigh) k),
+        omega (arith, g.high i h, ap (λ (s : Shot). s.ylow) k, ap (λ (s : Shot). s.yhigh) k),
+      );
+    }
 
-pub record Measuring (l : List ℕ) (room at used : ℕ) : Type 0 where
-  pub fours : at % 4 ≡ 0
+-- the place past the last shot of a good list is past the list
+pub all_passed : (l : List ℕ) (i : ℕ) → bad_shots l ≡ false → length l / 4 ≤ i → length l ≤ 4 * i
+all_passed l i e h = let g = good-shots l e in omega (arith, g.fours)
+
+four-on : (i : ℕ) → 4 * i + 4 ≡ 4 * (i + 1)
+four-on i = omega arith
+
+pub record Measuring (l : List ℕ) (room i used : ℕ) : Type 0 where
   pub fits : used ≤ room
-  pub left : used + length (boxes_bytes (drop at l)) ≡ length (boxes_bytes l)
+  pub left : used + length (boxes_bytes (drop (4 * i) l)) ≡ length (boxes_bytes l)
 
 module _ (l : List ℕ) (room : ℕ) where
   pub measure_start : Measuring l room 0 0
-  measure_start = record { fours = omega arith; fits = omega arith; left = omega arith }
+  measure_start = record { fits = omega arith; left = omega arith }
 
-  module _ (at used : ℕ) (m : Measuring l room at used) where
-    module _ (line : ℕ) (h : at + 3 < length l) (e : line ≡ length (box_line (shot_of (get_or l at 0) (get_or l (at + 1) 0) (get_or l (at + 2) 0) (get_or l (at + 3) 0)))) where
-      rest : length (boxes_bytes (drop at l)) ≡ line + length (boxes_bytes (drop (at + 4) l))
+  module _ (i used : ℕ) (m : Measuring l room i used) where
+    module _ (line : ℕ) (r : Sides) (h : 4 * i + 3 < length l) (k : shot_with r ≡ listed l (4 * i)) (e : line ≡ length (box_line (shot_with r))) where
+      rest : length (boxes_bytes (drop (4 * i) l)) ≡ line + length (boxes_bytes (drop (4 * (i + 1)) l))
       rest =
-          ap length (boxes-bytes l at h)
-          ∙ length-append (box_line (shot_of (get_or l at 0) (get_or l (at + 1) 0) (get_or l (at + 2) 0) (get_or l (at + 3) 0))) (boxes_bytes (drop (at + 4) l))
-          ∙ ap (λ n. n + length (boxes_bytes (drop (at + 4) l))) (sym e)
+          ap length (boxes-bytes l (4 * i) h)
+          ∙ length-append (box_line (listed l (4 * i))) (boxes_bytes (drop (4 * i + 4) l))
+          ∙ ap₂ (λ (n j : ℕ). n + length (boxes_bytes (drop j l))) (sym (e ∙ ap (λ (s : Shot). length (box_line s)) k)) (four-on i)
 
       pub measure_short : room - used < line → room < length (boxes_bytes l)
-      measure_short k = omega (arith, m.left, m.fits, rest)
+      measure_short g = omega (arith, m.left, m.fits, rest)
 
-      pub measure_more : line ≤ room - used → Measuring l room (at + 4) (used + line)
-      measure_more k =
-          record { fours = omega (arith, m.fours); fits = omega (arith, m.fits); left = omega (arith, m.left, rest) }
+      pub measure_more : line ≤ room - used → Measuring l room (i + 1) (used + line)
+      measure_more g = record { fits = omega (arith, m.fits); left = omega (arith, m.left, rest) }
 
-    pub measure_end : length l ≤ at → (used ≡ length (boxes_bytes l)) × (used ≤ room)
-    measure_end h = (omega (arith, m.left, ap length (boxes-none l at h)), m.fits)
+    pub measure_end : length l ≤ 4 * i → (used ≡ length (boxes_bytes l)) × (used ≤ room)
+    measure_end h = (omega (arith, m.left, ap length (boxes-none l (4 * i) h)), m.fits)
 
-pub record Boxing (l out₀ : List ℕ) (from at next : ℕ) (out : List ℕ) : Type 0 where
-  pub fours : at % 4 ≡ 0
+pub record Boxing (l out₀ : List ℕ) (from i next : ℕ) (out : List ℕ) : Type 0 where
   pub same : length out ≡ length out₀
-  pub ends : next + length (boxes_bytes (drop at l)) ≡ from + length (boxes_bytes l)
-  pub all : sets out next (boxes_bytes (drop at l)) ≡ sets out₀ from (boxes_bytes l)
+  pub ends : next + length (boxes_bytes (drop (4 * i) l)) ≡ from + length (boxes_bytes l)
+  pub all : sets out next (boxes_bytes (drop (4 * i) l)) ≡ sets out₀ from (boxes_bytes l)
 
 module _ (l out₀ : List ℕ) (from : ℕ) where
   pub boxing_start : Boxing l out₀ from 0 from out₀
-  boxing_start = record { fours = omega arith; same = refl; ends = refl; all = refl }
+  boxing_start = record { same = refl; ends = refl; all = refl }
 
-  module _ (at next : ℕ) (out : List ℕ) (m : Boxing l out₀ from at next out) where
-    module _ (h : at + 3 < length l) where
+  module _ (i next : ℕ) (out : List ℕ) (m : Boxing l out₀ from i next out) where
+    module _ (r : Sides) (h : 4 * i + 3 < length l) (q : shot_with r ≡ listed l (4 * i)) where
       abbrev this : List ℕ
-      this = box_line (shot_of (get_or l at 0) (get_or l (at + 1) 0) (get_or l (at + 2) 0) (get_or l (at + 3) 0))
+      this = box_line (shot_with r)
 
       abbrev more : List ℕ
-      more = boxes_bytes (drop (at + 4) l)
+      more = boxes_bytes (drop (4 * (i + 1)) l)
+
+      here : boxes_bytes (drop (4 * i) l) ≡ this ++ more
+      here = boxes-bytes l (4 * i) h ∙ ap₂ (λ (s : Shot) (j : ℕ). box_line s ++ boxes_bytes (drop j l)) (sym q) (four-on i)
 
       pub boxing_room : from + length (boxes_bytes l) ≤ length out₀ → next + length this ≤ length out
-      boxing_room k = omega (arith, m.ends, m.same, ap length (boxes-bytes l at h), length-append this more)
+      boxing_room k = omega (arith, m.ends, m.same, ap length here, length-append this more)
 
-      pub boxing_more : (last : ℕ) (after : List ℕ) → last ≡ next + length this → after ≡ sets out next this → Boxing l out₀ from (at + 4) last after
+      pub boxing_more : (last : ℕ) (after : List ℕ) → last ≡ next + length this → after ≡ sets out next this → Boxing l out₀ from (i + 1) last after
       boxing_more last after e f =
           record {
-            fours = omega (arith, m.fours);
             same = ap length f ∙ length-sets out next this ∙ m.same;
-            ends = omega (arith, e, m.ends, ap length (boxes-bytes l at h), length-append this more);
+            ends = omega (arith, e, m.ends, ap length here, length-append this more);
             all =
                 ap₂ (λ (o : List ℕ) n. sets o n more) f e
                 ∙ sym (sets_append out next this more)
-                ∙ ap (sets out next) (sym (boxes-bytes l at h))
+                ∙ ap (sets out next) (sym here)
                 ∙ m.all;
           }
 
-    pub boxing_end : length l ≤ at → (next ≡ from + length (boxes_bytes l)) × (out ≡ sets out₀ from (boxes_bytes l))
+    pub boxing_end : length l ≤ 4 * i → (next ≡ from + length (boxes_bytes l)) × (out ≡ sets out₀ from (boxes_bytes l))
     boxing_end h = (
-      omega (arith, m.ends, ap length (boxes-none l at h)),
-      ap (sets out next) (sym (boxes-none l at h)) ∙ m.all,
+      omega (arith, m.ends, ap length (boxes-none l (4 * i) h)),
+      ap (sets out next) (sym (boxes-none l (4 * i) h)) ∙ m.all,
     )
 
 -- the whole text
@@ -258,6 +241,9 @@ module _ (l out : List ℕ) where
     write_short h =
         let p : unwritten (refusal_no because.Room) out ≡ written_to out (cif_bytes l) =
         simp (lt-leb (length (cif_bytes l)) (length out) (omega (arith, text_length l))) in p ∙ written
+
+    pub write_full : (why : Refusal) → why ≡ because.Room → length out < length (boxes_bytes l) + 28 → unwritten (refusal_no why) out ≡ cif_written l out
+    write_full why e h = ap (λ (w : Refusal). unwritten (refusal_no w) out) e ∙ write_short h
 
     pub write_fits : (n : ℕ) (after : List ℕ) → n ≡ length (boxes_bytes l) → n + 28 ≤ length out → after ≡ sets out 0 (cif_bytes l)
         → record { number = 0; bytes = n + 28; out = after } ≡ cif_written l out
@@ -308,12 +294,3 @@ module _ {s : Shot} {a b x y : ℕ} (n : Reckoned s a b x y) where
       → (last ≡ at + length (box_line s)) × (after ≡ sets out at (box_line s))
   box-written out at last after e =
       (e.0 ∙ ap (λ (l : List ℕ). at + length l) n.line, e.1 ∙ ap (sets out at) n.line)
-
--- what each case of measuring tells
-
-module _ (l : List ℕ) (room : ℕ) where
-  pub measure_as : {r : Measured} {n : ℕ} → r ≡ measured.Fits n → MeasureTold l room r → MeasureTold l room (measured.Fits n)
-  measure_as e t = subst (λ r. MeasureTold l room r) e t
-
-  pub unmeasure_as : {r : Measured} → r ≡ measured.Short → MeasureTold l room r → room < length (boxes_bytes l)
-  unmeasure_as e t = subst (λ r. MeasureTold l room r) e t

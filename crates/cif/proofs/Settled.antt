@@ -2,38 +2,40 @@
 --
 --   write_settled, read-settled == for each call
 use Prim.Native.Nat.{ℕ}
-use mathlib.Core.Path.{◌≡◌, ◌∙◌, sym, ap, ap₂}
+use mathlib.Core.Path.{◌≡◌, ◌∙◌, sym, ap}
 use mathlib.Core.List.{List}
 use Rattle.refusal.proofs.Refusals.{refusal-one, never}
 use Rattle.cif.specs.Calls.{WriteSaid, cif_written, write_told, ReadSaid, ReadSays, read_told}
-use Rattle.cif.specs.declared.Written.{Written}
-use Rattle.cif.specs.declared.Written.TheVariants as write
-use Rattle.cif.specs.declared.Listed.{Listed}
-use Rattle.cif.specs.declared.Listed.TheVariants as list
+use Rattle.std.specs.Prelude.{Result, Ok, Err}
+use Rattle.refusal.specs.declared.Refusal.{Refusal}
+use Rattle.refusal.specs.declared.Fault.{Fault}
 use Rattle.cif.proofs.Back.{read_one}
 
-write_same : (u v : Written) (o p : List ℕ) → write_told u o ≡ write_told v p → (u ≡ v) × (o ≡ p)
-write_same (write.Bytes n) (write.Bytes m) o p e =
-    (ap write.Bytes (ap (λ (s : WriteSaid). s.bytes) e), ap (λ (s : WriteSaid). s.out) e)
-write_same (write.Bytes n) (write.Refused r) o p e = absurd (never r (ap (λ (s : WriteSaid). s.number) e))
-write_same (write.Refused r) (write.Bytes n) o p e = absurd (never r (sym (ap (λ (s : WriteSaid). s.number) e)))
-write_same (write.Refused r) (write.Refused q) o p e =
-    (ap write.Refused (refusal-one r q (ap (λ (s : WriteSaid). s.number) e)), ap (λ (s : WriteSaid). s.out) e)
+write_same : (u v : Result ℕ Refusal) (o p : List ℕ) → write_told u o ≡ write_told v p → (u ≡ v) × (o ≡ p)
+write_same (Ok n) (Ok m) o p e =
+    (ap (λ (k : ℕ). Ok k) (ap (λ (s : WriteSaid). s.bytes) e), ap (λ (s : WriteSaid). s.out) e)
+write_same (Ok n) (Err r) o p e = absurd (never r (ap (λ (s : WriteSaid). s.number) e))
+write_same (Err r) (Ok n) o p e = absurd (never r (sym (ap (λ (s : WriteSaid). s.number) e)))
+write_same (Err r) (Err q) o p e =
+    (ap (λ (w : Refusal). Err w) (refusal-one r q (ap (λ (s : WriteSaid). s.number) e)), ap (λ (s : WriteSaid). s.out) e)
 
-pub write_settled : (l out : List ℕ) (u v : Written) (o p : List ℕ) → write_told u o ≡ cif_written l out → write_told v p ≡ cif_written l out
+pub write_settled : (l out : List ℕ) (u v : Result ℕ Refusal) (o p : List ℕ) → write_told u o ≡ cif_written l out → write_told v p ≡ cif_written l out
     → (u ≡ v) × (o ≡ p)
 write_settled l out u v o p e f = write_same u v o p (e ∙ sym f)
 
-read_same : (u v : Listed) (l m : List ℕ) → read_told u l ≡ read_told v m → (u ≡ v) × (l ≡ m)
-read_same (list.Shots n) (list.Shots k) l m e =
-    (ap list.Shots (ap (λ (s : ReadSaid). s.shots) e), ap (λ (s : ReadSaid). s.list) e)
-read_same (list.Shots n) (list.Refused r o) l m e = absurd (never r (ap (λ (s : ReadSaid). s.number) e))
-read_same (list.Refused r o) (list.Shots n) l m e = absurd (never r (sym (ap (λ (s : ReadSaid). s.number) e)))
-read_same (list.Refused r o) (list.Refused q p) l m e = (
-  ap₂ list.Refused (refusal-one r q (ap (λ (s : ReadSaid). s.number) e)) (ap (λ (s : ReadSaid). s.offset) e),
+fault_same : (f g : Fault) → f.why ≡ g.why → f.at ≡ g.at → f ≡ g
+fault_same f g p q = λ i. record { why = p i; at = q i }
+
+read_same : (u v : Result ℕ Fault) (l m : List ℕ) → read_told u l ≡ read_told v m → (u ≡ v) × (l ≡ m)
+read_same (Ok n) (Ok k) l m e =
+    (ap (λ (j : ℕ). Ok j) (ap (λ (s : ReadSaid). s.shots) e), ap (λ (s : ReadSaid). s.list) e)
+read_same (Ok n) (Err f) l m e = absurd (never f.why (ap (λ (s : ReadSaid). s.number) e))
+read_same (Err f) (Ok n) l m e = absurd (never f.why (sym (ap (λ (s : ReadSaid). s.number) e)))
+read_same (Err f) (Err g) l m e = (
+  ap (λ (h : Fault). Err h) (fault_same f g (refusal-one f.why g.why (ap (λ (s : ReadSaid). s.number) e)) (ap (λ (s : ReadSaid). s.offset) e)),
   ap (λ (s : ReadSaid). s.list) e,
 )
 
-pub read-settled : (s before : List ℕ) (u v : Listed) (l m : List ℕ) → ReadSays s before (read_told u l) → ReadSays s before (read_told v m)
+pub read-settled : (s before : List ℕ) (u v : Result ℕ Fault) (l m : List ℕ) → ReadSays s before (read_told u l) → ReadSays s before (read_told v m)
     → (u ≡ v) × (l ≡ m)
 read-settled s before u v l m e f = read_same u v l m (read_one s before (read_told u l) (read_told v m) e f)

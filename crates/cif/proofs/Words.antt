@@ -1,131 +1,71 @@
 -- Whether some bytes stand at a place, and the words of a text around its boxes. Assumes nothing.
 --
---   Alike s at l i       == on the way: the first i bytes of l are those at the place
---   opening-.., closing-.. == the lines before the boxes and after them, each where it should stand
---   scan_opening, scan_closing, scan_done == a whole text: a fault before the boxes, or after them, or none
+--   closing_done     == the lines after the boxes, each where it should stand
+--   scan_done, scanned_shots == a whole text with no line at fault
 --   shot-put         == the four numbers of a shot
 --   Left, Storing, store_start, store_none, store_more, store_end == the loop that stores the shots
---   word_room, alike-start, alike-other, alike-more, alike_end == no room for l; none yet; one that differs; one more; all
+--   stands_told      == whether some bytes stand at a place
 use Prim.Native.Nat.{ℕ, suc, ◌+◌, ◌-◌, ◌*◌, ◌<◌, ◌≤◌}
 use mathlib.Core.Path.{◌≡◌, ◌∙◌, refl, sym, ap, ap₂, subst}
-use mathlib.Core.Bool.{true, false, true≢false}
-use mathlib.Core.Logic.{◌⊎◌, inl, inr}
+use mathlib.Core.Bool.{Bool, true≢false}
+use lib.Dec.{eqb}
 use mathlib.Core.List.{List, [], ◌∷◌, ◌++◌}
 use native.Mathlib.Omega.{arith}
 use native.Mathlib.Numerals.{add-one}
-use lib.ListN.{length, get_or, take, drop, set, length-append, drop_of_length-le}
+use lib.ListN.{length, get_or, take, drop, set, length-append, length-drop, drop_of_length-le}
 use lib.Seq.{sets, drop-cons, take-length}
 use Rattle.sum.specs.Sum.{join, All}
-use Rattle.sum.proofs.Sum.{le-or}
 use Rattle.sum.proofs.Lists.{sets_append}
 use Rattle.shot.specs.Shot.{Shot, four, numbers}
 use Rattle.shot.specs.Bad.{shot_of}
-use Rattle.number.proofs.Bytes.{stands_at, stands-room, stands-join, stands-front, stands-back}
+use Rattle.number.proofs.Bytes.{stands-join, stands-front, stands-back}
 use Rattle.cif.specs.Text.{box_line, symbol, layer, finish, call, end, cif_text, Fit}
-use Rattle.cif.specs.Faults.{Stands, NoBox, Stops, Extra, Closing, FaultAt}
-use Rattle.cif.specs.declared.reading.Past.{Past}
-use Rattle.cif.specs.declared.reading.Past.TheVariants as past
-use Rattle.cif.specs.declared.reading.Scanned.{Scanned}
-use Rattle.cif.specs.declared.reading.Scanned.TheVariants as scanned
-use Rattle.cif.specs.Steps.{StandsTold, BoxAt, Boxes, BoxesTold, OpeningTold, ClosingTold, ScanTold, Stored}
-use Rattle.cif.proofs.Numerals.{stands_by}
+use Rattle.cif.specs.Faults.{Stands, NoBox}
+use Rattle.std.specs.Prelude.{Ok}
+use Rattle.std.specs.Cmp.Lexicographic.{pointwise}
+use Rattle.std.specs.List.{starts_with}
+use Rattle.std.proofs.lemmas.Slice.Eq.{slice_eq-Decides}
+use Rattle.std.proofs.lemmas.Bool.Decides.{Decides-eqb}
+use Rattle.cif.specs.Steps.{StandsTold, BoxAt, Boxes, BoxesTold, PastTold, OpeningTold, ClosingTold, ScanTold, Stored}
 use Rattle.cif.proofs.Boxing.{box-one}
 
-pub record Alike (s : List ℕ) (at : ℕ) (l : List ℕ) (i : ℕ) : Type 0 where
-  pub room : at + length l ≤ length s
-  pub same : (j : ℕ) → j < i → get_or s (at + j) 0 ≡ get_or l j 0
+-- whether some bytes stand at a place, by what `starts_with` says of the bytes from there on
+pub stands_told : (s : List ℕ) (at : ℕ) (l : List ℕ) (r : Bool) → r ≡ starts_with eqb (take (length s - at) (drop at s)) l → StandsTold s at l r
+stands_told s at l r h =
+    let rest : take (length s - at) (drop at s) ≡ drop at s = ap (λ n. take n (drop at s)) (sym (length-drop at s)) ∙ take-length (drop at s) in
+    let d = slice_eq-Decides Decides-eqb l (take (length l) (drop at s)) r (h ∙ ap (λ (m : List ℕ). pointwise eqb l (take (length l) m)) rest) in
+    record { yes = λ e. sym (d.0 e); no = λ e there. true≢false (sym (d.1 (sym there)) ∙ e) }
 
-module _ (s : List ℕ) (at : ℕ) (l : List ℕ) where
-  no : (Stands s at l → ⊥) → StandsTold s at l false
-  no f = record { yes = λ e. absurd (true≢false (sym e)); no = λ e. f }
-
-  pub word_room : at ≤ length s → length s - at < length l → StandsTold s at l false
-  word_room h k = no (λ e. omega (arith, stands-room s at l e))
-
-  pub alike-start : at + length l ≤ length s → Alike s at l 0
-  alike-start h = record { room = h; same = λ j k. absurd (omega arith) }
-
-  module _ (i : ℕ) (a : Alike s at l i) where
-    pub alike-other : i < length l → (get_or s (at + i) 0 ≡ get_or l i 0 → ⊥) → StandsTold s at l false
-    alike-other h f = no (λ e. f (stands_at s at l e i h))
-
-    pub alike-more : i < length l → get_or s (at + i) 0 ≡ get_or l i 0 → Alike s at l (i + 1)
-    alike-more h e = record { room = a.room; same = λ j k. go j (le-or i j) k }
-      where
-        go : (j : ℕ) → (i ≤ j) ⊎ (j < i) → j < i + 1 → get_or s (at + j) 0 ≡ get_or l j 0
-        go j (inl p) k = let z : j ≡ i = omega arith in ap (λ n. get_or s (at + n) 0) z ∙ e ∙ ap (λ n. get_or l n 0) (sym z)
-        go j (inr p) k = a.same j p
-
-    pub alike_end : length l ≤ i → StandsTold s at l true
-    alike_end h =
-        record { yes = λ e. stands_by s at l a.room (λ j k. a.same j (omega arith)); no = λ e. absurd (true≢false e) }
-
--- the lines before the boxes and after them
+-- the lines after the boxes
 
 module _ (s : List ℕ) where
-  pub opening_symbol : (Stands s 0 symbol → ⊥) → Stops s 0 (symbol ∷ layer ∷ []) (λ at. ⊥) 0
-  opening_symbol f = inl (f, refl)
-
-  pub opening_layer : Stands s 0 symbol → (Stands s 11 layer → ⊥) → Stops s 11 (symbol ∷ layer ∷ []) (λ at. ⊥) 0
-  opening_layer e f = inr (e, inl (f, refl))
-
-  pub opening_done : Stands s 0 symbol → Stands s 11 layer → Stands s 0 symbol × Stands s 11 layer × (◌≡◌ {A = ℕ} 17 17) × (17 ≤ length s)
-  opening_done e f = (e, f, refl, omega (arith, stands-room s 11 layer f))
-
   module _ (at : ℕ) where
-    pub closing_finish : (Stands s at finish → ⊥) → Stops s at (finish ∷ call ∷ end ∷ []) (Extra s at) at
-    closing_finish f = inl (f, refl)
+    module _ (two : ℕ) (p : PastTold s at finish (Ok two)) where
+      module _ (three : ℕ) (q : PastTold s two call (Ok three)) where
+        called : Stands s (at + 4) call
+        called = subst (λ n. Stands s n call) p.1 q.0
 
-    module _ (e : Stands s at finish) where
-      pub closing_call : (Stands s (at + 4) call → ⊥) → Stops s (at + 4) (finish ∷ call ∷ end ∷ []) (Extra s (at + 4)) at
-      closing_call f = inr (e, inl (f, refl))
+        third : three ≡ at + 4 + 5
+        third = omega (arith, p.1, q.1)
 
-      nine : at + 4 + 5 ≡ at + 9
-      nine = omega arith
+        module _ (last : ℕ) (r : PastTold s three end (Ok last)) where
+          ended : Stands s (at + 4 + 5) end
+          ended = subst (λ n. Stands s n end) third r.0
 
-      eleven : at + 4 + 5 + 2 ≡ at + 11
-      eleven = omega arith
+          past : last ≡ at + 4 + 5 + 2
+          past = omega (arith, r.1, third)
 
-      module _ (f : Stands s (at + 4) call) where
-        pub closing_end : (Stands s (at + 9) end → ⊥) → Stops s (at + 9) (finish ∷ call ∷ end ∷ []) (Extra s (at + 9)) at
-        closing_end g = inr (e, inr (f, inl ((λ k. g (subst (λ n. Stands s n end) nine k)), sym nine)))
-
-        module _ (g : Stands s (at + 9) end) where
-          there : Stands s (at + 4 + 5) end
-          there = subst (λ n. Stands s n end) (sym nine) g
-
-          pub closing_extra : at + 11 < length s → Stops s (at + 11) (finish ∷ call ∷ end ∷ []) (Extra s (at + 11)) at
-          closing_extra h = inr (e, inr (f, inr (there, (subst (λ n. n < length s) (sym eleven) h, sym eleven))))
-
-          pub closing_done : length s ≤ at + 11 → Stands s at (finish ++ (call ++ end)) × (at + 11 ≡ at + 11) × (at + 11 ≡ length s)
+          pub closing_done : length s ≤ last → ClosingTold s at (Ok last)
           closing_done h = (
-            stands-join s at finish (call ++ end) e (stands-join s (at + 4) call end f there),
-            refl,
-            omega (arith, stands-room s (at + 9) end g),
+            stands-join s at finish (call ++ end) p.0 (stands-join s (at + 4) call end called ended),
+            omega (arith, past),
+            omega (arith, r.2),
           )
 
 -- the whole text
 
 module _ (s : List ℕ) where
-  pub scan_opening : (o : ℕ) → Stops s o (symbol ∷ layer ∷ []) (λ at. ⊥) 0 → FaultAt s o
-  scan_opening o (inl f) = inl f
-  scan_opening o (inr (e, inl f)) = inr (e, inl f)
-  scan_opening o (inr (e, inr (f, z))) = absurd z
-
   module _ (e : Stands s 0 symbol) (f : Stands s 11 layer) (n next : ℕ) (b : BoxesTold s 17 n next) where
-    pub scan_closing : (o : ℕ) → Stops s o (finish ∷ call ∷ end ∷ []) (Extra s o) next → FaultAt s o
-    scan_closing o c = inr (e, inr (f, closes))
-      where
-        closes : Closing s o 17
-        closes =
-            record {
-              shots = b.shots;
-              fit = b.boxes.fit;
-              stand = b.boxes.stand;
-              last = subst (λ q. NoBox s q) b.past b.last;
-              stops = subst (λ q. Stops s o (finish ∷ call ∷ end ∷ []) (Extra s o) q) b.past c;
-            }
-
     pub scan_done : Stands s next (finish ++ (call ++ end)) → next + 11 ≡ length s
         → (l : List Shot) × All Fit l × (s ≡ cif_text l) × (n ≡ length l)
     unfolding cif_text
@@ -222,34 +162,12 @@ module _ (s : List ℕ) (n : ℕ) (before : List ℕ) where
         let k : length l ≤ i = omega arith in
         ap (λ (m : List Shot). sets list (4 * i) (numbers m)) (sym (drop_of_length-le l {i = i} k)) ∙ (w l b e).all
 
--- what each case of an answer tells
+-- the parts of a whole text, as they are read
 
 module _ (s : List ℕ) where
-  pub opening_as : {r : Past} {p : ℕ} → r ≡ past.At p → OpeningTold s r → OpeningTold s (past.At p)
-  opening_as e t = subst (λ r. OpeningTold s r) e t
-
-  pub unopening_as : {r : Past} {o : ℕ} → r ≡ past.Wrong o → OpeningTold s r → OpeningTold s (past.Wrong o)
-  unopening_as e t = subst (λ r. OpeningTold s r) e t
-
-  module _ (at : ℕ) where
-    pub closing_as : {r : Past} {p : ℕ} → r ≡ past.At p → ClosingTold s at r → ClosingTold s at (past.At p)
-    closing_as e t = subst (λ r. ClosingTold s at r) e t
-
-    pub unclosing_as : {r : Past} {o : ℕ} → r ≡ past.Wrong o → ClosingTold s at r → ClosingTold s at (past.Wrong o)
-    unclosing_as e t = subst (λ r. ClosingTold s at r) e t
-
-  pub scan_as : {r : Scanned} {n : ℕ} → r ≡ scanned.Shots n → ScanTold s r → ScanTold s (scanned.Shots n)
-  scan_as e t = subst (λ r. ScanTold s r) e t
-
-  pub unscan_as : {r : Scanned} {o : ℕ} → r ≡ scanned.Wrong o → ScanTold s r → ScanTold s (scanned.Wrong o)
-  unscan_as e t = subst (λ r. ScanTold s r) e t
-
-  module _ (first n next : ℕ) (q : OpeningTold s (past.At first)) (b : BoxesTold s first n next) where
+  module _ (first n next : ℕ) (q : OpeningTold s (Ok first)) (b : BoxesTold s first n next) where
     from_17 : BoxesTold s 17 n next
     from_17 = subst (λ k. BoxesTold s k n next) q.2 b
 
-    pub scanned_wrong : (o : ℕ) → ClosingTold s next (past.Wrong o) → FaultAt s o
-    scanned_wrong o c = scan_closing s q.0 q.1 n next from_17 o c
-
-    pub scanned_shots : (p : ℕ) → ClosingTold s next (past.At p) → ScanTold s (scanned.Shots n)
+    pub scanned_shots : (p : ℕ) → ClosingTold s next (Ok p) → ScanTold s (Ok n)
     scanned_shots p c = scan_done s q.0 q.1 n next from_17 c.0 (sym c.1 ∙ c.2)

@@ -10,18 +10,16 @@
 --   ReadSays s list t    == t is what reading the text s to the list may tell: the shots whose text it is, or 14 where they do not fit; or
 --                           22 with the offset of the first line at fault
 --   read_told             == what each case of the answer tells
-use Rattle.std.specs.Prelude.{ℕ, ◌*◌, ◌<◌, ◌≤◌, ◌≡◌, cond, List, ◌++◌, length, drop, leb}
+use Rattle.std.specs.Prelude.{ℕ, ◌*◌, ◌<◌, ◌≤◌, ◌≡◌, cond, List, ◌++◌, length, drop, leb, Result, Ok, Err}
 use Rattle.sum.specs.Sum.{All}
+use Rattle.refusal.specs.declared.Refusal.{Refusal}
+use Rattle.refusal.specs.declared.Fault.{Fault}
 use Rattle.refusal.specs.declared.Refusal.TheVariants as because
 use Rattle.refusal.specs.Refusals.{refusal_no}
 use Rattle.shot.specs.Shot.{Shot, numbers}
 use Rattle.shot.specs.Bad.{bad_shots}
 use Rattle.cif.specs.Text.{cif_text, cif_bytes, Fit}
 use Rattle.cif.specs.Faults.{FaultAt}
-use Rattle.cif.specs.declared.Written.{Written}
-use Rattle.cif.specs.declared.Written.TheVariants as write
-use Rattle.cif.specs.declared.Listed.{Listed}
-use Rattle.cif.specs.declared.Listed.TheVariants as list
 
 -- write
 
@@ -42,9 +40,9 @@ written_to out b =
 unfoldable pub cif_written : List ℕ → List ℕ → WriteSaid
 cif_written l out = cond (bad_shots l) (unwritten (refusal_no because.Shots) out) (written_to out (cif_bytes l))
 
-abbrev pub write_told : Written → List ℕ → WriteSaid
-write_told (write.Bytes n) out = record { number = 0; bytes = n; out = out }
-write_told (write.Refused why) out = unwritten (refusal_no why) out
+abbrev pub write_told : Result ℕ Refusal → List ℕ → WriteSaid
+write_told (Ok n) out = record { number = 0; bytes = n; out = out }
+write_told (Err why) out = unwritten (refusal_no why) out
 
 -- read
 
@@ -67,6 +65,6 @@ pub data ReadSays (s list : List ℕ) : ReadSaid → Type 0 where
   -- a line at fault
   line : {u : List ℕ} (o : ℕ) → FaultAt s o → u ≡ list → ReadSays s list (said (refusal_no because.Text) 0 o u)
 
-abbrev pub read_told : Listed → List ℕ → ReadSaid
-read_told (list.Shots n) u = said 0 n 0 u
-read_told (list.Refused why o) u = said (refusal_no why) 0 o u
+abbrev pub read_told : Result ℕ Fault → List ℕ → ReadSaid
+read_told (Ok n) u = said 0 n 0 u
+read_told (Err f) u = said (refusal_no f.why) 0 f.at u

@@ -5,103 +5,97 @@ ghost use Rattle.cif.specs.Text.{decimal, field};
 ghost use Rattle.cif.specs.Steps.{Digit, DigitAt, NumeralTold, PairTold};
 
 // A number with the place past it.
-#[derive(Clone, Copy)]
-pub enum Numeral {
-    Found(u32, usize),
-    Missing,
+#[derive(Clone, Copy, PartialEq, Eq)]
+pub struct Numeral {
+    pub value: u32,
+    pub next: usize,
 }
 
 // Two numbers with the place past them.
-#[derive(Clone, Copy)]
-pub enum Pair {
-    Found(u32, u32, usize),
-    Missing,
+#[derive(Clone, Copy, PartialEq, Eq)]
+pub struct Pair {
+    pub first: u32,
+    pub second: u32,
+    pub next: usize,
 }
-
-// What stands for no digit.
-const NO_DIGIT: u32 = 10;
 
 // The least number of six digits: none is longer.
 const SIX_DIGITS: u32 = 100000;
 
-const SPACE: u8 = 32;
+const SPACE: u8 = b' ';
 
-const ZERO: u8 = 48;
+const ZERO: u8 = b'0';
 
-const NINE: u8 = 57;
+const NINE: u8 = b'9';
 
 // What a byte is worth as a digit.
-fn worth(b: u8) -> u32
+fn worth(b: u8) -> Option<u32>
     ensures { Digit b result }
 {
     if b < ZERO {
-        return NO_DIGIT;
+        return None;
     }
     if NINE < b {
-        return NO_DIGIT;
+        return None;
     }
-    (b - ZERO) as u32
+    Some(u32::from(b - ZERO))
 }
 
 // The digit at a place.
-fn digit(text: &[u8], at: usize) -> u32
+fn digit(text: &[u8], at: usize) -> Option<u32>
     ensures { DigitAt text.now at result }
 {
     if text.len() <= at {
-        return NO_DIGIT;
+        return None;
     }
     worth(text[at])
 }
 
-// The number at a place. A zero in front is the whole number, and so are six digits: what follows is then no end of a number.
-fn number(text: &[u8], at: usize) -> Numeral
+// The number at a place. A zero in front is the whole number, and so are six digits: what follows is then no end of a number. No
+// `for`: it ends by the value.
+fn number(text: &[u8], at: usize) -> Option<Numeral>
     ensures { NumeralTold decimal text.now at result }
 {
-    let first = digit(text, at);
-    if first == NO_DIGIT {
-        return Numeral::Missing;
-    }
+    let first = digit(text, at)?;
     let mut next = at + 1;
     if first == 0 {
-        return Numeral::Found(0, next);
+        return Some(Numeral { value: 0, next });
     }
     let mut value = first;
     while value < SIX_DIGITS {
-        let d = digit(text, next);
-        if d == NO_DIGIT {
-            return Numeral::Found(value, next);
-        }
+        let Some(d) = digit(text, next) else {
+            return Some(Numeral { value, next });
+        };
         value = 10 * value + d;
         next += 1;
     }
-    Numeral::Found(value, next)
+    Some(Numeral { value, next })
 }
 
 // A number behind one space.
-fn spaced(text: &[u8], at: usize) -> Numeral
+fn spaced(text: &[u8], at: usize) -> Option<Numeral>
     ensures { NumeralTold field text.now at result }
 {
     if text.len() <= at {
-        return Numeral::Missing;
+        return None;
     }
     if text[at] != SPACE {
-        return Numeral::Missing;
+        return None;
     }
-    let from = at + 1;
-    number(text, from)
+    number(text, at + 1)
 }
 
 // Two numbers, each behind one space.
-pub fn two(text: &[u8], at: usize) -> Pair
+pub fn two(text: &[u8], at: usize) -> Option<Pair>
     ensures { PairTold text.now at result }
 {
-    match spaced(text, at) {
-        Numeral::Missing => Pair::Missing,
-        Numeral::Found(v, next) => match spaced(text, next) {
-            Numeral::Missing => Pair::Missing,
-            Numeral::Found(w, last) => Pair::Found(v, w, last),
-        },
-    }
+    let first = spaced(text, at)?;
+    let second = spaced(text, first.next)?;
+    Some(Pair {
+        first: first.value,
+        second: second.value,
+        next: second.next,
+    })
 }
 
 // How many digits a number has.

@@ -1,21 +1,16 @@
 // Writing: the room is counted down line by line, so that no sum wraps; then the bytes are put.
-ghost use Rattle.std.specs.Prelude.{◌≡◌, false, ◌+◌, ◌≤◌, length};
+ghost use Rattle.std.specs.Prelude.{◌≡◌, false, ◌+◌, ◌*◌, ◌≤◌, length};
 ghost use Rattle.std.proofs.lemmas.List.Edits.{sets};
-ghost use Rattle.shot.specs.Bad.{bad_shots, shot_of};
+ghost use Rattle.shot.specs.Bad.{bad_shots};
 ghost use Rattle.cif.specs.Text.{box_line, cif_bytes};
-ghost use Rattle.cif.specs.Steps.{MeasureTold, Reckoned, boxes_bytes};
+ghost use Rattle.cif.specs.Steps.{MeasureTold, Reckoned, boxes_bytes, shot_with, listed};
 
+use crate::boxes::Sides;
 use crate::numeral::{put_spaced, size};
-
-// How many bytes the boxes have, or that they do not fit.
-#[derive(Clone, Copy)]
-pub enum Measured {
-    Fits(usize),
-    Short,
-}
+use refusal::Refusal;
 
 // The four numbers of a box line.
-#[derive(Clone, Copy)]
+#[derive(Clone, Copy, PartialEq, Eq)]
 pub struct Numbers {
     pub length: u32,
     pub width: u32,
@@ -23,22 +18,29 @@ pub struct Numbers {
     pub y: u32,
 }
 
-// A place, to reckon with.
-fn wide(place: u16) -> u32
-    ensures { (result ≡ place) × (result ≤ 65535) }
+// Shot i of a list.
+fn shot_at(list: &[u16], i: usize) -> Sides
+    requires { 4 * i + 4 ≤ length list.now }
+    ensures { shot_with result ≡ listed list.now (4 * i) }
 {
-    place as u32
+    let at = 4 * i;
+    Sides {
+        x_low: list[at],
+        y_low: list[at + 1],
+        x_high: list[at + 2],
+        y_high: list[at + 3],
+    }
 }
 
 // The numbers of the box of a shot: both sides and the centre are doubled, so that every centre is whole.
-fn doubled(x_low: u16, y_low: u16, x_high: u16, y_high: u16) -> Numbers
-    requires { (x_low ≤ x_high) × (y_low ≤ y_high) }
-    ensures { Reckoned (shot_of x_low y_low x_high y_high) result.length result.width result.x result.y }
+fn doubled(shot: Sides) -> Numbers
+    requires { (shot.x_low ≤ shot.x_high) × (shot.y_low ≤ shot.y_high) }
+    ensures { Reckoned (shot_with shot) result.length result.width result.x result.y }
 {
-    let left = wide(x_low);
-    let right = wide(x_high);
-    let bottom = wide(y_low);
-    let top = wide(y_high);
+    let left = u32::from(shot.x_low);
+    let right = u32::from(shot.x_high);
+    let bottom = u32::from(shot.y_low);
+    let top = u32::from(shot.y_high);
     let length = 2 * (right - left);
     let width = 2 * (top - bottom);
     let x = left + right;
@@ -52,11 +54,11 @@ fn doubled(x_low: u16, y_low: u16, x_high: u16, y_high: u16) -> Numbers
 }
 
 // How many bytes the box of a shot has.
-fn box_size(x_low: u16, y_low: u16, x_high: u16, y_high: u16) -> usize
-    requires { (x_low ≤ x_high) × (y_low ≤ y_high) }
-    ensures { (result ≡ length (box_line (shot_of x_low y_low x_high y_high))) × (result ≤ 31) }
+fn box_size(shot: Sides) -> usize
+    requires { (shot.x_low ≤ shot.x_high) × (shot.y_low ≤ shot.y_high) }
+    ensures { (result ≡ length (box_line (shot_with shot))) × (result ≤ 31) }
 {
-    let n = doubled(x_low, y_low, x_high, y_high);
+    let n = doubled(shot);
     let length = size(n.length);
     let width = size(n.width);
     let x = size(n.x);
@@ -64,22 +66,20 @@ fn box_size(x_low: u16, y_low: u16, x_high: u16, y_high: u16) -> usize
     7 + length + width + x + y
 }
 
-// How many bytes the boxes of a list have. What is used never passes the room.
-pub fn measure(list: &[u16], room: usize) -> Measured
+// How many bytes the boxes of a list have; 14 where that is more than the room. What is used never passes the room.
+pub fn measure(list: &[u16], room: usize) -> Result<usize, Refusal>
     requires { bad_shots list.now ≡ false }
     ensures { MeasureTold list.now room result }
 {
     let mut used = 0;
-    let mut at = 0;
-    while at < list.len() {
-        let line = box_size(list[at], list[at + 1], list[at + 2], list[at + 3]);
+    for i in 0..list.len() / 4 {
+        let line = box_size(shot_at(list, i));
         if room - used < line {
-            return Measured::Short;
+            return Err(Refusal::Room);
         }
         used += line;
-        at += 4;
     }
-    Measured::Fits(used)
+    Ok(used)
 }
 
 // Puts some bytes at a place, and gives the place past them.
@@ -87,22 +87,19 @@ fn put_word(out: &mut [u8], at: usize, word: &[u8]) -> usize
     requires { at + length word.now ≤ length out.old }
     ensures { (result ≡ at + length word.now) × (out.new ≡ sets out.old at word.now) }
 {
-    let mut i = 0;
-    while i < word.len() {
-        out[at + i] = word[i];
-        i += 1;
-    }
-    at + i
+    let end = at + word.len();
+    out[at..end].copy_from_slice(word);
+    end
 }
 
 // Puts the box of a shot at a place, and gives the place past it.
-fn put_box(out: &mut [u8], at: usize, x_low: u16, y_low: u16, x_high: u16, y_high: u16) -> usize
-    requires x_low_le_x_high { (x_low ≤ x_high) × (y_low ≤ y_high) }
-    requires y_high_in_bounds { at + length (box_line (shot_of x_low y_low x_high y_high)) ≤ length out.old }
-    ensures value { result ≡ at + length (box_line (shot_of x_low y_low x_high y_high)) }
-    ensures out_after { out.new ≡ sets out.old at (box_line (shot_of x_low y_low x_high y_high)) }
+fn put_box(out: &mut [u8], at: usize, shot: Sides) -> usize
+    requires x_low_le_x_high { (shot.x_low ≤ shot.x_high) × (shot.y_low ≤ shot.y_high) }
+    requires y_high_in_bounds { at + length (box_line (shot_with shot)) ≤ length out.old }
+    ensures value { result ≡ at + length (box_line (shot_with shot)) }
+    ensures out_after { out.new ≡ sets out.old at (box_line (shot_with shot)) }
 {
-    let n = doubled(x_low, y_low, x_high, y_high);
+    let n = doubled(shot);
     let sides = put_word(out, at, b"B");
     let second = put_spaced(out, sides, n.length);
     let centre = put_spaced(out, second, n.width);
@@ -118,17 +115,8 @@ fn put_boxes(list: &[u16], out: &mut [u8], from: usize) -> usize
     ensures out_after { out.new ≡ sets out.old from (boxes_bytes list.now) }
 {
     let mut next = from;
-    let mut at = 0;
-    while at < list.len() {
-        next = put_box(
-            out,
-            next,
-            list[at],
-            list[at + 1],
-            list[at + 2],
-            list[at + 3],
-        );
-        at += 4;
+    for i in 0..list.len() / 4 {
+        next = put_box(out, next, shot_at(list, i));
     }
     next
 }

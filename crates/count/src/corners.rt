@@ -21,22 +21,13 @@ fn widen(cells: &[u8], column: usize, rows: usize, reaches: &mut [u32; MOST_LINE
     ensures { Wrote (widened cells.now column reaches.old) 0 rows reaches.old reaches.new }
 {
     let first = MOST_LINES * column;
-    let mut j: usize = 0;
-    while j < rows {
+    for j in 0..rows {
         let at = first + j;
         let cell = cells[at];
         let next = cells[at + MOST_LINES];
         let further = reaches[j];
         reaches[j] = farther(cell, next, further);
-        j += 1;
     }
-}
-
-// The least of two reaches.
-pub fn least(m: u32, n: u32) -> u32
-    ensures { result ≡ Prim.Native.Nat.min m n }
-{
-    if n < m { n } else { m }
 }
 
 // Twice the lines within the pieces of one sort that have the cell of this column and the row b at their low corner.
@@ -49,15 +40,13 @@ fn corner(cells: &[u8], reaches: &[u32; MOST_LINES], column: usize, b: usize, ro
     let mut narrow = reaches[b];
     let mut lines: u32 = 0;
     let mut sum: u32 = 0;
-    let mut j = b;
-    while j < rows {
+    for j in b..rows {
         if cells[first + j] != sort {
             return sum;
         }
-        narrow = least(narrow, reaches[j]);
+        narrow = narrow.min(reaches[j]);
         sum += narrow * (narrow + 2 * lines - 1);
         lines += 1;
-        j += 1;
     }
     sum
 }
@@ -68,10 +57,8 @@ fn corners_at(cells: &[u8], reaches: &[u32; MOST_LINES], column: usize, rows: us
     ensures { (result ≡ over 0 rows (corner (cell_at cells.now column) (number_at reaches.now) rows)) × (result ≤ 148500) }
 {
     let mut sum: u32 = 0;
-    let mut b: usize = 0;
-    while b < rows {
+    for b in 0..rows {
         sum += corner(cells, reaches, column, b, rows);
-        b += 1;
     }
     sum
 }
@@ -83,9 +70,7 @@ pub fn spared(cells: &[u8], columns: usize, rows: usize) -> u32
 {
     let mut reaches = [0u32; MOST_LINES];
     let mut sum: u32 = 0;
-    let mut column = columns;
-    while 0 < column {
-        column -= 1;
+    for column in (0..columns).rev() {
         widen(cells, column, rows, &mut reaches);
         sum += corners_at(cells, &reaches, column, rows);
     }

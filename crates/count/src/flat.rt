@@ -1,10 +1,11 @@
 // One to three rows, straight through: the reaches of the rows at a column are single numbers, and so is what the pieces of one sort
-// that begin there have.
+// that begin there have. A loop for each count of rows, and not one over a list of reaches: what the rows have in common differs with their
+// count, so that each would still have a body of its own.
 ghost use Rattle.std.specs.Prelude.{◌≡◌, suc, ◌≤◌, ◌<◌, length};
 ghost use Rattle.count.specs.Corners.{cell_at, farther, spared_all};
 ghost use Rattle.count.specs.Flat.{of_one, of_two, of_three};
 
-use crate::corners::{farther, least};
+use crate::corners::farther;
 use outline::MOST_LINES;
 
 // Twice the lines within the pieces of one row and 1, 2, .. `reach` columns.
@@ -24,7 +25,7 @@ fn of_two(low: u8, high: u8, low_reach: u32, high_reach: u32) -> u32
     if high != low {
         return single;
     }
-    let both = least(low_reach, high_reach);
+    let both = low_reach.min(high_reach);
     single + both * (both + 1)
 }
 
@@ -44,12 +45,12 @@ fn of_three(
     if middle != low {
         return single;
     }
-    let two = least(low_reach, middle_reach);
+    let two = low_reach.min(middle_reach);
     let lower = single + two * (two + 1);
     if high != low {
         return lower;
     }
-    let three = least(two, high_reach);
+    let three = two.min(high_reach);
     lower + three * (three + 3)
 }
 
@@ -69,9 +70,7 @@ pub fn spared_of_one(cells: &[u8], columns: usize) -> u32
 {
     let mut low: u32 = 0;
     let mut sum: u32 = 0;
-    let mut column = columns;
-    while 0 < column {
-        column -= 1;
+    for column in (0..columns).rev() {
         low = reach_from(cells, column, 0, low);
         sum += of_one(low);
     }
@@ -86,9 +85,7 @@ pub fn spared_of_two(cells: &[u8], columns: usize) -> u32
     let mut low: u32 = 0;
     let mut high: u32 = 0;
     let mut sum: u32 = 0;
-    let mut column = columns;
-    while 0 < column {
-        column -= 1;
+    for column in (0..columns).rev() {
         let at = MOST_LINES * column;
         low = reach_from(cells, column, 0, low);
         high = reach_from(cells, column, 1, high);
@@ -106,9 +103,7 @@ pub fn spared_of_three(cells: &[u8], columns: usize) -> u32
     let mut middle: u32 = 0;
     let mut high: u32 = 0;
     let mut sum: u32 = 0;
-    let mut column = columns;
-    while 0 < column {
-        column -= 1;
+    for column in (0..columns).rev() {
         let at = MOST_LINES * column;
         low = reach_from(cells, column, 0, low);
         middle = reach_from(cells, column, 1, middle);

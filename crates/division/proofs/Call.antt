@@ -1,7 +1,7 @@
 -- The demands of the call itself, as theorems from its contract. Assumes nothing.
 --
 -- Of a call of `fracture_divided` with the mode, corners, ring lengths, threshold t, weight w, largest side m, table and list that answers
--- Done and leaves list' (and table'). `settled` is its contract; `typed` is what the language says of a `&[u16]`. There is no other premise.
+-- a fracture and leaves list' (and table'). `settled` is its contract; `typed` is what the language says of a `&[u16]`. There is no other premise.
 --
 --   call_cover, call-inside, call-apart, call-whole == each unit square is in exactly one shot of the list if it is inside, and in none if not
 --   call-fit             == no side of a shot is longer than m, and each shot has area
@@ -24,8 +24,7 @@ use Rattle.demands.specs.Promise.{Asked, asked, Outcome}
 use Rattle.demands.specs.Square.{shot_sliver, shot_charge}
 use Rattle.demands.specs.Demands.{Words, reported}
 use Rattle.demands.proofs.Demands.{words_typed}
-use Rattle.fracture.specs.declared.Fractured.TheVariants.{Done}
-use Rattle.fracture.specs.Told.{told}
+use Rattle.fracture.specs.Told.{fractured, told}
 use Rattle.division.specs.Division.{across, upward}
 use Rattle.division.specs.Promise.{divided_outcome}
 use Rattle.division.proofs.Demands as demands
@@ -41,7 +40,7 @@ module _ (mode : Mode) (corners lengths : List ℕ) (t w m : ℕ) (table list : 
   F = inside_at (figure corners lengths)
 
   module _ (typed : (i : ℕ) → Fits w16 (get_or corners i 0)) (shots cost sliver cuts : ℕ) (table' list' : List ℕ)
-      (settled : told (Done shots cost sliver cuts) table' list' ≡ divided_outcome ask m) where
+      (settled : told (fractured shots cost sliver cuts) table' list' ≡ divided_outcome ask m) where
     abbrev given : List Shot
     given = shots_in (take (4 * shots) list')
 
@@ -53,7 +52,7 @@ module _ (mode : Mode) (corners lengths : List ℕ) (t w m : ℕ) (table list : 
     done = sym (ap (λ o. o.number) settled)
 
     -- what holds of the outcome holds of what was told
-    said : (P : Outcome → Type 0) → P (divided_outcome ask m) → P (told (Done shots cost sliver cuts) table' list')
+    said : (P : Outcome → Type 0) → P (divided_outcome ask m) → P (told (fractured shots cost sliver cuts) table' list')
     said P h = subst P (sym settled) h
 
     pub call_cover : (x y : ℕ) → sum_of (λ s. only (holds x y s) 1) given ≡ only (F x y) 1

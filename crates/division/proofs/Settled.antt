@@ -6,6 +6,7 @@
 --   by_mode                    : in the mode that was asked
 --   told-rule, told-largest    : 1 and 19
 --   divided-settled            : two ways to satisfy the promise are one: the same answer, and the same in both buffers
+use Rattle.std.specs.Prelude.{Result, Ok, Err}
 use Prim.Native.Nat.{ℕ, ◌+◌, ◌*◌, ◌≤◌, ◌<◌}
 use mathlib.Core.Path.{◌≡◌, refl, sym, ◌∙◌, ap, ap₂, subst}
 use mathlib.Core.Bool.{Bool, true, false, cond}
@@ -31,8 +32,8 @@ use Rattle.demands.proofs.Accepted.{light}
 use Rattle.demands.proofs.Demands as demands
 use Rattle.demands.proofs.Room as room
 use Rattle.fracture.specs.declared.Fractured.{Fractured}
-use Rattle.fracture.specs.declared.Fractured.TheVariants.{Done, Refused}
-use Rattle.fracture.specs.Told.{told}
+use Rattle.fracture.specs.declared.Denial.{Denial}
+use Rattle.fracture.specs.Told.{fractured as done, denied, told}
 use Rattle.fracture.proofs.Settled.{fracture_unique}
 use Rattle.division.specs.Division.{divided, product}
 use Rattle.division.specs.Promise.{bad_largest, room_aside, aside, parts, listed, divided_outcome}
@@ -58,14 +59,14 @@ module _ (w m v k : ℕ) (shots : List ℕ) (n : ℕ) (list : List ℕ) (count :
   delivered table i =
       record { number = 0; shots = i; cost = 1000 * i + w * v; sliver = v; cuts = k; table = table; list = written (numbers all) list }
 
-  pub told-short : length list < 4 * count → (table : List ℕ) → told (Refused because.List count) table list ≡ listed w all v k table list
+  pub told-short : length list < 4 * count → (table : List ℕ) → told (denied because.List count) table list ≡ listed w all v k table list
   unfolding told listed lacking delivered
   told-short h table =
       ap (lacking table) (sym as_many)
       ∙ sym (ap (λ b. cond b (lacking table (length all)) (delivered table (length all))) (lt-ltb (length list) (4 * length all) (omega (arith, as_many))))
 
   pub told-listed : 4 * count ≤ length list → {then : List ℕ} {end : ℕ} → Wrote list then 0 all end → (table : List ℕ)
-      → told (Done count (1000 * count + w * v) v k) table then ≡ listed w all v k table list
+      → told (done count (1000 * count + w * v) v k) table then ≡ listed w all v k table list
   unfolding told listed lacking delivered
   told-listed h {then} {end} wrote table =
       ap (λ l. record { number = 0; shots = count; cost = 1000 * count + w * v; sliver = v; cuts = k; table = table; list = l })
@@ -79,26 +80,21 @@ module _ (ask : Asked) (m : ℕ) (passed : Passed ask m) where
   abbrev u : Outcome
   u = outcome (aside ask)
 
-  pub told-before : (a : Fractured) (table list : List ℕ) → told a table list ≡ u → (why : Refusal) (n : ℕ) → a ≡ Refused why n
-      → told (Refused why 0) table ask.list ≡ divided_outcome ask m
+  pub told-before : (table list : List ℕ) (d : Denial) → told (Err d) table list ≡ u → told (denied d.why 0) table ask.list ≡ divided_outcome ask m
   unfolding told refused
-  told-before a table list f why n q =
-      let e : told (Refused why n) table list ≡ u = ap (λ a. told a table list) (sym q) ∙ f in
+  told-before table list d e =
       sym
       (outcome-after ask m passed.range passed.fits
-      ∙ after-refused ask m (omega (arith, refusal-some why, ap (λ (o : Outcome). o.number) e))
+      ∙ after-refused ask m (omega (arith, refusal-some d.why, ap (λ (o : Outcome). o.number) e))
       ∙ ap₂ (λ i t. refused i t ask.list) (sym (ap (λ (o : Outcome). o.number) e)) (sym (ap (λ (o : Outcome). o.table) e)))
 
-  module _ (words : Words ask.figure) (a : Fractured) (table list : List ℕ) (f : told a table list ≡ u) (s c v k : ℕ) (q : a ≡ Done s c v k) where
-    e : told (Done s c v k) table list ≡ u
-    e = ap (λ a. told a table list) (sym q) ∙ f
-
+  module _ (words : Words ask.figure) (table list : List ℕ) (before : Fractured) (e : told (Ok before) table list ≡ u) where
     fractured : u.number ≡ 0
     unfolding told
     fractured = sym (ap (λ (o : Outcome). o.number) e)
 
     -- the shots that it lists
-    these : reported u ≡ in_front list s
+    these : reported u ≡ in_front list before.shots
     unfolding told reported in_front
     these = ap reported (sym e)
 
@@ -106,14 +102,14 @@ module _ (ask : Asked) (m : ℕ) (passed : Passed ask m) where
     unfolding told
     long = ap (λ (o : Outcome). length o.list) e ∙ (room.lengths-kept (aside ask)).1 ∙ room-aside
 
-    few : 4 * s ≤ 900
+    few : 4 * before.shots ≤ 900
     unfolding told undivided-outcome.accepted undivided.Condition
     few = elim (le-or (4 * length (frame_shots ask.mode (drawn (aside ask)) (rule_of ask))) (length room_aside)) [
       | inl h ↦ omega (arith, room-aside, ap (λ (o : Outcome). o.shots) (e ∙ undivided-outcome.outcome-zero (aside ask) fractured))
       | inr h ↦ absurd ((demands.accepted_exactly (aside ask)).0 fractured because.List h)
     ]
 
-    pub divisible : Divisible list s m × ((ask.weight ≤ 1000) × ((v ≤ 2097120) × (s ≤ 225)))
+    pub divisible : Divisible list before.shots m × ((ask.weight ≤ 1000) × ((before.sliver ≤ 2097120) × (before.shots ≤ 225)))
     unfolding told
     divisible =
         let g = largest-good ask.threshold m passed.fits in (
@@ -131,19 +127,19 @@ module _ (ask : Asked) (m : ℕ) (passed : Passed ask m) where
         )
 
     -- sliver length, cuts and table are those that it reports
-    as_reported : listed ask.weight (join (divided m) (reported u)) v k table ask.list
+    as_reported : listed ask.weight (join (divided m) (reported u)) before.sliver before.cuts table ask.list
         ≡ listed ask.weight (join (divided m) (reported u)) u.sliver u.cuts u.table ask.list
     unfolding told
     as_reported =
         ap (λ (o : Outcome). listed ask.weight (join (divided m) (reported u)) o.sliver o.cuts o.table ask.list) e
 
-    pub told-after : (b : Fractured) (then : List ℕ)
-        → told b table then ≡ listed ask.weight (join (divided m) (in_front list s)) v k table ask.list
+    pub told-after : (b : Result Fractured Denial) (then : List ℕ)
+        → told b table then ≡ listed ask.weight (join (divided m) (in_front list before.shots)) before.sliver before.cuts table ask.list
         → told b table then ≡ divided_outcome ask m
     unfolding parts
     told-after b then h =
         h
-        ∙ ap (λ l. listed ask.weight (join (divided m) l) v k table ask.list) (sym these)
+        ∙ ap (λ l. listed ask.weight (join (divided m) l) before.sliver before.cuts table ask.list) (sym these)
         ∙ as_reported
         ∙ sym (outcome-after ask m passed.range passed.fits ∙ after-listed ask m fractured)
 
@@ -156,7 +152,7 @@ by_mode a mode asks corners lengths t w table list e q = e ∙ ap (λ m. outcome
 
 module _ (ask : Asked) (m : ℕ) where
   pub told-rule : (why : Refusal) → unknown (refusal_no why) ≡ rule_told ask.threshold ask.weight
-      → told (Refused why 0) ask.table ask.list ≡ divided_outcome ask m
+      → told (denied why 0) ask.table ask.list ≡ divided_outcome ask m
   unfolding told refused rule_told
   told-rule why e =
       let z = go (in_range ask.threshold ask.weight) e in
@@ -167,10 +163,10 @@ module _ (ask : Asked) (m : ℕ) where
       go false q = (ap (λ (x : Told). x.number) q, refl)
 
   pub told-largest : in_range ask.threshold ask.weight ≡ true → bad_largest ask.threshold m ≡ true
-      → told (Refused because.Largest 0) ask.table ask.list ≡ divided_outcome ask m
+      → told (denied because.Largest 0) ask.table ask.list ≡ divided_outcome ask m
   unfolding told refused
   told-largest e f = sym (outcome-largest ask m e f)
 
-  pub divided-settled : (a b : Fractured) (t t' l l' : List ℕ) → told a t l ≡ divided_outcome ask m → told b t' l' ≡ divided_outcome ask m
+  pub divided-settled : (a b : Result Fractured Denial) (t t' l l' : List ℕ) → told a t l ≡ divided_outcome ask m → told b t' l' ≡ divided_outcome ask m
       → (a ≡ b) × (t ≡ t') × (l ≡ l')
   divided-settled a b t t' l l' = fracture_unique (divided_outcome ask m) a b t t' l l'

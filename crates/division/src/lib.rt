@@ -13,10 +13,10 @@ ghost use Rattle.division.specs.Division.{divided, product};
 ghost use Rattle.division.specs.Promise.{bad_largest, listed, divided_outcome};
 ghost use Rattle.division.specs.Steps.{in_front, Divisible};
 
-use fracture::{Fractured, NUMBERS};
+use fracture::{Denial, Fractured, NUMBERS};
 use piece::Mode;
 use refusal::Refusal;
-use rule::{Made, Rule};
+use rule::Rule;
 use side::sides_of;
 use writing::write_all;
 
@@ -49,26 +49,22 @@ fn count_parts(shots: &[u16], n: usize, largest: u32) -> u32
     ensures { (result ≡ sum_of (product largest) (in_front shots.now n)) × (result ≤ 116964) }
 {
     let mut parts: u32 = 0;
-    let mut k: usize = 0;
-    while k < n {
+    for k in 0..n {
         let sides = sides_of(shots, k, largest);
         parts += sides.x.count * sides.y.count;
-        k += 1;
     }
     parts
 }
 
-// What a fracture reports before division: how many shots, their sliver length in nm, and how many cuts were weighed.
-#[derive(Clone, Copy)]
-struct Before {
-    shots: u32,
-    sliver: u32,
-    cuts: u32,
-}
-
-// The parts of some shots at the front of the list; or 7, the list as it is. Division does not change the sliver length, and the cost is
-// reported anew.
-fn deliver(shots: &[u16], before: Before, weight: u32, largest: u32, list: &mut [u16]) -> Fractured
+// The parts of the shots of a fracture at the front of the list; or 7, the list as it is. Division does not change the sliver length, and the
+// cost is reported anew.
+fn deliver(
+    shots: &[u16],
+    before: Fractured,
+    weight: u32,
+    largest: u32,
+    list: &mut [u16],
+) -> Result<Fractured, Denial>
     requires { Divisible shots.now before.shots largest × ((weight ≤ limit) × ((before.sliver ≤ 2097120) × (before.shots ≤ 225))) }
     ensures { (table : List ℕ) → told result table list.new ≡ listed weight (join (divided largest) (in_front shots.now before.shots)) before.sliver before.cuts table list.old }
 {
@@ -76,17 +72,17 @@ fn deliver(shots: &[u16], before: Before, weight: u32, largest: u32, list: &mut 
     let n = whole as usize;
     let parts = count_parts(shots, n, largest);
     if list.len() < 4 * (parts as usize) {
-        return Fractured::Refused(Refusal::List, parts);
+        return Err(Denial {
+            why: Refusal::List,
+            needed: parts,
+        });
     }
     write_all(shots, n, largest, list);
-    let sliver = before.sliver;
-    let cuts = before.cuts;
-    Fractured::Done {
+    Ok(Fractured {
         shots: parts,
-        cost: 1000 * parts + weight * sliver,
-        sliver,
-        cuts,
-    }
+        cost: 1000 * parts + weight * before.sliver,
+        ..before
+    })
 }
 
 // The fracture in a mode. The corners are 16-bit numbers by their type, which `words` says.
@@ -98,7 +94,7 @@ fn undivided(
     mode: Mode,
     table: &mut [u32],
     list: &mut [u16],
-) -> Fractured
+) -> Result<Fractured, Denial>
     ensures settled { told result table.new list.new ≡ outcome (asked mode corners.now lengths.now threshold weight table.old list.old) }
     ensures words { Words (figure corners.now lengths.now) }
 {
@@ -110,7 +106,7 @@ fn undivided(
     }
 }
 
-// The same with a largest side, by a rule and a largest side in range: 2 to 7 or the parts.
+// The same with a largest side, by a rule and a largest side in range: 2 to 7 or the parts. Of a refusal before division no shots are told.
 fn divide(
     corners: &[u16],
     lengths: &[u16],
@@ -120,27 +116,14 @@ fn divide(
     largest: u32,
     table: &mut [u32],
     list: &mut [u16],
-) -> Fractured
+) -> Result<Fractured, Denial>
     requires { (in_range threshold weight ≡ true) × (bad_largest threshold largest ≡ false) }
     ensures { told result table.new list.new ≡ divided_outcome (asked mode corners.now lengths.now threshold weight table.old list.old) largest }
 {
     let mut aside = [0u16; NUMBERS];
-    let answer = undivided(corners, lengths, threshold, weight, mode, table, &mut aside);
-    match answer {
-        Fractured::Done {
-            shots,
-            cost: _,
-            sliver,
-            cuts,
-        } => {
-            let before = Before {
-                shots,
-                sliver,
-                cuts,
-            };
-            deliver(&aside, before, weight, largest, list)
-        }
-        Fractured::Refused(why, _) => Fractured::Refused(why, 0),
+    match undivided(corners, lengths, threshold, weight, mode, table, &mut aside) {
+        Ok(before) => deliver(&aside, before, weight, largest, list),
+        Err(denial) => Err(denial.why.into()),
     }
 }
 
@@ -155,18 +138,14 @@ pub fn fracture_divided(
     largest: u32,
     table: &mut [u32],
     list: &mut [u16],
-) -> Fractured
+) -> Result<Fractured, Denial>
     ensures settled { told result table.new list.new ≡ divided_outcome (asked mode corners.now lengths.now threshold weight table.old list.old) largest }
 {
-    match Rule::new(threshold, weight) {
-        Made::Rule(_) => {
-            if bad_largest(threshold, largest) {
-                return Fractured::Refused(Refusal::Largest, 0);
-            }
-            divide(
-                corners, lengths, threshold, weight, mode, largest, table, list,
-            )
-        }
-        Made::Refused(high) => Fractured::Refused(high, 0),
+    let _rule = Rule::new(threshold, weight)?;
+    if bad_largest(threshold, largest) {
+        return Err(Refusal::Largest.into());
     }
+    divide(
+        corners, lengths, threshold, weight, mode, largest, table, list,
+    )
 }

@@ -1,5 +1,5 @@
 // One side of a shot, divided: the fewest parts that fit, as even as whole nm allow, longer ones first.
-ghost use Rattle.std.specs.Prelude.{◌≡◌, ◌<◌, ◌≤◌, min};
+ghost use Rattle.std.specs.Prelude.{◌≡◌, ◌<◌, ◌≤◌};
 ghost use Rattle.division.specs.Steps.{side_of, edge, Solid, Parted};
 
 // Where a side begins, into how many parts it is divided, and how long they are; the first `longer` of them are 1 nm longer.
@@ -18,20 +18,13 @@ pub struct Sides {
     pub y: Side,
 }
 
-// The lesser of two numbers.
-fn lesser(a: u32, b: u32) -> u32
-    ensures { result ≡ min a b }
-{
-    if b < a { b } else { a }
-}
-
 // A side from low to high, divided into the fewest parts of at most `largest` nm.
 fn side_of(low: u16, high: u16, largest: u32) -> Side
     requires { (low < high) × ((0 < largest) × (largest ≤ 65535)) }
     ensures { (result ≡ side_of largest low high) × (edge result result.count ≤ 65535) }
 {
-    let from = low as u32;
-    let side = high as u32 - from;
+    let from = u32::from(low);
+    let side = u32::from(high) - from;
     let count = (side + (largest - 1)) / largest;
     Side {
         low: from,
@@ -57,8 +50,5 @@ pub fn edge_at(side: Side, i: u32) -> u16
     requires { edge side i ≤ 65535 }
     ensures { result ≡ edge side i }
 {
-    let low = side.low;
-    let length = side.length;
-    let longer = side.longer;
-    (low + (i * length + lesser(i, longer))) as u16
+    (side.low + (i * side.length + i.min(side.longer))) as u16
 }

@@ -23,15 +23,12 @@ fn write_row(list: &mut [u16], at: usize, x: Side, bottom: u16, top: u16) -> usi
     requires { (edge x x.count ≤ 65535) × (at + 4 * x.count ≤ length list.old) }
     ensures { Wrote list.old list.new at (row_of x bottom top x.count) result }
 {
-    let columns = x.count;
     let mut next = at;
-    let mut j: u32 = 0;
-    while j < columns {
+    for j in 0..x.count {
         let left = edge_at(x, j);
         let right = edge_at(x, j + 1);
         write_part(list, next, left, bottom, right, top);
         next += 4;
-        j += 1;
     }
     next
 }
@@ -41,14 +38,11 @@ fn write_parts(list: &mut [u16], at: usize, x: Side, y: Side) -> usize
     requires { ((edge x x.count ≤ 65535) × (edge y y.count ≤ 65535)) × (at + 4 * (y.count * x.count) ≤ length list.old) }
     ensures { Wrote list.old list.new at (rows_of x y y.count) result }
 {
-    let rows = y.count;
     let mut next = at;
-    let mut i: u32 = 0;
-    while i < rows {
+    for i in 0..y.count {
         let bottom = edge_at(y, i);
         let top = edge_at(y, i + 1);
         next = write_row(list, next, x, bottom, top);
-        i += 1;
     }
     next
 }
@@ -58,14 +52,10 @@ pub fn write_all(shots: &[u16], n: usize, largest: u32, list: &mut [u16]) -> usi
     requires { Divisible shots.now n largest × (4 * sum_of (product largest) (in_front shots.now n) ≤ length list.old) }
     ensures { Wrote list.old list.new 0 (join (divided largest) (in_front shots.now n)) result }
 {
-    let mut next: usize = 0;
-    let mut k: usize = 0;
-    while k < n {
+    let mut next = 0;
+    for k in 0..n {
         let sides = sides_of(shots, k, largest);
-        let x = sides.x;
-        let y = sides.y;
-        next = write_parts(list, next, x, y);
-        k += 1;
+        next = write_parts(list, next, sides.x, sides.y);
     }
     next
 }

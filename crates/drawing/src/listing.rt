@@ -2,162 +2,93 @@
 ghost use Rattle.terminal.specs.Output.{Remembers};
 
 use figure::{MOST_CORNERS, MOST_RINGS};
-use job::read::{Checked, Head, Located, header, locate};
-use job::unpack::{Unpacked, unpack};
+use job::read::{Part, header, locate};
+use job::unpack::unpack;
 use number::Cursor;
 use terminal::output::{Output, print, print_number};
 
 // A line of two numbers, after a word.
-fn print_pair(out: Output, word: &[u8], one: u64, two: u64) -> Output
+fn print_pair(out: Output, word: &[u8], one: u32, two: u32) -> Output
     ensures { Remembers out result }
 {
-    print(print_number(print_number(out, word, one), b" ", two), b"\n")
+    let first = print_number(out, word, u64::from(one));
+    print(print_number(first, b" ", u64::from(two)), b"\n")
 }
 
-// A coordinate as a number.
-fn wide(x: u16) -> u64 {
-    x as u64
-}
-
-// The corner at a place of the list.
-fn print_corner(out: Output, corners: &[u16], k: usize) -> Output
-    ensures { Remembers out result }
-{
-    if k < MOST_CORNERS {
-        let x = 2 * k;
-        let y = x + 1;
-        if y < corners.len() {
-            return print_pair(out, b"", wide(corners[x]), wide(corners[y]));
-        }
-    }
-    out
-}
-
-// A ring: its corners from one number to another.
-fn print_ring(out: Output, corners: &[u16], from: usize, to: usize) -> Output
+// A ring by its corners, two numbers each.
+fn print_ring(out: Output, ring: &[u16]) -> Output
     ensures { Remembers out result }
 {
     let mut next = print(out, b"ring\n");
-    let mut k = from;
-    while k < to {
-        next = print_corner(next, corners, k);
-        k += 1;
+    for [x, y] in ring.as_chunks::<2>().0 {
+        next = print_pair(next, b"", u32::from(*x), u32::from(*y));
     }
     next
 }
 
-// The corner past a ring that begins at a corner and has so many.
-fn past_ring(first: usize, length: u16) -> usize {
-    if first < 100000 {
-        return first + length as usize;
-    }
-    first
-}
-
-// The rings of a figure.
+// The rings of a figure, one behind another in the list of corners.
 fn print_rings(out: Output, corners: &[u16], lengths: &[u16]) -> Output
     ensures { Remembers out result }
 {
     let mut next = out;
-    let mut from = 0;
-    let mut ring = 0;
-    while ring < lengths.len() {
-        let to = past_ring(from, lengths[ring]);
-        next = print_ring(next, corners, from, to);
-        from = to;
-        ring += 1;
+    let mut left = corners;
+    for length in lengths {
+        let end = left.len().min(2 * usize::from(*length));
+        let (ring, others) = left.split_at(end);
+        next = print_ring(next, ring);
+        left = others;
     }
     next
 }
 
-// A figure by the lists that its part was unpacked to, of which the second has room for more rings.
-fn print_lists(out: Output, corners: &[u16], lengths: &[u16], rings: usize) -> Output
-    ensures { Remembers out result }
-{
-    let front = 0;
-    if rings <= lengths.len() {
-        return print_rings(print(out, b"figure\n"), corners, &lengths[front..rings]);
-    }
-    out
-}
-
 // The figure that a part holds.
-fn print_part(out: Output, part: &[u8]) -> Output
+fn print_figure(out: Output, part: &[u8]) -> Output
     ensures { Remembers out result }
 {
     let mut corners = [0u16; 2 * MOST_CORNERS];
     let mut lengths = [0u16; MOST_RINGS];
-    match unpack(part, &mut corners, &mut lengths) {
-        Unpacked::Refused(_, _) => out,
-        Unpacked::Figure { corners: _, rings } => print_lists(
-            out,
-            &corners,
-            &lengths,
-            rings as usize,
-        ),
+    let Ok(unpacked) = unpack(part, &mut corners, &mut lengths) else {
+        return out;
+    };
+    match lengths.get(..unpacked.rings as usize) {
+        Some(rings) => print_rings(print(out, b"figure\n"), &corners, rings),
+        None => out,
     }
 }
 
-// The same of the bytes from an offset to another.
-fn print_figure(out: Output, job: &[u8], start: usize, end: usize) -> Output
+// The same of a part of the job.
+fn print_part(out: Output, job: &[u8], part: Part) -> Output
     ensures { Remembers out result }
 {
-    if start <= end {
-        if end <= job.len() {
-            return print_part(out, &job[start..end]);
-        }
+    match job.get(part.start..part.end) {
+        Some(bytes) => print_figure(out, bytes),
+        None => out,
     }
-    out
 }
 
 // So many figures, the first of which begins at a place.
-fn print_figures(out: Output, job: &[u8], first: usize, count: u32) -> Output
+fn print_figures(out: Output, job: &[u8], first: Cursor, count: u32) -> Output
     ensures { Remembers out result }
 {
     let mut next = out;
-    let mut at = first;
-    let mut k = 0;
-    while k < count {
-        match locate(job, Cursor { at }, 0) {
-            Located::Fault(_, _) => {
-                return next;
-            }
-            Located::Part(start, end) => {
-                next = print_figure(next, job, start, end);
-                at = end;
-            }
-        }
-        k += 1;
+    let mut here = first;
+    for _ in 0..count {
+        let Ok(part) = locate(job, here, 0) else {
+            return next;
+        };
+        next = print_part(next, job, part);
+        here = Cursor { at: part.end };
     }
     next
 }
 
-// Where the first figure of a job begins.
-fn first_figure(job: &[u8]) -> usize {
-    match header(job) {
-        Head::Fault(_, at) => at,
-        Head::Header {
-            threshold: _,
-            weight: _,
-            outlines: _,
-            next,
-        } => next.at,
-    }
-}
-
-// A job by what it says: its rule and its figures; nothing where it is refused.
-pub fn print_job(out: Output, job: &[u8], said: Checked) -> Output
+// A job that is sound: its rule and its figures.
+pub fn print_job(out: Output, job: &[u8]) -> Output
     ensures { Remembers out result }
 {
-    match said {
-        Checked::Refused(_, _) => out,
-        Checked::Job {
-            threshold,
-            weight,
-            outlines,
-        } => {
-            let ruled = print_pair(out, b"rule ", threshold as u64, weight as u64);
-            print_figures(ruled, job, first_figure(job), outlines)
-        }
-    }
+    let Ok(says) = header(job) else {
+        return out;
+    };
+    let ruled = print_pair(out, b"rule ", says.threshold, says.weight);
+    print_figures(ruled, job, says.next, says.outlines)
 }

@@ -9,9 +9,11 @@
 --   landed_none, landed_some         == where a stretch ends up
 --   free-.., same-.., onward-.., whole-..   == the next place; two landings; on the way along a run; all of it
 --   runs-first, count-..             == the first run, then those that begin where it ends
+use Rattle.std.specs.Prelude.{Option, Some, None, is_some}
+use Rattle.std.specs.Option.{option_eq}
 use Prim.Native.Nat.{ℕ, zero, suc, ◌+◌, ◌*◌, ◌-◌, ◌/◌, ◌%◌, ◌≤◌, ◌<◌, min, max}
 use mathlib.Core.Path.{◌≡◌, refl, sym, ◌∙◌, ap, ap₂, subst}
-use mathlib.Core.Bool.{Bool, true, false, not, cond, ◌&&◌, true≢false}
+use mathlib.Core.Bool.{Bool, true, false, not, beq, cond, ◌&&◌, true≢false}
 use mathlib.Core.List.{List, [], ◌∷◌, map}
 use mathlib.Core.Logic.{◌⊎◌, inl, inr}
 use native.Mathlib.Omega.{arith}
@@ -34,7 +36,11 @@ use Rattle.shot.specs.Shot.{Shot, shots_in}
 use Rattle.shot.specs.Bad.{shot_of}
 use Rattle.edge.specs.Edge.{low_along, high_along, beneath, beyond}
 use Rattle.edge.specs.Landing.{low_side, high_side, facing, shape, first, Landing, shot_with, landing, alike, Run, runs}
-use Rattle.edge.specs.Steps.{side_on, side_by, shot_by, spans, standing, link, inside_by, ring_holds, turned, seen_by, beneath_by, low_of, face_of, Solid, told, Nearer, place_of, Free, Steady, Whole, run_count}
+use Rattle.edge.specs.contracts.SidePartialEq.TheImpl.{eq-value}
+use Rattle.edge.specs.declared.Landed.{Landed}
+use Rattle.edge.specs.declared.Side.{Side}
+use Rattle.edge.specs.declared.Side.TheVariants.{Low, High}
+use Rattle.edge.specs.Steps.{side_on, side_by, shot_by, spans, standing, link, inside_by, ring_holds, turned, seen_by, beneath_by, low_of, face_of, Solid, told, side_no, shot_no, FromOne, Nearer, place_of, Free, Steady, Whole, run_count}
 use Rattle.sum.specs.Sum.{All}
 use Rattle.edge.proofs.Landing.{first_found, Hit, All-get}
 use Rattle.edge.proofs.Strokes.{within_count}
@@ -42,6 +48,56 @@ use Rattle.edge.proofs.Runs.{alike_same, same_alike, Right, runs-right, runs_uni
 use Rattle.sum.proofs.Lists.{All-imp}
 use Rattle.edge.proofs.Few.{first-same}
 use Rattle.edge.proofs.Sides.{low_end, high_end, facing-shot}
+
+-- a side has a number
+pub side_some : (a : Axis) (s : Side) → 1 ≤ side_no (low_of a) (Some s)
+unfolding side_no low_of
+side_some X Low = omega arith
+side_some X High = omega arith
+side_some Y Low = omega arith
+side_some Y High = omega arith
+
+-- the derived equality is that of the numbers
+pub side_eq : (a : Axis) (u v : Option Side) → option_eq eq-value.it u v ≡ eqb (side_no (low_of a) u) (side_no (low_of a) v)
+unfolding side_no low_of
+side_eq X None None = refl
+side_eq X None (Some Low) = refl
+side_eq X None (Some High) = refl
+side_eq X (Some Low) None = refl
+side_eq X (Some Low) (Some Low) = refl
+side_eq X (Some Low) (Some High) = refl
+side_eq X (Some High) None = refl
+side_eq X (Some High) (Some Low) = refl
+side_eq X (Some High) (Some High) = refl
+side_eq Y None None = refl
+side_eq Y None (Some Low) = refl
+side_eq Y None (Some High) = refl
+side_eq Y (Some Low) None = refl
+side_eq Y (Some Low) (Some Low) = refl
+side_eq Y (Some Low) (Some High) = refl
+side_eq Y (Some High) None = refl
+side_eq Y (Some High) (Some Low) = refl
+side_eq Y (Some High) (Some High) = refl
+
+shot_eq : (u v : Option ℕ) → FromOne u → FromOne v → option_eq eqb u v ≡ eqb (shot_no u) (shot_no v)
+unfolding shot_no FromOne
+shot_eq None None h k = refl
+shot_eq None (Some n) h k = sym (ne_eqb 0 n (λ z. k (ap Some (sym z))))
+shot_eq (Some m) None h k = sym (ne_eqb m 0 (λ z. h (ap Some z)))
+shot_eq (Some m) (Some n) h k = refl
+
+pub landed_eq : (a : Axis) (x y : Landed) → FromOne x.shot → FromOne y.shot
+    → (option_eq eqb x.shot y.shot && option_eq eq-value.it x.side y.side) ≡ alike (told a x) (told a y)
+unfolding alike told
+landed_eq a x y h k = ap₂ ◌&&◌ (shot_eq x.shot y.shot h k) (side_eq a x.side y.side)
+
+pub from_one : (i : ℕ) → FromOne (Some (i + 1))
+unfolding FromOne shot_no
+from_one i e = let z : i + 1 ≡ 0 = ap shot_no e in omega (arith, z)
+
+pub none_one : FromOne None
+unfolding FromOne
+none_one e = true≢false (sym (ap (λ (o : Option ℕ). is_some o) e))
 
 -- side_on
 module _ (lo hi from to p k c : ℕ) where
@@ -206,13 +262,12 @@ module _ (l : List ℕ) (a : Axis) (p k c : ℕ) where
   passed-at i r h e q = sym (has_at i r h e) ∙ ne_eqb r c q
 
 -- turned
-pub turned-yes : (inside hit : Bool) → hit ≡ true → not inside ≡ turned inside hit
+pub turned-told : (inside hit : Bool) → not (beq inside hit) ≡ turned inside hit
 unfolding turned
-turned-yes inside hit e = sym (rw e)
-
-pub turned-no : (inside hit : Bool) → hit ≡ false → inside ≡ turned inside hit
-unfolding turned
-turned-no inside hit e = sym (rw e)
+turned-told true true = refl
+turned-told true false = refl
+turned-told false true = refl
+turned-told false false = refl
 
 -- low_side
 pub low_x : (a : Axis) → a ≡ X → 1 ≡ low_of a
@@ -453,21 +508,24 @@ module _ (a : Axis) (F : ℕ → ℕ → Bool) (l : List Shot) (p k : ℕ) where
       go X h = All-imp (λ s w. side-facing X s p k w) l h
       go Y h = All-imp (λ s w. side-facing Y s p k w) l h
 
-  pub landed_none : (side : ℕ) → side ≡ facing a F p k → side ≡ 0 → told (record { shot = 0; side = 0 }) ≡ landing a F l p k
-  unfolding told landing shot_with
-  landed_none side e z = λ t. record { shot = sym shot t; side = (sym z ∙ e) t }
+  pub landed_none : 0 ≡ facing a F p k → told a (record { shot = None; side = None }) ≡ landing a F l p k
+  unfolding told landing shot_with shot_no side_no
+  landed_none e = λ t. record { shot = sym shot t; side = e t }
     where
       shot : cond (eqb (facing a F p k) 0) 0 (first (λ s. eqb (facing a (shape s) p k) (facing a F p k)) l 1) ≡ 0
-      shot = rw (eq-eqb (facing a F p k) 0 (sym e ∙ z))
+      shot = rw (eq-eqb (facing a F p k) 0 (sym e))
 
-  pub landed_some : (side shot : ℕ) → Solid a l → side ≡ facing a F p k → (side ≡ 0 → ⊥) → shot ≡ shot_by side a l p k
-      → told (record { shot = shot; side = side }) ≡ landing a F l p k
+  pub landed_some : (end : Side) (on : Option ℕ) → Solid a l → side_no (low_of a) (Some end) ≡ facing a F p k
+      → shot_no on ≡ shot_by (side_no (low_of a) (Some end)) a l p k → told a (record { shot = on; side = Some end }) ≡ landing a F l p k
   unfolding told landing shot_with shot_by
-  landed_some side shot solid e n h = λ t. record { shot = (h ∙ same ∙ sym found) t; side = e t }
+  landed_some end on solid e h = λ t. record { shot = (h ∙ same ∙ sym found) t; side = e t }
     where
+      side : ℕ
+      side = side_no (low_of a) (Some end)
+
       found : cond (eqb (facing a F p k) 0) 0 (first (λ s. eqb (facing a (shape s) p k) (facing a F p k)) l 1)
           ≡ first (λ s. eqb (facing a (shape s) p k) (facing a F p k)) l 1
-      found = rw (ne_eqb (facing a F p k) 0 (λ z. n (e ∙ z)))
+      found = rw (ne_eqb (facing a F p k) 0 (λ z. absurd (omega (arith, side_some a end, e, z))))
 
       same : first (λ s. eqb (side_by a s p k) side) l 1 ≡ first (λ s. eqb (facing a (shape s) p k) (facing a F p k)) l 1
       same = first-same _ _ l 1 (All-imp (λ s w. ap₂ eqb w e) l (solid_side solid))
@@ -492,16 +550,6 @@ module _ (a : Axis) (l : List ℕ) (k high : ℕ) where
 
   pub free_all : (n m r : ℕ) → m ≤ n → Free a l n k high r → Free a l m k high r
   free_all n m r h f = record { past = f.past; within = f.within; none = λ j q. f.none j (omega arith) }
-
--- same
-module _ (a b : Landing) where
-  pub same-both : a.shot ≡ b.shot → eqb a.side b.side ≡ alike a b
-  unfolding alike
-  same-both e = sym (rw (eq-eqb a.shot b.shot e))
-
-  pub same_not : (a.shot ≡ b.shot → ⊥) → eqb a.shot b.shot ≡ alike a b
-  unfolding alike
-  same_not e = ne_eqb a.shot b.shot e ∙ sym (rw (ne_eqb a.shot b.shot e))
 
 -- run_at
 alike-turn : (a b : Landing) → alike a b ≡ alike b a

@@ -5,7 +5,7 @@
 --   Coming l ns edge first k   == on the way: the edge is one of the rings from the k-th on, whose corners are numbered from first on
 --   coming_start, coming_room, coming_next, coming_close, coming_more, coming_end, past-edge   == no ring yet; the next one's corners are there; the edge
 --                           is in it; it closes it; it is behind it; all
---   across-upright, across_level, spanned_up, spanned_down   == where the edge between two corners lies
+--   across-upright, across_level, spanned   == where the edge between two corners lies
 use Prim.Native.Nat.{ℕ, zero, suc, ◌+◌, ◌*◌, ◌-◌, ◌/◌, ◌≤◌, ◌<◌, min, max}
 use mathlib.Core.Path.{◌≡◌, refl, sym, ◌∙◌, ap, ap₂}
 use mathlib.Core.Bool.{false, not, cond}
@@ -241,8 +241,5 @@ module _ (l : List ℕ) (i j : ℕ) where
     unfolding low high low_along high_along between
     ends = (ap₂ min starts stops, ap₂ max starts stops)
 
-    pub spanned_up : u ≤ v → Spanned (between l i j) axis p u v
-    spanned_up h = record { axis_is = stands; at-is = there; low-is = omega (arith, ends); high_is = omega (arith, ends) }
-
-    pub spanned_down : v < u → Spanned (between l i j) axis p v u
-    spanned_down h = record { axis_is = stands; at-is = there; low-is = omega (arith, ends); high_is = omega (arith, ends) }
+    pub spanned : (lo hi : ℕ) → lo ≡ min u v → hi ≡ max u v → Spanned (between l i j) axis p lo hi
+    spanned lo hi e h = record { axis_is = stands; at-is = there; low-is = e ∙ ends.0; high_is = h ∙ ends.1 }

@@ -5,6 +5,7 @@
 --                           is no such edge; 14, where the buffer is too short for the runs; else the runs
 --   edge-beyond          == behind the four numbers of each run every number of the buffer is as it came in, and all of them beside a refusal
 --   runs_of_edge         == the runs share out the edge, each says where its stretches end up, neighbours differ, and no other list does so
+use Rattle.std.specs.Prelude.{Result, Ok, Err}
 use Prim.Native.Nat.{ℕ, ◌+◌, ◌*◌, ◌-◌, ◌≤◌, ◌<◌}
 use mathlib.Core.Path.{◌≡◌, ◌∙◌, refl, sym, ap, subst}
 use mathlib.Core.Bool.{Bool, true, false, cond}
@@ -13,6 +14,7 @@ use native.Mathlib.Omega.{arith}
 use lib.Dec.{ltb, eqb}
 use lib.ListN.{length, get_or}
 use borrow.Author.Tests.{eqb-true, eqb-false, ltb-true, ltb-false}
+use Rattle.refusal.specs.declared.Refusal.{Refusal}
 use Rattle.refusal.proofs.Refusals.{refusal-one, never}
 use Rattle.figure.specs.Corners.{Corner, Link}
 use Rattle.figure.specs.Figure.{Figure, corners_of}
@@ -23,25 +25,23 @@ use Rattle.shot.specs.Bad.{bad_shots}
 use Rattle.shot.proofs.Bad.{Good, Bad, good-shots, bad_shots_lem}
 use Rattle.demands.specs.Promise.{written}
 use Rattle.demands.proofs.Outcome.{written-past}
-use Rattle.edge.specs.declared.Walked.{Walked}
-use Rattle.edge.specs.declared.Walked.TheVariants as answer
 use Rattle.edge.specs.Edge.{across, stands_at, low_along, high_along, low, high, edge_at}
 use Rattle.edge.specs.Landing.{Run, landing, edge_runs}
 use Rattle.edge.specs.Promise.{EdgeSaid, run_numbers, unwalked, handed, edge_walked, edge_told}
 use Rattle.edge.proofs.Runs.{Right, runs-right, runs_unique}
 use Rattle.edge.proofs.Writing.{run-numbers-length}
 
-edge-one : (u v : Walked) (l m : List ℕ) → edge_told u l ≡ edge_told v m → u ≡ v
-edge-one (answer.Runs n) (answer.Runs m) l l' e = ap answer.Runs (ap (λ (s : EdgeSaid). s.count) e)
-edge-one (answer.Runs n) (answer.Refused r) l l' e = absurd (never r (ap (λ (s : EdgeSaid). s.number) e))
-edge-one (answer.Refused r) (answer.Runs n) l l' e = absurd (never r (sym (ap (λ (s : EdgeSaid). s.number) e)))
-edge-one (answer.Refused r) (answer.Refused q) l l' e = ap answer.Refused (refusal-one r q (ap (λ (s : EdgeSaid). s.number) e))
+edge-one : (u v : Result ℕ Refusal) (l m : List ℕ) → edge_told u l ≡ edge_told v m → u ≡ v
+edge-one (Ok n) (Ok m) l l' e = ap Ok (ap (λ (s : EdgeSaid). s.count) e)
+edge-one (Ok n) (Err r) l l' e = absurd (never r (ap (λ (s : EdgeSaid). s.number) e))
+edge-one (Err r) (Ok n) l l' e = absurd (never r (sym (ap (λ (s : EdgeSaid). s.number) e)))
+edge-one (Err r) (Err q) l l' e = ap Err (refusal-one r q (ap (λ (s : EdgeSaid). s.number) e))
 
-edge-runs : (u : Walked) (l : List ℕ) → (edge_told u l).runs ≡ l
-edge-runs (answer.Runs n) l = refl
-edge-runs (answer.Refused r) l = refl
+edge-runs : (u : Result ℕ Refusal) (l : List ℕ) → (edge_told u l).runs ≡ l
+edge-runs (Ok n) l = refl
+edge-runs (Err r) l = refl
 
-pub edge-settled : (f : Figure) (k : ℕ) (shots old : List ℕ) (u v : Walked) (l m : List ℕ) → edge_told u l ≡ edge_walked f k shots old
+pub edge-settled : (f : Figure) (k : ℕ) (shots old : List ℕ) (u v : Result ℕ Refusal) (l m : List ℕ) → edge_told u l ≡ edge_walked f k shots old
     → edge_told v m ≡ edge_walked f k shots old → (u ≡ v) × (l ≡ m)
 edge-settled f k shots old u v l m e g =
     let h = e ∙ sym g in

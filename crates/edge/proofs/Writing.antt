@@ -3,6 +3,8 @@
 --   run-numbers-length   == four numbers for each run
 --   stored-four          == four stores in a row
 --   Ahead, ahead-start, ahead-room, ahead_more, ahead-length, ahead-end   == on the way: i numbers written, the stretches from k on still to come
+use Rattle.std.specs.Prelude.{Option, Some, None}
+use Rattle.std.specs.Option.{unwrap_or}
 use Prim.Native.Nat.{ℕ, zero, suc, ◌+◌, ◌*◌, ◌-◌, ◌≤◌}
 use mathlib.Core.Path.{◌≡◌, refl, sym, ◌∙◌, ap, ap₂}
 use mathlib.Core.List.{List, [], ◌∷◌, ◌++◌, append_assoc}
@@ -13,7 +15,7 @@ use Rattle.sum.specs.Sum.{join}
 use Rattle.demands.specs.Promise.{written}
 use Rattle.edge.specs.Landing.{Landing, Run, runs}
 use Rattle.edge.specs.Promise.{run_numbers}
-use Rattle.edge.specs.Steps.{put4, run_count, runs_written, Whole}
+use Rattle.edge.specs.Steps.{put4, run_count, runs_written, Whole, shot_no}
 use Rattle.edge.proofs.Laws.{runs-first}
 
 take-drop : (i : ℕ) (l : List ℕ) → take i l ++ drop i l ≡ l
@@ -32,6 +34,12 @@ run-numbers-length [] = refl
 run-numbers-length (r ∷ l) = omega (arith, run-numbers-length l)
 
 -- store
+-- no shot is written as 0
+pub or_none : (s : Option ℕ) → unwrap_or s 0 ≡ shot_no s
+unfolding shot_no
+or_none None = refl
+or_none (Some n) = refl
+
 pub stored-four : (t : List ℕ) (i a b c d : ℕ) → i + 4 ≤ length t
     → set (set (set (set t i a) (i + 1) b) (i + 2) c) (i + 3) d ≡ put4 t i a b c d
 unfolding put4

@@ -7,8 +7,9 @@
 --   handed rs old              == the runs at the front of the buffer, or 14 where it is too short for them
 --   edge_walked f k shots old   == the runs of edge number k of the figure f by the list of shots, handed over in a buffer that held old
 --   edge_told                   == the same for each case of an answer of the code, with the buffer afterwards
-use Rattle.std.specs.Prelude.{ℕ, ◌*◌, cond, List, [], ◌∷◌, ltb, eqb, length}
+use Rattle.std.specs.Prelude.{ℕ, ◌*◌, cond, List, [], ◌∷◌, ltb, eqb, length, Result, Ok, Err}
 use Rattle.sum.specs.Sum.{join}
+use Rattle.refusal.specs.declared.Refusal.{Refusal}
 use Rattle.refusal.specs.declared.Refusal.TheVariants as because
 use Rattle.refusal.specs.Refusals.{refusal_no}
 use Rattle.figure.specs.Figure.{Figure, corners_of}
@@ -17,8 +18,6 @@ use Rattle.outline.specs.Promise.{refusal}
 use Rattle.shot.specs.Shot.{shots_in}
 use Rattle.shot.specs.Bad.{bad_shots}
 use Rattle.demands.specs.Promise.{written}
-use Rattle.edge.specs.declared.Walked.{Walked}
-use Rattle.edge.specs.declared.Walked.TheVariants as answer
 use Rattle.edge.specs.Edge.{edge_at}
 use Rattle.edge.specs.Landing.{Run, edge_runs}
 
@@ -49,6 +48,6 @@ edge_walked f k shots old =
     (unwalked (refusal_no because.Edge) old)))
     (unwalked (refusal f) old)
 
-abbrev pub edge_told : Walked → List ℕ → EdgeSaid
-edge_told (answer.Runs n) runs = record { number = 0; count = n; runs = runs }
-edge_told (answer.Refused why) runs = unwalked (refusal_no why) runs
+abbrev pub edge_told : Result ℕ Refusal → List ℕ → EdgeSaid
+edge_told (Ok n) runs = record { number = 0; count = n; runs = runs }
+edge_told (Err why) runs = unwalked (refusal_no why) runs

@@ -11,14 +11,16 @@
 --   side_on, side_by           == the side of a shot that a stretch lies on, by the shot's four numbers
 --   shot_by c a l p k         == the first shot of l that has the side c there so, numbered from 1
 --   Solid a l                == each shot of l has an extent along the axis a
---   told r                   == where the code says that a stretch ends up
+--   side_no n s, shot_no s   == the number of a side, that of the low one being n, and of a shot; 0 for none
+--   FromOne s                == a shot's number is 1 at least
+--   told a r                 == where the code says that a stretch ends up, across the axis a
 --   place_of b l i            == the place of corner i of the numbers l along the axis b
 --   Nearer, Free, Steady, Whole  == of a place and the nearest so far; no corner lies between; up to there all end up alike; a whole run
 --   run_count, put4, runs_written  == how many runs; four numbers written; all runs written
 --   between l i j            == the edge from corner i of the numbers l to corner j
 --   Leads f k r              == the edge number k of the figure f leads from corner k to corner r
 --   Spanned e axis at lo hi  == where the edge e stands, and its ends
-use Rattle.std.specs.Prelude.{ℕ, suc, ◌+◌, ◌-◌, ◌/◌, ◌<◌, ◌≤◌, ◌≡◌, Bool, false, not, cond, ◌&&◌, List, [], ◌∷◌, ◌++◌, leb, ltb, eqb, length, take, drop}
+use Rattle.std.specs.Prelude.{ℕ, suc, ◌+◌, ◌-◌, ◌/◌, ◌<◌, ◌≤◌, ◌≡◌, Bool, false, not, cond, ◌&&◌, List, [], ◌∷◌, ◌++◌, leb, ltb, eqb, length, take, drop, Option, Some, None}
 use Rattle.sum.specs.Sum.{only, sum_of, All}
 use Rattle.figure.specs.declared.Axis.{Axis}
 use Rattle.figure.specs.declared.Axis.TheVariants.{X, Y}
@@ -29,6 +31,8 @@ use Rattle.figure.specs.Steps.{corner}
 use Rattle.shot.specs.Shot.{Shot}
 use Rattle.demands.specs.Promise.{written}
 use Rattle.edge.specs.Edge.{across, stands_at, low_along, high_along, low, high, edge_at, seen, beneath}
+use Rattle.edge.specs.declared.Side.{Side}
+use Rattle.edge.specs.declared.Side.TheVariants.{Low, High}
 use Rattle.edge.specs.declared.Landed.{Landed}
 use Rattle.edge.specs.Landing.{low_side, first, Landing, alike, runs}
 use Rattle.edge.specs.Promise.{run_numbers}
@@ -77,8 +81,20 @@ unfoldable pub Solid : Axis → List Shot → Type 0
 Solid X l = All (λ s. s.xlow < s.xhigh) l
 Solid Y l = All (λ s. s.ylow < s.yhigh) l
 
-unfoldable pub told : Landed → Landing
-told r = record { shot = r.shot; side = r.side }
+unfoldable pub side_no : ℕ → Option Side → ℕ
+side_no n None = 0
+side_no n (Some Low) = n
+side_no n (Some High) = n + 1
+
+unfoldable pub shot_no : Option ℕ → ℕ
+shot_no None = 0
+shot_no (Some n) = n
+
+unfoldable pub FromOne : Option ℕ → Type 0
+FromOne s = s ≡ Some 0 → ⊥
+
+unfoldable pub told : Axis → Landed → Landing
+told a r = record { shot = shot_no r.shot; side = side_no (low_of a) r.side }
 
 -- r is best, or the place if it lies between k and best
 pub record Nearer (place k best r : ℕ) : Type 0 where

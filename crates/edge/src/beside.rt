@@ -1,14 +1,15 @@
 // The squares beside a stretch, and the side of the figure that it lies on.
-ghost use Rattle.std.specs.Prelude.{◌≡◌, false, ◌/◌, ◌≤◌, ◌<◌, length};
+ghost use Rattle.std.specs.Prelude.{◌≡◌, ℕ, false, ◌/◌, ◌≤◌, ◌<◌, length};
 ghost use Rattle.figure.specs.Figure.{figure, bad_figure};
 ghost use Rattle.figure.specs.Inside.{inside_at};
 ghost use Rattle.edge.specs.Landing.{facing};
 ghost use Rattle.edge.specs.Steps as step;
 
-use crate::Stretch;
-use figure::{Axis, rings};
+use crate::{Side, Stretch};
+use figure::Axis;
 
-// Whether a span from low to high takes in the stretch from y to y + 1.
+// Whether a span from low to high takes in the stretch from y to y + 1. (`outline::cells` has it of places: one line, for which `figure`,
+// that both know, has no use.)
 fn covers(low: u16, high: u16, y: u16) -> bool
     ensures { result ≡ step.spans low high y }
 {
@@ -35,13 +36,11 @@ fn stands(a: u16, b: u16, c: u16, d: u16, x: u16, y: u16) -> bool
 fn turned(inside: bool, hit: bool) -> bool
     ensures { result ≡ step.turned inside hit }
 {
-    if hit {
-        return !inside;
-    }
-    inside
+    inside != hit
 }
 
-// Whether a ring holds the unit square at (x, y), by the odd count. The first edge is the closing one.
+// Whether a ring holds the unit square at (x, y), by the odd count. The first edge is the closing one. Over numbers: each corner is read
+// with the one before it, and the first with the last.
 fn ring_holds(ring: &[u16], x: u16, y: u16) -> bool
     requires { 0 < length ring.now / 2 }
     ensures { result ≡ step.ring_holds ring.now x y }
@@ -66,8 +65,8 @@ fn inside_at(corners: &[u16], lengths: &[u16], x: u16, y: u16) -> bool
 {
     let mut inside = false;
     let mut from: usize = 0;
-    for k in 0..lengths.len() {
-        let to = from + 2 * rings::wide(lengths[k]);
+    for &length in lengths {
+        let to = from + 2 * usize::from(length);
         let hit = ring_holds(&corners[from..to], x, y);
         inside = turned(inside, hit);
         from = to;
@@ -109,31 +108,39 @@ fn low_side(axis: Axis) -> u8
     }
 }
 
+// The number that a run is written with for a side: 0 for none.
+pub fn number(axis: Axis, side: Option<Side>) -> u8
+    ensures { result ≡ step.side_no (step.low_of axis) side }
+{
+    match side {
+        None => 0,
+        Some(Side::Low) => low_side(axis),
+        Some(Side::High) => low_side(axis) + 1,
+    }
+}
+
 // The side by the two squares beside a stretch.
-fn face(beyond: bool, beneath: bool, low: u8) -> u8
-    requires { low ≤ 3 }
-    ensures { result ≡ step.face_of beyond beneath low }
+fn face(beyond: bool, beneath: bool) -> Option<Side>
+    ensures { (low : ℕ) → step.side_no low result ≡ step.face_of beyond beneath low }
 {
     if beyond {
         if beneath {
-            return 0;
+            return None;
         }
-        return low;
+        return Some(Side::Low);
     }
     if beneath {
-        return low + 1;
+        return Some(Side::High);
     }
-    0
+    None
 }
 
-// The side of the figure that a stretch lies on; 0 for none.
-pub fn side_at(corners: &[u16], lengths: &[u16], s: Stretch) -> u8
+// The side of the figure that a stretch lies on.
+pub fn side_at(corners: &[u16], lengths: &[u16], s: Stretch) -> Option<Side>
     requires { bad_figure (figure corners.now lengths.now) ≡ false }
-    ensures { result ≡ facing s.axis (inside_at (figure corners.now lengths.now)) s.at s.k }
+    ensures { step.side_no (step.low_of s.axis) result ≡ facing s.axis (inside_at (figure corners.now lengths.now)) s.at s.k }
 {
-    let axis = s.axis;
-    let high = seen(corners, lengths, axis, s.at, s.k);
+    let high = seen(corners, lengths, s.axis, s.at, s.k);
     let low = beneath(corners, lengths, s);
-    let first = low_side(axis);
-    face(high, low, first)
+    face(high, low)
 }

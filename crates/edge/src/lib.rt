@@ -9,7 +9,7 @@ ghost use Rattle.edge.specs.Promise.{edge_told, edge_walked};
 use along::{count_runs, write_runs};
 use figure::Axis;
 use numbered::{next_corner, span_of};
-use outline::{Answer, MOST_CELLS, MOST_LINES, draw};
+use outline::{MOST_CELLS, MOST_LINES, draw};
 use refusal::Refusal;
 use shot::bad_shots;
 
@@ -26,59 +26,55 @@ pub struct Stretch {
     pub k: u16,
 }
 
-// Where a stretch ends up: a shot's number from 1, 0 for none; and a side, 0 for none.
-#[derive(Clone, Copy)]
-pub struct Landed {
-    pub shot: usize,
-    pub side: u8,
+// A side of what a stretch lies on: the low one, left or bottom, or the high one, right or top.
+#[derive(Clone, Copy, PartialEq, Eq)]
+pub enum Side {
+    Low,
+    High,
 }
 
-// How many runs were written, or why there are none.
-#[derive(Clone, Copy)]
-pub enum Walked {
-    Runs(usize),
-    Refused(Refusal),
+// Where a stretch ends up: on which side of the figure, and on which shot, by its number from 1.
+#[derive(Clone, Copy, PartialEq, Eq)]
+pub struct Landed {
+    pub shot: Option<usize>,
+    pub side: Option<Side>,
 }
 
 // 2 to 5 of a figure. What is drawn on the way is not wanted here.
-fn judge(corners: &[u16], lengths: &[u16]) -> Answer
+fn judge(corners: &[u16], lengths: &[u16]) -> Result<(), Refusal>
     ensures { answer_no result ≡ refusal (figure corners.now lengths.now) }
 {
     let mut xs = [0u16; MOST_LINES];
     let mut ys = [0u16; MOST_LINES];
     let mut cells = [0u8; MOST_CELLS];
-    let drawing = draw(corners, lengths, &mut xs, &mut ys, &mut cells);
-    drawing.answer
+    draw(corners, lengths, &mut xs, &mut ys, &mut cells)?;
+    Ok(())
 }
 
-// The runs of an edge, from its low end to its high end: four numbers each at the front of the buffer, from and to along the edge, the
-// number of the shot that it ends up on, from 1, or 0 for none, and the side of the figure, 0 where there is no wall. The edge is numbered
-// by the corner that it leaves, counted over all rings. Nothing is written beside a refusal.
+// The runs of an edge, from its low end to its high end, and how many: four numbers each at the front of the buffer, from and to along
+// the edge, the number of the shot that it ends up on, from 1, or 0 for none, and the side of the figure, 0 where there is no wall. The
+// edge is numbered by the corner that it leaves, counted over all rings. Nothing is written beside a refusal.
 pub fn edge_shots(
     corners: &[u16],
     lengths: &[u16],
     edge: usize,
     shots: &[u16],
     runs: &mut [usize],
-) -> Walked
+) -> Result<usize, Refusal>
     ensures settled { edge_told result runs.new ≡ edge_walked (figure corners.now lengths.now) edge shots.now runs.old }
 {
-    match judge(corners, lengths) {
-        Answer::Refused(why) => Walked::Refused(why),
-        Answer::Accepted => {
-            if bad_shots(shots) {
-                return Walked::Refused(Refusal::Shots);
-            }
-            if corners.len() / 2 <= edge {
-                return Walked::Refused(Refusal::Edge);
-            }
-            let span = span_of(corners, edge, next_corner(corners, lengths, edge));
-            let count = count_runs(corners, lengths, shots, span);
-            if runs.len() / 4 < count {
-                return Walked::Refused(Refusal::Room);
-            }
-            write_runs(corners, lengths, shots, span, runs);
-            Walked::Runs(count)
-        }
+    judge(corners, lengths)?;
+    if bad_shots(shots) {
+        return Err(Refusal::Shots);
     }
+    if corners.len() / 2 <= edge {
+        return Err(Refusal::Edge);
+    }
+    let span = span_of(corners, edge, next_corner(corners, lengths, edge));
+    let count = count_runs(corners, lengths, shots, span);
+    if runs.len() / 4 < count {
+        return Err(Refusal::Room);
+    }
+    write_runs(corners, lengths, shots, span, runs);
+    Ok(count)
 }

@@ -4,7 +4,7 @@ ghost use Rattle.figure.specs.Figure.{figure, bad_figure};
 ghost use Rattle.edge.specs.Edge.{other as other_of, across as acrossOf};
 ghost use Rattle.edge.specs.Steps as step;
 
-use figure::{Axis, edges, rings};
+use figure::{Axis, edges};
 
 // Where an edge lies: at a place along the axis that it stands across, from low to high along the other.
 #[derive(Clone, Copy)]
@@ -32,8 +32,8 @@ pub fn next_corner(corners: &[u16], lengths: &[u16], edge: usize) -> usize
     ensures { step.Leads (figure corners.now lengths.now) edge result }
 {
     let mut first: usize = 0;
-    for k in 0..lengths.len() {
-        let past = first + rings::wide(lengths[k]);
+    for &length in lengths {
+        let past = first + usize::from(length);
         if edge + 1 < past {
             return edge + 1;
         }
@@ -52,10 +52,7 @@ fn across(corners: &[u16], start: usize, end: usize) -> Axis
 {
     let from = edges::along(corners, start, Axis::X);
     let to = edges::along(corners, end, Axis::X);
-    if from.0 == to.0 {
-        return Axis::X;
-    }
-    Axis::Y
+    if from == to { Axis::X } else { Axis::Y }
 }
 
 // Where the edge between two corners lies.
@@ -67,18 +64,10 @@ pub fn span_of(corners: &[u16], start: usize, end: usize) -> Span
     let at = edges::along(corners, end, axis);
     let from = edges::along(corners, start, other(axis));
     let to = edges::along(corners, end, other(axis));
-    if from.0 <= to.0 {
-        return Span {
-            axis,
-            at: at.0,
-            low: from.0,
-            high: to.0,
-        };
-    }
     Span {
         axis,
         at: at.0,
-        low: to.0,
-        high: from.0,
+        low: from.0.min(to.0),
+        high: from.0.max(to.0),
     }
 }

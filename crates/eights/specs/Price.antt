@@ -1,7 +1,8 @@
 -- Inner: settling all strips of one width (nobody has to believe these).
 -- The pieces are settled from the highest low line down, and of those that begin at one line the lowest first.
 --
---   Sheet, sheet ..         == what is known of the strips of one width: their sums, their widths in nm, the places of the y lines, the
+--   Sheet, sheet .., sheet_of
+--                           == what is known of the strips of one width: their sums, their widths in nm, the places of the y lines, the
 --                              threshold, the price of a shot, the count of rows of cells and of pairs of y lines, the width in columns,
 --                              and how many strips there are
 --   count_in, flank_in, ends_in sums a b d
@@ -21,6 +22,7 @@ use Rattle.rule.specs.Charge.{longer}
 use Rattle.table.specs.Entry.{pair_count, pair_no}
 use Rattle.table.specs.Run.{Lowest}
 use Rattle.table.specs.Cuts.{Judged}
+use Rattle.eights.specs.declared.settling.Strips.{Strips}
 use Rattle.eights.specs.Store.{place_of, besides}
 
 pub record Sheet : Type 0 where
@@ -37,6 +39,9 @@ pub record Sheet : Type 0 where
 abbrev pub sheet : List ℕ → List ℕ → List ℕ → ℕ → ℕ → ℕ → ℕ → ℕ → ℕ → Sheet
 sheet sums wide ys t price rows pairs w n =
     record { sums = sums; wide = wide; ys = ys; threshold = t; price = price; rows = rows; pairs = pairs; width = w; strips = n }
+
+abbrev pub sheet_of : Strips → Sheet
+sheet_of s = sheet s.sums.now s.wide.now s.ys.now s.tariff.threshold s.tariff.price s.rows s.pairs s.width s.count
 
 unfoldable pub count_in : List ℕ → ℕ → ℕ → ℕ → ℕ
 count_in sums a b d = over b d (λ j. get_or sums (16 * j + a) 0)

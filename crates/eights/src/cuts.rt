@@ -1,5 +1,5 @@
 // The cuts of one piece in each of eight lanes. A vertical cut lies in narrower strips, a horizontal one in strips of the same width.
-ghost use Rattle.std.specs.Prelude.{◌≡◌, ℕ, ◌+◌, ◌*◌, ◌-◌, ◌<◌, ◌≤◌, min, max, length, get_or};
+ghost use Rattle.std.specs.Prelude.{◌≡◌, ℕ, ◌+◌, ◌*◌, ◌-◌, ◌<◌, ◌≤◌, max, length, get_or};
 ghost use Rattle.table.specs.Run.{Wrote, Lowest};
 ghost use Rattle.eights.specs.Store.{listed, weighed, unweighed, lowered, lowered_twice, Laid, place_of, besides, stacked, Stands, Room, Within};
 
@@ -21,22 +21,13 @@ pub struct Level {
     pub first: usize,
 }
 
-// The lesser of two costs.
-fn lesser(a: u16, b: u16) -> u16
-    ensures { result ≡ min a b }
-{
-    if b < a { b } else { a }
-}
-
 // Weighs one cut in eight lanes: each keeps the lesser of what it has and of its two parts' costs together.
 fn weigh(best: &mut [u16; EIGHT], store: &[u16], low: usize, high: usize)
     requires { (length best.old ≡ 8) × ((low + 8 ≤ length store.now) × (high + 8 ≤ length store.now)) }
     ensures { Wrote (weighed best.old store.now low high) 0 8 best.old best.new }
 {
-    let mut l: usize = 0;
-    while l < EIGHT {
-        best[l] = lesser(best[l], both(store[low + l], store[high + l]));
-        l += 1;
+    for (l, least) in best.iter_mut().enumerate() {
+        *least = (*least).min(both(store[low + l], store[high + l]));
     }
 }
 
@@ -46,24 +37,16 @@ pub fn eight_at(store: &[u16], at: usize) -> [u16; EIGHT]
     ensures result_len { length result ≡ 8 }
     ensures by_index { (l : ℕ) → l < 8 → get_or result l 0 ≡ get_or store.now (at + l) 0 }
 {
-    let mut eight = [0u16; EIGHT];
-    let mut l: usize = 0;
-    while l < EIGHT {
-        eight[l] = store[at + l];
-        l += 1;
-    }
-    eight
+    std::array::from_fn(|l| store[at + l])
 }
 
-// Puts eight numbers there.
+// Puts eight numbers there. A loop: the library's copy goes through memory, with a test for overlap (measured).
 fn put(store: &mut [u16], eight: &[u16; EIGHT], at: usize)
     requires { at + 8 ≤ length store.old }
     ensures { Wrote (listed eight.now) at 8 store.old store.new }
 {
-    let mut l: usize = 0;
-    while l < EIGHT {
-        store[at + l] = eight[l];
-        l += 1;
+    for (l, number) in eight.iter().enumerate() {
+        store[at + l] = *number;
     }
 }
 
@@ -73,10 +56,8 @@ fn clear(store: &mut [u16], pairs: usize, at: usize)
     ensures { Laid unweighed (16 * pairs) pairs at store.old store.new }
 {
     let none = [u16::MAX; EIGHT];
-    let mut e: usize = 0;
-    while e < pairs {
+    for e in 0..pairs {
         put(store, &none, at + LANES * e);
-        e += 1;
     }
 }
 
@@ -85,13 +66,11 @@ fn weigh_line(store: &mut [u16], pairs: usize, at: usize, low: usize, high: usiz
     requires { (at + 16 * pairs ≤ length store.old + 8) × ((low + 16 * pairs ≤ length store.old + 8) × (high + 16 * pairs ≤ length store.old + 8)) }
     ensures { Laid (lowered store.old at low high) (at - max low high) pairs at store.old store.new }
 {
-    let mut e: usize = 0;
-    while e < pairs {
+    for e in 0..pairs {
         let k = LANES * e;
         let mut best = eight_at(store, at + k);
         weigh(&mut best, store, low + k, high + k);
         put(store, &best, at + k);
-        e += 1;
     }
 }
 
@@ -109,18 +88,17 @@ fn weigh_lines(
     requires pairs_in_bounds_2 { (next + 16 * pairs ≤ length store.old + 8) × (further + 16 * pairs ≤ length store.old + 8) }
     ensures { Laid (lowered_twice store.old at low high next further) (at - max (max low high) (max next further)) pairs at store.old store.new }
 {
-    let mut e: usize = 0;
-    while e < pairs {
+    for e in 0..pairs {
         let k = LANES * e;
         let mut best = eight_at(store, at + k);
         weigh(&mut best, store, low + k, high + k);
         weigh(&mut best, store, next + k, further + k);
         put(store, &best, at + k);
-        e += 1;
     }
 }
 
-// Gives all pieces of the strips w columns wide, in the lanes from g on, the least of their vertical cuts, or what stands for none.
+// Gives all pieces of the strips w columns wide, in the lanes from g on, the least of their vertical cuts; where
+// there is none the greatest number, which no cost reaches.
 pub fn weigh_vertical(store: &mut [u16], pairs: usize, w: usize, g: usize)
     requires { ((1 ≤ w) × (w ≤ 15)) × ((pairs ≤ 225) × ((g + 8 ≤ 16) × (16 * (pairs * w) + 16 ≤ length store.old))) }
     ensures within { Within pairs w g store.old store.new }
@@ -131,6 +109,7 @@ pub fn weigh_vertical(store: &mut [u16], pairs: usize, w: usize, g: usize)
     clear(store, pairs, at);
     let mut low = g;
     let mut high = at;
+    // Counted on by hand: the cut that is left over behind the last two reads v, low and high after the loop.
     let mut v: usize = 1;
     while v + 1 < w {
         high -= block;
@@ -157,11 +136,9 @@ pub fn weigh_horizontal(best: &mut [u16; EIGHT], store: &[u16], level: Level, g:
     let first = level.pairs * (level.width - 1) + level.first;
     let mut lower = LANES * first + g;
     let mut upper = LANES * (first + (rows - low) + (high - low) - 2) + g;
-    let mut k = low + 1;
-    while k < high {
+    for k in low + 1..high {
         weigh(best, store, lower, upper);
         lower += LANES;
         upper += LANES * (rows - k - 1);
-        k += 1;
     }
 }

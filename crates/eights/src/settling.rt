@@ -6,7 +6,7 @@ ghost use Rattle.table.specs.Run.{Wrote};
 ghost use Rattle.shares.specs.Growth.{wrap_added};
 ghost use Rattle.eights.specs.Store.{place_of, Stands, Room, Within};
 ghost use Rattle.eights.specs.Eight.{Settled};
-ghost use Rattle.eights.specs.Price.{sheet, Measured, Prices, Ahead, Known};
+ghost use Rattle.eights.specs.Price.{sheet_of, Measured, Prices, Ahead, Known};
 
 use crate::cuts::{EIGHT, Level};
 use crate::{cuts, judging};
@@ -21,15 +21,27 @@ pub struct Tariff {
     pub price: u16,
 }
 
+// What is known of the strips of one width before they are settled: their sums, their widths in nm, the places of the y lines, what a shot
+// costs, how many rows of cells and pairs of y lines there are, how many columns wide the strips are, and how many there are.
+#[derive(Clone, Copy)]
+pub struct Strips<'a> {
+    pub sums: &'a [u16; SUMS],
+    pub wide: &'a [u16; LANES],
+    pub ys: &'a [u16],
+    pub tariff: Tariff,
+    pub rows: usize,
+    pub pairs: usize,
+    pub width: usize,
+    pub count: usize,
+}
+
 // Adds eight numbers of the sums, from the place `at` on.
 fn add(to: &mut [u16; EIGHT], sums: &[u16; SUMS], at: usize)
     requires { (length to.old ≡ 8) × ((length sums.now ≡ 1024) × (at + 8 ≤ 1024)) }
     ensures { Wrote (wrap_added to.old sums.now 0 at) 0 8 to.old to.new }
 {
-    let mut l: usize = 0;
-    while l < EIGHT {
-        to[l] = both(to[l], sums[at + l]);
-        l += 1;
+    for (l, number) in to.iter_mut().enumerate() {
+        *number = both(*number, sums[at + l]);
     }
 }
 
@@ -39,76 +51,47 @@ fn settle_level(
     store: &mut [u16],
     count: &mut [u16; EIGHT],
     flanks: &mut [u16; EIGHT],
-    sums: &[u16; SUMS],
-    wide: &[u16; LANES],
-    tariff: Tariff,
+    strips: Strips,
     level: Level,
     height: u16,
     cells: u16,
     g: usize,
 )
-    requires count_len { (length count.old ≡ 8) × ((length flanks.old ≡ 8) × ((length sums.now ≡ 1024) × (length wide.now ≡ 16))) }
+    requires count_len { (length count.old ≡ 8) × ((length flanks.old ≡ 8) × ((length strips.sums.now ≡ 1024) × (length strips.wide.now ≡ 16))) }
     requires stands { Stands level × (Room level store.old × (g + 8 ≤ 16)) }
-    ensures wrote { Wrote (wrap_added count.old sums.now 0 (16 * (level.high - 1) + g)) 0 8 count.old count.new }
-    ensures wrote_2 { Wrote (wrap_added flanks.old sums.now 0 (768 + (16 * (level.high - 1) + g))) 0 8 flanks.old flanks.new }
-    ensures settled { Settled level height cells tariff.threshold tariff.price sums.now wide.now count.new flanks.new g store.old store.new }
+    ensures wrote { Wrote (wrap_added count.old strips.entry.sums.now 0 (16 * (level.high - 1) + g)) 0 8 count.old count.new }
+    ensures wrote_2 { Wrote (wrap_added flanks.old strips.entry.sums.now 0 (768 + (16 * (level.high - 1) + g))) 0 8 flanks.old flanks.new }
+    ensures settled { Settled level height cells strips.entry.tariff.threshold strips.entry.tariff.price strips.entry.sums.now strips.entry.wide.now count.new flanks.new g store.old store.new }
 {
     let e = level.first + (level.high - level.low - 1);
     let at = LANES * (level.pairs * (level.width - 1) + e) + g;
     let mut best = cuts::eight_at(store, at);
     cuts::weigh_horizontal(&mut best, store, level, g);
     let row = LANES * (level.high - 1) + g;
-    add(count, sums, row);
-    add(flanks, sums, FLANKS + row);
-    judging::judge_level(
-        store,
-        &best,
-        count,
-        flanks,
-        sums,
-        wide,
-        tariff.threshold,
-        tariff.price,
-        level,
-        height,
-        cells,
-        g,
-    );
+    add(count, strips.sums, row);
+    add(flanks, strips.sums, FLANKS + row);
+    judging::judge_level(store, &best, count, flanks, strips, level, height, cells, g);
 }
 
 // Settles the pieces that begin at the y line low. `first` is the number of the first of them.
-fn settle_from(
-    store: &mut [u16],
-    sums: &[u16; SUMS],
-    wide: &[u16; LANES],
-    ys: &[u16],
-    tariff: Tariff,
-    rows: usize,
-    pairs: usize,
-    w: usize,
-    n: usize,
-    low: usize,
-    first: usize,
-    g: usize,
-)
-    requires measured { Measured (sheet sums.now wide.now ys.now tariff.threshold tariff.price rows pairs w n) }
-    requires low_lt_rows { (low < rows) × ((first ≡ pairs_below rows low) × ((16 * (pairs * w) + 16 ≤ length store.old) × ((g < n) × (g + 8 ≤ 16)))) }
-    requires ahead { Ahead (sheet sums.now wide.now ys.now tariff.threshold tariff.price rows pairs w n) store.old g low (low + 1) }
-    ensures within { Within pairs w g store.old store.new }
-    ensures ahead_2 { Ahead (sheet sums.now wide.now ys.now tariff.threshold tariff.price rows pairs w n) store.new g low (rows + 1) }
-    ensures by_index { (s : ℕ → ℕ → ℕ → ℕ) → Prices s (sheet sums.now wide.now ys.now tariff.threshold tariff.price rows pairs w n) store.old → Known s (sheet sums.now wide.now ys.now tariff.threshold tariff.price rows pairs w n) store.old g low (low + 1) → Known s (sheet sums.now wide.now ys.now tariff.threshold tariff.price rows pairs w n) store.new g low (rows + 1) }
+fn settle_from(store: &mut [u16], strips: Strips, low: usize, first: usize, g: usize)
+    requires measured { Measured (sheet_of strips) }
+    requires low_lt_rows { (low < strips.rows) × ((first ≡ pairs_below strips.rows low) × ((16 * (strips.pairs * strips.width) + 16 ≤ length store.old) × ((g < strips.count) × (g + 8 ≤ 16)))) }
+    requires ahead { Ahead (sheet_of strips) store.old g low (low + 1) }
+    ensures within { Within strips.entry.pairs strips.entry.width g store.old store.new }
+    ensures ahead_2 { Ahead (sheet_of strips.entry) store.new g low (strips.entry.rows + 1) }
+    ensures by_index { (s : ℕ → ℕ → ℕ → ℕ) → Prices s (sheet_of strips.entry) store.old → Known s (sheet_of strips.entry) store.old g low (low + 1) → Known s (sheet_of strips.entry) store.new g low (strips.entry.rows + 1) }
 {
     let mut count = [0u16; EIGHT];
     let mut flanks = [0u16; EIGHT];
     let mut cells: usize = 0;
-    let mut high = low + 1;
-    while high <= rows {
-        cells += w;
-        let height = ys[high] - ys[low];
+    for high in low + 1..strips.rows + 1 {
+        cells += strips.width;
+        let height = strips.ys[high] - strips.ys[low];
         let level = Level {
-            rows,
-            pairs,
-            width: w,
+            rows: strips.rows,
+            pairs: strips.pairs,
+            width: strips.width,
             low,
             high,
             first,
@@ -117,68 +100,38 @@ fn settle_from(
             store,
             &mut count,
             &mut flanks,
-            sums,
-            wide,
-            tariff,
+            strips,
             level,
             height,
             cells as u16,
             g,
         );
-        high += 1;
     }
 }
 
 // Settles all pieces in the lanes from g on: first their vertical cuts are weighed, then each piece is settled.
-fn settle_eight(
-    store: &mut [u16],
-    sums: &[u16; SUMS],
-    wide: &[u16; LANES],
-    ys: &[u16],
-    tariff: Tariff,
-    rows: usize,
-    pairs: usize,
-    w: usize,
-    n: usize,
-    g: usize,
-)
-    requires measured { Measured (sheet sums.now wide.now ys.now tariff.threshold tariff.price rows pairs w n) }
-    requires w_in_bounds { (16 * (pairs * w) + 16 ≤ length store.old) × ((g < n) × (g + 8 ≤ 16)) }
-    ensures within { Within pairs w g store.old store.new }
-    ensures by_index { (s : ℕ → ℕ → ℕ → ℕ) → Prices s (sheet sums.now wide.now ys.now tariff.threshold tariff.price rows pairs w n) store.old → Known s (sheet sums.now wide.now ys.now tariff.threshold tariff.price rows pairs w n) store.new g 0 (rows + 1) }
+fn settle_eight(store: &mut [u16], strips: Strips, g: usize)
+    requires measured { Measured (sheet_of strips) }
+    requires w_in_bounds { (16 * (strips.pairs * strips.width) + 16 ≤ length store.old) × ((g < strips.count) × (g + 8 ≤ 16)) }
+    ensures within { Within strips.entry.pairs strips.entry.width g store.old store.new }
+    ensures by_index { (s : ℕ → ℕ → ℕ → ℕ) → Prices s (sheet_of strips.entry) store.old → Known s (sheet_of strips.entry) store.new g 0 (strips.entry.rows + 1) }
 {
-    cuts::weigh_vertical(store, pairs, w, g);
-    let mut first = pairs;
-    let mut b = rows;
-    while 0 < b {
-        b -= 1;
-        first -= rows - b;
-        settle_from(
-            store, sums, wide, ys, tariff, rows, pairs, w, n, b, first, g,
-        );
+    cuts::weigh_vertical(store, strips.pairs, strips.width, g);
+    let mut first = strips.pairs;
+    for b in (0..strips.rows).rev() {
+        first -= strips.rows - b;
+        settle_from(store, strips, b, first, g);
     }
 }
 
 // Settles all pieces of n strips, w columns wide, where the store has the costs of all narrower strips.
-pub fn settle(
-    store: &mut [u16],
-    sums: &[u16; SUMS],
-    wide: &[u16; LANES],
-    ys: &[u16],
-    tariff: Tariff,
-    rows: usize,
-    pairs: usize,
-    w: usize,
-    n: usize,
-)
-    requires measured { Measured (sheet sums.now wide.now ys.now tariff.threshold tariff.price rows pairs w n) }
-    requires w_in_bounds { 16 * (pairs * w) + 16 ≤ length store.old }
-    ensures by_index { (k : ℕ) → k < 16 * (pairs * (w - 1)) → get_or store.new k 0 ≡ get_or store.old k 0 }
-    ensures by_index_2 { (s : ℕ → ℕ → ℕ → ℕ) → Prices s (sheet sums.now wide.now ys.now tariff.threshold tariff.price rows pairs w n) store.old → (a p q : ℕ) → a < n → p < q → q ≤ rows → get_or store.new (place_of pairs w (pair_no rows p q) a) 0 ≡ s a p q }
+pub fn settle(store: &mut [u16], strips: Strips)
+    requires measured { Measured (sheet_of strips) }
+    requires w_in_bounds { 16 * (strips.pairs * strips.width) + 16 ≤ length store.old }
+    ensures by_index { (k : ℕ) → k < 16 * (strips.entry.pairs * (strips.entry.width - 1)) → get_or store.new k 0 ≡ get_or store.old k 0 }
+    ensures by_index_2 { (s : ℕ → ℕ → ℕ → ℕ) → Prices s (sheet_of strips.entry) store.old → (a p q : ℕ) → a < strips.entry.count → p < q → q ≤ strips.entry.rows → get_or store.new (place_of strips.entry.pairs strips.entry.width (pair_no strips.entry.rows p q) a) 0 ≡ s a p q }
 {
-    let mut g: usize = 0;
-    while g < n {
-        settle_eight(store, sums, wide, ys, tariff, rows, pairs, w, n, g);
-        g += EIGHT;
+    for g in (0..strips.count).step_by(EIGHT) {
+        settle_eight(store, strips, g);
     }
 }

@@ -1,4 +1,5 @@
-// Storing the costs of all strips of one width: each lane becomes a row of the table, its numbers times the weight.
+// Storing the costs of all strips of one width: each lane becomes a row of the table, its numbers times the weight. (In long numbers:
+// `strips::storing`, where each width has a side store of its own; here all widths stand in one.)
 ghost use Rattle.std.specs.Prelude.{◌≡◌, ◌+◌, ◌*◌, ◌<◌, ◌≤◌, length};
 ghost use Rattle.table.specs.Entry.{pair_count};
 ghost use Rattle.table.specs.Run.{Wrote};
@@ -11,10 +12,8 @@ fn store_strip(table: &mut [u32], store: &[u16], weight: u32, at: usize, from: u
     requires { (at + pairs ≤ length table.old) × ((from + 16 * pairs ≤ length store.now) × ((pairs ≤ 120) × (weight ≤ 1000))) }
     ensures { Wrote (scaled weight store.now from) at pairs table.old table.new }
 {
-    let mut e: usize = 0;
-    while e < pairs {
-        table[at + e] = weight * (store[from + LANES * e] as u32);
-        e += 1;
+    for e in 0..pairs {
+        table[at + e] = weight * u32::from(store[from + LANES * e]);
     }
 }
 
@@ -33,10 +32,8 @@ pub fn store_strips(
 {
     let block = LANES * (pairs * (w - 1));
     let mut row = w - 1;
-    let mut a: usize = 0;
-    while a + w <= columns {
+    for a in 0..columns + 1 - w {
         store_strip(table, store, weight, row * pairs, block + a, pairs);
         row += columns - a;
-        a += 1;
     }
 }

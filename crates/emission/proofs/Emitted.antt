@@ -58,8 +58,7 @@ use Rattle.verdict.specs.declared.pinwheel.Turned.TheVariants as verdict
 use Rattle.verdict.specs.Verdict.{verdict_of, numbered, part_no, wheel_in, made}
 use Rattle.verdict.specs.Memory.{Costed, Known}
 use Rattle.verdict.proofs.Hunting.{each_part}
-use Rattle.emission.specs.declared.Settled.{Settled}
-use Rattle.emission.specs.declared.Settled.TheVariants as settled
+use Rattle.std.specs.Prelude.{Option, Some, None}
 use Rattle.emission.specs.Emission.{InLists, Written, Walk, Emittable, Settles, EmittableMixed}
 
 -- What is written
@@ -391,24 +390,24 @@ written_fifths g a b c d e =
 
 -- What became of a piece that was not cut
 module _ (g : Grid) (r : Rule) (p : Piece) where
-  pub settled-outside : (u : List ℕ) (at : ℕ) → kind g p ≡ outside → Settles g r u u at p (settled.Behind at)
+  pub settled-outside : (u : List ℕ) (at : ℕ) → kind g p ≡ outside → Settles g r u u at p (Some at)
   unfolding Settles
   settled-outside u at h = written_as g u u at at (shots-outside Straight g r p h) (written_none g u at)
 
-  pub settled-full : (u v : List ℕ) (at n : ℕ) → kind g p ≡ full → Written g u v at (p ∷ []) n → Settles g r u v at p (settled.Behind n)
+  pub settled-full : (u v : List ℕ) (at n : ℕ) → kind g p ≡ full → Written g u v at (p ∷ []) n → Settles g r u v at p (Some n)
   unfolding Settles
   settled-full u v at n h w = written_as g u v at n (shots-full Straight g r p h) w
 
-  pub not-settled : (u : List ℕ) (at : ℕ) → kind g p ≡ mixed → Settles g r u u at p settled.Mixed
+  pub not-settled : (u : List ℕ) (at : ℕ) → kind g p ≡ mixed → Settles g r u u at p None
   unfolding Settles
   not-settled u at h = (h, refl)
 
-  pub settled-behind : (u v : List ℕ) (at n : ℕ) (s : Settled) → s ≡ settled.Behind n → Settles g r u v at p s
+  pub settled-behind : (u v : List ℕ) (at n : ℕ) (s : Option ℕ) → s ≡ Some n → Settles g r u v at p s
       → Written g u v at (shots Straight g r p) n
   unfolding Settles
   settled-behind u v at n s e h = subst (Settles g r u v at p) e h
 
-  pub settled-mixed : (u v : List ℕ) (at : ℕ) (s : Settled) → s ≡ settled.Mixed → Settles g r u v at p s → (kind g p ≡ mixed) × (v ≡ u)
+  pub settled-mixed : (u v : List ℕ) (at : ℕ) (s : Option ℕ) → s ≡ None → Settles g r u v at p s → (kind g p ≡ mixed) × (v ≡ u)
   unfolding Settles
   settled-mixed u v at s e h = subst (Settles g r u v at p) e h
 

@@ -1,11 +1,16 @@
 -- Laws of the sliver length of shots that were written. Assumes nothing.
 --
 --   line-found, shot-found     : the first line at a line's place is that line; the piece that stands in a list
+--   left-some, .. top-some     : its four lines are found
+--   line-is, line-walked       : the line that was found; by what a walk over the lines tells
 --   left-next, left-none       : the sum over the shots that are left; over none
 --   shot-shown, sum_next       : a shot of the list can be measured, and joins the sum
 --   charges                    : shots are charged 1,000 each, and the weight for each nm of sliver
 --   sliver-told                : so the charge tells the sliver length, by a weight above 0
 --   numbers-at                 : a list that begins with the numbers of shots has those of each
+use Rattle.std.specs.Prelude.{Option, Some, None, MatchOption, IsSome, option_map}
+use Rattle.std.specs.List.{AllWithin, HoldsAt}
+use Rattle.outline.specs.declared.Line.{Line}
 use Prim.Native.Nat.{ℕ, zero, suc, ◌+◌, ◌*◌, ◌-◌, ◌/◌, ◌≤◌, ◌<◌}
 use mathlib.Core.Path.{◌≡◌, refl, ap, ap₂, sym, ◌∙◌, subst}
 use mathlib.Core.Logic.{inl, inr}
@@ -25,7 +30,8 @@ use Rattle.piece.specs.Cuts.{numbers_of}
 use Rattle.piece.specs.declared.Piece as stored
 use Rattle.piece.proofs.Choice.{numbers-one, numbers-append}
 use Rattle.table.specs.Entry.{Valid}
-use Rattle.verdict.specs.Search.{FirstWith}
+use Rattle.verdict.specs.Search.{FirstWith, FirstLine}
+use Rattle.verdict.proofs.Search.{some-of}
 use Rattle.sliver.specs.Sides.{Shown}
 use Rattle.emission.specs.Measuring.{shot_no, Stands, Listed}
 
@@ -74,6 +80,42 @@ module _ (g : Grid) (xs ys cells list : List ℕ) (at : ℕ) (s : Piece) (z : St
         let eb = y-found s.b p.b.0 (get_or list (at + 1) 0) (omega (arith, v.bd, v.dy)) z.b b in
         let ed = y-found s.d p.d.0 (get_or list (at + 3) 0) v.dy z.d d in
         λ i. record { a = ea i; c = ec i; b = eb i; d = ed i }
+
+  -- each of its lines is found
+  on-x : (i v : ℕ) → i ≤ g.columns → v ≡ g.x i → (o : Option Line) → FirstLine (λ j. get_or xs j 0 ≡ v) 0 (length xs) o → IsSome o
+  on-x i v h e o w =
+      some-of _ o (λ n. n.passed i (omega arith) (omega (arith, z.drawn.xs-length, z.sound.columns-most)) (z.drawn.x-at i h ∙ sym e)) w
+
+  on-y : (i v : ℕ) → i ≤ g.rows → v ≡ g.y i → (o : Option Line) → FirstLine (λ j. get_or ys j 0 ≡ v) 0 (length ys) o → IsSome o
+  on-y i v h e o w =
+      some-of _ o (λ n. n.passed i (omega arith) (omega (arith, z.drawn.ys-length, z.sound.rows-most)) (z.drawn.y-at i h ∙ sym e)) w
+
+  pub left-some : (o : Option Line) → FirstLine (λ j. get_or xs j 0 ≡ get_or list at 0) 0 (length xs) o → IsSome o
+  left-some o w = on-x s.a _ (omega (arith, z.valid.ac, z.valid.cx)) z.a o w
+
+  pub right-some : (o : Option Line) → FirstLine (λ j. get_or xs j 0 ≡ get_or list (at + 2) 0) 0 (length xs) o → IsSome o
+  right-some o w = on-x s.c _ z.valid.cx z.c o w
+
+  pub bottom-some : (o : Option Line) → FirstLine (λ j. get_or ys j 0 ≡ get_or list (at + 1) 0) 0 (length ys) o → IsSome o
+  bottom-some o w = on-y s.b _ (omega (arith, z.valid.bd, z.valid.dy)) z.b o w
+
+  pub top-some : (o : Option Line) → FirstLine (λ j. get_or ys j 0 ≡ get_or list (at + 3) 0) 0 (length ys) o → IsSome o
+  top-some o w = on-y s.d _ z.valid.dy z.d o w
+
+-- the line that was found
+pub line-is : {Q : ℕ → Type 0} {a c : ℕ} {o : Option Line} {l : Line} → o ≡ Some l → FirstLine Q a c o → FirstWith Q a c l.0
+line-is {Q} {a} {c} e h = (subst (FirstLine Q a c) e h).0
+
+-- by what a walk over the lines tells
+abbrev pub Walked : List ℕ → ℕ → Option ℕ → Type 0
+Walked lines v o = FirstLine (λ j. get_or lines j 0 ≡ v) 0 (length lines) (option_map (λ n. record { 0 = n }) o)
+
+pub line-walked : (lines : List ℕ) (v : ℕ) (o : Option ℕ)
+    → MatchOption o (AllWithin (λ x. x ≡ v → ⊥) lines 0 (length lines)) (λ i. (i < length lines) × HoldsAt (λ x. x ≡ v) lines i × AllWithin (λ x. x ≡ v → ⊥) lines 0 i)
+    → Walked lines v o
+line-walked lines v None h = record { least = omega arith; most = omega arith; passed = λ j u w. h j 0 u w; found = λ w. absurd (omega arith) }
+line-walked lines v (Some n) h =
+    (record { least = omega arith; most = omega (arith, h.0); passed = λ j u w. h.2 j 0 u w; found = λ w. h.1 0 }, h.0)
 
 -- the shots that are left
 

@@ -7,9 +7,9 @@
 --                               at on there is room for the shots of p
 --   Settleable .. at p       == the same by straight cuts, by some plan
 --   Settles g r u v at p s   == s says what became of the piece p: by writing its shots from the index at on the list u becomes v, and s is
---                               the index behind them; or it is mixed, and the list is as it was
+--                               the index behind them; or s is none, it is mixed, and the list is as it was
 --   EmittableMixed .. at p   == as Emittable by straight cuts, and p is mixed
-use Rattle.std.specs.Prelude.{ℕ, ◌+◌, ◌*◌, ◌≤◌, ◌<◌, ◌≡◌, List, length}
+use Rattle.std.specs.Prelude.{ℕ, ◌+◌, ◌*◌, ◌≤◌, ◌<◌, ◌≡◌, List, length, Option, Some, None}
 use Rattle.std.proofs.lemmas.List.Edits.{sets}
 use Rattle.recurrence.specs.Scheme.{mixed}
 use Rattle.outline.specs.Grid.{Grid, Drawn}
@@ -23,8 +23,6 @@ use Rattle.piece.specs.Cuts.{shots, numbers_of}
 use Rattle.verdict.specs.declared.Plan.{Plan}
 use Rattle.verdict.specs.declared.Numbered.{Numbered}
 use Rattle.verdict.specs.Memory.{Costed, Known}
-use Rattle.emission.specs.declared.Settled.{Settled}
-use Rattle.emission.specs.declared.Settled.TheVariants as settled
 
 pub record InLists (xs ys : List ℕ) (p : stored.Piece) : Type 0 where
   pub a : p.a.0 < length xs
@@ -52,9 +50,9 @@ pub record Settleable (table cells xs ys : List ℕ) (room : ℕ) (at : ℕ) (p 
   pub plan : Plan
   pub emittable : Emittable Straight table cells xs ys room plan at p
 
-unfoldable pub Settles : Grid → Rule → List ℕ → List ℕ → ℕ → Piece → Settled → Type 0
-Settles g r u v at p (settled.Behind n) = Written g u v at (shots Straight g r p) n
-Settles g r u v at p settled.Mixed = (kind g p ≡ mixed) × (v ≡ u)
+unfoldable pub Settles : Grid → Rule → List ℕ → List ℕ → ℕ → Piece → Option ℕ → Type 0
+Settles g r u v at p (Some n) = Written g u v at (shots Straight g r p) n
+Settles g r u v at p None = (kind g p ≡ mixed) × (v ≡ u)
 
 pub record EmittableMixed (table cells xs ys : List ℕ) (room : ℕ) (plan : Plan) (at : ℕ) (p : Numbered) : Type 0 where
   pub emittable : Emittable Straight table cells xs ys room plan at p

@@ -2,6 +2,7 @@
 --
 --   shot_no l k                == the shot number k of the list of shots l
 --   Stands g .. list at s     == the four numbers of the piece s of the grid g stand in the list from the index at on
+--   Standing xs ys list at    == those of some grid's piece do
 --   Listed g .. list r l n    == the list begins with the numbers of the n shots l, pieces of the grid g, and they have few slivers under r
 --   Measurable .. list r n    == it begins with those of some grid's shots
 --   Priced .. list r n c      == and these are charged c together
@@ -24,6 +25,12 @@ pub record Stands (g : Grid) (xs ys cells list : List ℕ) (at : ℕ) (s : Piece
   pub b : get_or list (at + 1) 0 ≡ g.y s.b
   pub c : get_or list (at + 2) 0 ≡ g.x s.c
   pub d : get_or list (at + 3) 0 ≡ g.y s.d
+
+pub record Standing (xs ys list : List ℕ) (at : ℕ) : Type 0 where
+  pub grid : Grid
+  pub cells : List ℕ
+  pub shot : Piece
+  pub stands : Stands grid xs ys cells list at shot
 
 pub record Listed (g : Grid) (cells xs ys list : List ℕ) (r : Rule) (l : List Piece) (n : ℕ) : Type 0 where
   pub count : n ≡ length l

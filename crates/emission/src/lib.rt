@@ -43,14 +43,8 @@ fn write_shot(
     at + 4
 }
 
-// What became of a piece that was not cut: its shots are written, one or none, up to this index; or it is mixed, and nothing is written.
-#[derive(Clone, Copy)]
-enum Settled {
-    Behind(usize),
-    Mixed,
-}
-
 // Settles a piece that needs no cut: where it is full it is a shot, written from the index at on; where it is outside there is nothing to write.
+// Hands back the index behind its shots; none where it is mixed, and nothing is written.
 fn settle(
     costs: &[u32],
     cells: &[u8],
@@ -59,25 +53,25 @@ fn settle(
     list: &mut [u16],
     at: usize,
     p: Numbered,
-) -> Settled
+) -> Option<usize>
     requires { Settleable costs.now cells.now xs.now ys.now (length list.old) at p }
     ensures { (g : Grid) (r : Rule) (plan : Plan) → Walk Straight g r costs.now cells.now xs.now ys.now plan → Known plan p → Settles g r list.old list.new at (meant p.piece) result }
 {
     let sort = sort_of(costs, cells, p);
     match sort {
-        Sort::Outside => Settled::Behind(at),
+        Sort::Outside => Some(at),
         Sort::Full => {
             let shot = p.piece;
             let behind = write_shot(xs, ys, list, at, shot);
-            Settled::Behind(behind)
+            Some(behind)
         }
-        Sort::Mixed => Settled::Mixed,
+        Sort::Mixed => None,
     }
 }
 
 // Writes the shots of a mixed piece from the index at on, those of the low part of its cut before those of the high part; hands back the
 // index behind them. A part that needs no cut is settled where it arises: only a mixed low part is a call, and with a mixed high part it goes
-// on from the top.
+// on from the top. What is lent goes down one by one (not tried as one struct).
 fn emit_mixed(
     costs: &[u32],
     cells: &[u8],
@@ -100,16 +94,16 @@ fn emit_mixed(
         let high = parts.high;
         let first = settle(costs, cells, xs, ys, list, next, low);
         next = match first {
-            Settled::Behind(n) => n,
-            Settled::Mixed => emit_mixed(costs, cells, xs, ys, list, plan, next, low),
+            Some(n) => n,
+            None => emit_mixed(costs, cells, xs, ys, list, plan, next, low),
         };
         let second = settle(costs, cells, xs, ys, list, next, high);
         match second {
-            Settled::Behind(m) => {
+            Some(m) => {
                 next = m;
                 more = false;
             }
-            Settled::Mixed => {
+            None => {
                 rest = high;
             }
         }
@@ -134,7 +128,7 @@ pub fn emit(
 {
     let settled = settle(costs, cells, xs, ys, list, at, p);
     match settled {
-        Settled::Behind(n) => n,
-        Settled::Mixed => emit_mixed(costs, cells, xs, ys, list, plan, at, p),
+        Some(n) => n,
+        None => emit_mixed(costs, cells, xs, ys, list, plan, at, p),
     }
 }

@@ -4,42 +4,36 @@ ghost use Rattle.sum.specs.Sum.{sum_of};
 ghost use Rattle.outline.specs.Grid.{Grid};
 ghost use Rattle.piece.specs.Piece as pieces;
 ghost use Rattle.piece.specs.Meant.{meant};
-ghost use Rattle.verdict.specs.Search.{FirstWith};
-ghost use Rattle.emission.specs.Measuring.{Stands, Listed, Measurable, Priced};
+ghost use Rattle.verdict.specs.Search.{FirstLine};
+ghost use Rattle.emission.specs.Measuring.{Stands, Standing, Listed, Measurable, Priced};
 
 use figure::Place;
-use outline::{Line, place_of};
+use outline::Line;
 use piece::Piece;
 use rule::Rule;
 use sliver::sliver_of;
 
-// The first of the lines that lies at a place, or their count where none does.
-fn line_at(lines: &[u16], place: Place) -> Line
-    ensures { FirstWith (λ j. get_or lines.now j 0 ≡ place.0) 0 (length lines.now) result.0 }
+// The first of the lines that lies at a place.
+fn line_at(lines: &[u16], place: Place) -> Option<Line>
+    ensures { FirstLine (λ j. get_or lines.now j 0 ≡ place.0) 0 (length lines.now) result }
 {
-    let sought = place.0;
-    let count = lines.len();
-    for i in 0..count {
-        if place_of(lines, Line(i)).0 == sought {
-            return Line(i);
-        }
-    }
-    Line(count)
+    let at = lines.iter().position(|line| *line == place.0)?;
+    Some(Line(at))
 }
 
-// The shot whose four numbers stand in the list from the index at on.
+// The shot whose four numbers stand in the list from the index at on: they are those of lines.
 fn shot_at(xs: &[u16], ys: &[u16], list: &[u16], at: usize) -> Piece
-    requires { at + 4 ≤ length list.now }
+    requires { Standing xs.now ys.now list.now at }
     ensures { (g : Grid) (cells : List ℕ) (s : pieces.Piece) → Stands g xs.now ys.now cells list.now at s → meant result ≡ s }
 {
     let left = Place(list[at]);
     let bottom = Place(list[at + 1]);
     let right = Place(list[at + 2]);
     let top = Place(list[at + 3]);
-    let a = line_at(xs, left);
-    let b = line_at(ys, bottom);
-    let c = line_at(xs, right);
-    let d = line_at(ys, top);
+    let a = line_at(xs, left).unwrap();
+    let b = line_at(ys, bottom).unwrap();
+    let c = line_at(xs, right).unwrap();
+    let d = line_at(ys, top).unwrap();
     Piece { a, c, b, d }
 }
 
@@ -49,11 +43,9 @@ fn measured(cells: &[u8], xs: &[u16], ys: &[u16], list: &[u16], rule: Rule, shot
     ensures { (g : Grid) (l : List pieces.Piece) → Listed g cells.now xs.now ys.now list.now rule l shots → result ≡ sum_of (pieces.sliver g rule) l }
 {
     let mut sum: u32 = 0;
-    let mut k = 0;
-    while k < shots {
+    for k in 0..shots {
         let shot = shot_at(xs, ys, list, 4 * k);
         sum += sliver_of(cells, xs, ys, rule, shot);
-        k += 1;
     }
     sum
 }

@@ -1,129 +1,94 @@
 // A figure that was refused: which of its edges is at fault, and what is wrong with it.
-ghost use Rattle.std.specs.Prelude.{◌≤◌};
-
-use crate::texts::say_text;
-use figure::rings::wide;
-use refusal::{Refusal, refusal_no};
+use crate::texts::text_of;
+use refusal::Refusal;
+use std::fmt;
+use std::fmt::Write;
 use std::rt::Stderr;
-use terminal::errors::{say, say_number};
+use terminal::errors::Telling;
 
 // What can be wrong with an edge: it changes both coordinates, or neither, or the one that the edge before it changes.
 #[derive(Clone, Copy)]
-enum Fault {
+enum Flaw {
     Slanted,
     Idle,
     Unturned,
 }
 
-// A corner of a ring.
+// A corner of a ring, with its number.
 #[derive(Clone, Copy)]
 struct Corner {
+    number: usize,
     x: u16,
     y: u16,
 }
 
-// The number at a place of a list; 0 past its end.
-fn at(list: &[u16], i: usize) -> u16 {
-    if i < list.len() {
-        return list[i];
+impl fmt::Display for Corner {
+    fn fmt<W: fmt::Write>(&self, f: &mut fmt::Formatter<W>) -> fmt::Result {
+        write!(f, "corner {} ({}, {})", self.number, self.x, self.y)
     }
-    0
 }
 
-// Corner k of a ring.
-fn corner_of(ring: &[u16], k: usize) -> Corner {
-    if k < 100000 {
-        let x = at(ring, 2 * k);
-        let y = at(ring, 2 * k + 1);
-        return Corner { x, y };
-    }
-    Corner { x: 0, y: 0 }
+// A ring by its corners, x and y of each.
+#[derive(Clone, Copy)]
+struct Ring<'a> {
+    corners: &'a [[u16; 2]],
 }
 
-// The corner after corner k of so many, once round.
-fn next(k: usize, count: usize) -> usize {
-    if k < count {
-        let after = k + 1;
-        if after < count {
+impl Ring<'_> {
+    // Corner k.
+    fn corner(self, k: usize) -> Corner {
+        let [x, y] = self.corners.get(k).copied().unwrap_or([0, 0]);
+        Corner { number: k, x, y }
+    }
+
+    // The corner after corner k, once round.
+    fn next(self, k: usize) -> usize {
+        let after = k.saturating_add(1);
+        if after < self.corners.len() {
             return after;
         }
+        0
     }
-    0
-}
 
-// The corner before corner k of so many, once round.
-fn previous(k: usize, count: usize) -> usize {
-    if 0 < k {
-        return k - 1;
-    }
-    if 0 < count {
-        return count - 1;
-    }
-    0
-}
-
-// Whether the edge from corner k changes x.
-fn changes_x(ring: &[u16], k: usize) -> bool {
-    let from = corner_of(ring, k);
-    let to = corner_of(ring, next(k, ring.len() / 2));
-    from.x != to.x
-}
-
-// Whether it changes y.
-fn changes_y(ring: &[u16], k: usize) -> bool {
-    let from = corner_of(ring, k);
-    let to = corner_of(ring, next(k, ring.len() / 2));
-    from.y != to.y
-}
-
-// Whether the edge from corner k has this fault, in a ring none of whose edges has one of those before it.
-fn is_at_fault(ring: &[u16], k: usize, fault: Fault) -> bool {
-    let x = changes_x(ring, k);
-    let y = changes_y(ring, k);
-    match fault {
-        Fault::Slanted => x && y,
-        Fault::Idle => x == y,
-        Fault::Unturned => x == changes_x(ring, previous(k, ring.len() / 2)),
-    }
-}
-
-// The first edge of a ring that has a fault, by the corner that it starts at; the number of corners where none has.
-fn first_at_fault(ring: &[u16], fault: Fault) -> usize {
-    let count = ring.len() / 2;
-    let mut k = 0;
-    while k < count {
-        if is_at_fault(ring, k, fault) {
-            return k;
+    // The corner before corner k, once round.
+    fn previous(self, k: usize) -> usize {
+        match k.checked_sub(1) {
+            Some(before) => before,
+            None => self.corners.len().saturating_sub(1),
         }
-        k += 1;
     }
-    count
-}
 
-// Some words, and corner k with its coordinates.
-fn say_corner(err: Stderr, words: &[u8], ring: &[u16], k: usize) {
-    let here = corner_of(ring, k);
-    say(err, words);
-    say_number(err, b" corner ", k as u64);
-    say_number(err, b" (", here.x as u64);
-    say_number(err, b", ", here.y as u64);
-    say(err, b")");
-}
+    // Whether the edge from corner k changes x.
+    fn changes_x(self, k: usize) -> bool {
+        self.corner(k).x != self.corner(self.next(k)).x
+    }
 
-// The edge from corner k.
-fn say_edge(err: Stderr, ring: &[u16], k: usize) {
-    say_corner(err, b"the edge from", ring, k);
-    say_corner(err, b" to", ring, next(k, ring.len() / 2));
-}
+    // Whether it changes y.
+    fn changes_y(self, k: usize) -> bool {
+        self.corner(k).y != self.corner(self.next(k)).y
+    }
 
-// An edge that changes neither coordinate: most often the closing one, of a ring whose first corner is repeated at its end.
-fn say_idle(err: Stderr, ring: &[u16], k: usize) {
-    say_edge(err, ring, k);
-    say(err, b" changes neither coordinate: is ");
-    if next(k, ring.len() / 2) == 0 {
-        say(err, b"the first corner repeated at the end?");
-    } else {
-        say(err, b"a corner drawn twice?");
+    // Whether it has this flaw, in a ring none of whose edges has one of those before it.
+    fn is_flawed(self, k: usize, flaw: Flaw) -> bool {
+        let x = self.changes_x(k);
+        match flaw {
+            Flaw::Slanted => x && self.changes_y(k),
+            Flaw::Idle => x == self.changes_y(k),
+            Flaw::Unturned => x == self.changes_x(self.previous(k)),
+        }
+    }
+
+    // The first edge that has a flaw, by the corner that it starts at.
+    fn first_flawed(self, flaw: Flaw) -> Option<usize> {
+        (0..self.corners.len()).find(|k| self.is_flawed(*k, flaw))
+    }
+
+    // Whether the edges before and after corner k go on through it, and not back.
+    fn goes_on(self, k: usize) -> bool {
+        let from = self.corner(self.previous(k));
+        let here = self.corner(k);
+        let to = self.corner(self.next(k));
+        passes(from.x, here.x, to.x) || passes(from.y, here.y, to.y)
     }
 }
 
@@ -132,106 +97,92 @@ fn passes(a: u16, b: u16, c: u16) -> bool {
     a < b && b < c || c < b && b < a
 }
 
-// A corner between two edges of the same direction: they go on through it, or back.
-fn say_no_turn(err: Stderr, ring: &[u16], k: usize) {
-    let count = ring.len() / 2;
-    let from = corner_of(ring, previous(k, count));
-    let here = corner_of(ring, k);
-    let to = corner_of(ring, next(k, count));
-    say_corner(err, b"the edges before and after", ring, k);
-    if passes(from.x, here.x, to.x) || passes(from.y, here.y, to.y) {
-        say(
-            err,
-            b" run the same way: is a corner drawn on a straight edge?",
-        );
-    } else {
-        say(err, b" run forth and back: is there a corner too many?");
-    }
-}
-
-// What is wrong with the edge from corner k.
-fn say_fault(err: Stderr, ring: &[u16], k: usize, fault: Fault) {
-    match fault {
-        Fault::Slanted => {
-            say_edge(err, ring, k);
-            say(err, b" changes both coordinates");
-        }
-        Fault::Idle => say_idle(err, ring, k),
-        Fault::Unturned => say_no_turn(err, ring, k),
-    }
-}
-
-// Ring r of so many, if it has an edge with this fault; whether it has one.
-fn say_in_ring(err: Stderr, ring: &[u16], r: usize, rings: usize, fault: Fault) -> bool {
-    let k = first_at_fault(ring, fault);
-    if ring.len() / 2 <= k {
-        return false;
-    }
-    if 1 < rings {
-        say_number(err, b"ring ", r as u64);
-        say(err, b", ");
-    }
-    say_fault(err, ring, k, fault);
-    true
-}
-
-// Where a ring ends that begins at a place of the list and has so many corners; the list's end where it would lie past that.
-fn ring_end(from: usize, length: u16, end: usize) -> usize
-    ensures { result ≤ end }
-{
-    if from < 100000 {
-        let to = from + 2 * wide(length);
-        if to < end {
-            return to;
-        }
-    }
-    end
-}
-
-// The first edge of the figure that has this fault; whether there is one.
-fn say_first(err: Stderr, corners: &[u16], lengths: &[u16], fault: Fault) -> bool {
-    let mut from = 0;
-    let mut r = 0;
-    while r < lengths.len() {
-        let to = ring_end(from, lengths[r], corners.len());
-        if from <= to {
-            if say_in_ring(err, &corners[from..to], r, lengths.len(), fault) {
-                return true;
+// What is wrong with the edge from corner k. An edge that changes neither coordinate is most often the closing one, of a ring whose first
+// corner is repeated at its end.
+fn tell_flaw(err: &mut Telling, ring: Ring<'_>, k: usize, flaw: Flaw) -> fmt::Result {
+    let here = ring.corner(k);
+    let to = ring.corner(ring.next(k));
+    match flaw {
+        Flaw::Slanted => write!(err, "the edge from {here} to {to} changes both coordinates"),
+        Flaw::Idle => {
+            write!(
+                err,
+                "the edge from {here} to {to} changes neither coordinate: is "
+            )?;
+            if to.number == 0 {
+                return err.write_str("the first corner repeated at the end?");
             }
+            err.write_str("a corner drawn twice?")
         }
-        from = to;
-        r += 1;
-    }
-    false
-}
-
-// Why a figure is not right_angled though none of its edges is slanted.
-fn say_unturned(err: Stderr, corners: &[u16], lengths: &[u16]) {
-    if !say_first(err, corners, lengths, Fault::Idle) {
-        say_first(err, corners, lengths, Fault::Unturned);
+        Flaw::Unturned => {
+            write!(err, "the edges before and after {here} run ")?;
+            if ring.goes_on(k) {
+                return err.write_str("the same way: is a corner drawn on a straight edge?");
+            }
+            err.write_str("forth and back: is there a corner too many?")
+        }
     }
 }
 
-// Why a figure was refused: with the edge at fault where there is one, else by the refusal's short text.
-fn say_reason(err: Stderr, why: Refusal, corners: &[u16], lengths: &[u16]) {
+// The first edge of the figure that has this flaw; whether there is one. The rings stand one behind another in the list of corners.
+fn tell_first(
+    err: &mut Telling,
+    corners: &[u16],
+    lengths: &[u16],
+    flaw: Flaw,
+) -> Result<bool, fmt::Error> {
+    let mut left = corners.as_chunks::<2>().0;
+    for (r, length) in lengths.iter().enumerate() {
+        let (ring, others) = left.split_at(left.len().min(usize::from(*length)));
+        let ring = Ring { corners: ring };
+        if let Some(k) = ring.first_flawed(flaw) {
+            if 1 < lengths.len() {
+                write!(err, "ring {r}, ")?;
+            }
+            tell_flaw(err, ring, k, flaw)?;
+            return Ok(true);
+        }
+        left = others;
+    }
+    Ok(false)
+}
+
+// Why a figure was refused: with the edge at fault where there is one, else by the refusal's short text. A figure that is not right_angled
+// though none of its edges is slanted has an idle edge, or one that does not turn.
+fn tell_reason(err: &mut Telling, why: Refusal, corners: &[u16], lengths: &[u16]) -> fmt::Result {
     match why {
         Refusal::Slanted => {
-            say_first(err, corners, lengths, Fault::Slanted);
+            tell_first(err, corners, lengths, Flaw::Slanted)?;
+            Ok(())
         }
-        Refusal::Unturned => say_unturned(err, corners, lengths),
+        Refusal::Unturned => {
+            if !tell_first(err, corners, lengths, Flaw::Idle)? {
+                tell_first(err, corners, lengths, Flaw::Unturned)?;
+            }
+            Ok(())
+        }
         Refusal::Empty => {
-            say_text(err, why);
-            say(err, b": rings that lie on each other cancel");
+            let text = text_of(why);
+            write!(err, "{text}: rings that lie on each other cancel")
         }
-        _ => say_text(err, why),
+        _ => err.write_str(text_of(why)),
     }
+}
+
+// The whole line.
+fn tell_line(
+    err: &mut Telling,
+    k: usize,
+    why: Refusal,
+    corners: &[u16],
+    lengths: &[u16],
+) -> fmt::Result {
+    write!(err, "outline {k} refused {}: ", u32::from(why))?;
+    tell_reason(err, why, corners, lengths)?;
+    err.write_str("\n")
 }
 
 // The line of outline k, which a fracture refused.
 pub fn explain(err: Stderr, k: usize, why: Refusal, corners: &[u16], lengths: &[u16]) {
-    say_number(err, b"outline ", k as u64);
-    say_number(err, b" refused ", refusal_no(why) as u64);
-    say(err, b": ");
-    say_reason(err, why, corners, lengths);
-    say(err, b"\n");
+    let _told = tell_line(&mut Telling(err), k, why, corners, lengths);
 }

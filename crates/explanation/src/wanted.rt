@@ -1,5 +1,6 @@
 // Which number of a job is wanted next, from the numbers that were read before it.
 use figure::MOST_CORNERS;
+use std::fmt;
 
 // Where in the outlines a number stands: in which outline of how many, in which ring of how many (0 before that is known), with how many
 // corners in the rings before it and in the ring itself, and which of its coordinates it is, x and y in turn.
@@ -28,31 +29,35 @@ pub enum Wanted {
     Nothing,
 }
 
-// One more, far below where a number would wrap: no count of a job comes near that.
-fn more(n: u32) -> u32 {
-    if n < 1000000 {
-        return n + 1;
+// In which outline a number stands; of an outline of several rings, in which ring too.
+impl fmt::Display for Spot {
+    fn fmt<W: fmt::Write>(&self, f: &mut fmt::Formatter<W>) -> fmt::Result {
+        write!(f, "outline {}", self.outline)?;
+        if 1 < self.rings {
+            write!(f, ", ring {}", self.ring)?;
+        }
+        Ok(())
     }
-    n
 }
 
-// The corners of the rings so far, and those of one more.
-fn together(before: u32, corners: u32) -> u32 {
-    if before < 1000000 {
-        if corners < 1000000 {
-            return before + corners;
+// The name of the number, and where it stands.
+impl fmt::Display for Wanted {
+    fn fmt<W: fmt::Write>(&self, f: &mut fmt::Formatter<W>) -> fmt::Result {
+        match *self {
+            Wanted::Threshold => f.write_str("threshold"),
+            Wanted::Weight => f.write_str("weight"),
+            Wanted::Outlines => f.write_str("number of outlines"),
+            Wanted::Corners(spot) => write!(f, "{spot}, number of corners"),
+            Wanted::Rings(spot) => write!(f, "{spot}, number of rings"),
+            Wanted::RingCorners(spot) => write!(f, "{spot}, number of corners"),
+            Wanted::Coordinate(spot) => {
+                let axis = if spot.coordinate % 2 == 0 { 'x' } else { 'y' };
+                let corner = spot.coordinate / 2;
+                write!(f, "{spot}, {axis} of corner {corner}")
+            }
+            Wanted::Nothing => f.write_str("what follows the last outline"),
         }
     }
-    before
-}
-
-// How many corners may still come after so many.
-pub fn left_of(before: u32) -> u32 {
-    let most = MOST_CORNERS as u32;
-    if before < most {
-        return most - before;
-    }
-    0
 }
 
 // The first number of an outline, if there is such an outline.
@@ -71,65 +76,73 @@ fn outline_begins(outline: u32, outlines: u32) -> Wanted {
     })
 }
 
-// After the corners of an outline: its first coordinate; or, where 0 announces rings, their number.
-fn after_corners(spot: Spot, v: u32) -> Wanted {
-    if v == 0 {
-        return Wanted::Rings(spot);
+impl Spot {
+    // How many corners this ring may have, after those of the rings before it.
+    pub fn left(self) -> u32 {
+        (MOST_CORNERS as u32).saturating_sub(self.before)
     }
-    let mut next = spot;
-    next.rings = 1;
-    next.corners = v;
-    Wanted::Coordinate(next)
-}
 
-// After the number of rings.
-fn after_rings(spot: Spot, v: u32) -> Wanted {
-    let mut next = spot;
-    next.rings = v;
-    Wanted::RingCorners(next)
-}
-
-// After the corners of a ring.
-fn after_ring_corners(spot: Spot, v: u32) -> Wanted {
-    let mut next = spot;
-    next.corners = v;
-    next.coordinate = 0;
-    Wanted::Coordinate(next)
-}
-
-// After the last coordinate of a ring: the next ring, or the next outline.
-fn after_ring(spot: Spot) -> Wanted {
-    let ring = more(spot.ring);
-    if spot.rings <= ring {
-        return outline_begins(more(spot.outline), spot.outlines);
+    // After the corners of an outline: its first coordinate; or, where 0 announces rings, their number.
+    fn after_corners(self, v: u32) -> Wanted {
+        if v == 0 {
+            return Wanted::Rings(self);
+        }
+        Wanted::Coordinate(Spot {
+            rings: 1,
+            corners: v,
+            ..self
+        })
     }
-    let mut next = spot;
-    next.before = together(spot.before, spot.corners);
-    next.ring = ring;
-    Wanted::RingCorners(next)
-}
 
-// After a coordinate: the next one of the ring, if there is one.
-fn after_coordinate(spot: Spot) -> Wanted {
-    let done = more(spot.coordinate);
-    if spot.corners <= done / 2 {
-        return after_ring(spot);
+    // After the number of rings.
+    fn after_rings(self, v: u32) -> Wanted {
+        Wanted::RingCorners(Spot { rings: v, ..self })
     }
-    let mut next = spot;
-    next.coordinate = done;
-    Wanted::Coordinate(next)
+
+    // After the corners of a ring.
+    fn after_ring_corners(self, v: u32) -> Wanted {
+        Wanted::Coordinate(Spot {
+            corners: v,
+            coordinate: 0,
+            ..self
+        })
+    }
+
+    // After the last coordinate of a ring: the next ring, or the next outline.
+    fn after_ring(self) -> Wanted {
+        let ring = self.ring.saturating_add(1);
+        if self.rings <= ring {
+            return outline_begins(self.outline.saturating_add(1), self.outlines);
+        }
+        Wanted::RingCorners(Spot {
+            ring,
+            before: self.before.saturating_add(self.corners),
+            ..self
+        })
+    }
+
+    // After a coordinate: the next one of the ring, if there is one.
+    fn after_coordinate(self) -> Wanted {
+        let coordinate = self.coordinate.saturating_add(1);
+        if self.corners <= coordinate / 2 {
+            return self.after_ring();
+        }
+        Wanted::Coordinate(Spot { coordinate, ..self })
+    }
 }
 
-// What is wanted after a number was read.
-pub fn after(wanted: Wanted, v: u32) -> Wanted {
-    match wanted {
-        Wanted::Threshold => Wanted::Weight,
-        Wanted::Weight => Wanted::Outlines,
-        Wanted::Outlines => outline_begins(0, v),
-        Wanted::Corners(spot) => after_corners(spot, v),
-        Wanted::Rings(spot) => after_rings(spot, v),
-        Wanted::RingCorners(spot) => after_ring_corners(spot, v),
-        Wanted::Coordinate(spot) => after_coordinate(spot),
-        Wanted::Nothing => Wanted::Nothing,
+impl Wanted {
+    // What is wanted after this number was read.
+    pub fn after(self, v: u32) -> Wanted {
+        match self {
+            Wanted::Threshold => Wanted::Weight,
+            Wanted::Weight => Wanted::Outlines,
+            Wanted::Outlines => outline_begins(0, v),
+            Wanted::Corners(spot) => spot.after_corners(v),
+            Wanted::Rings(spot) => spot.after_rings(v),
+            Wanted::RingCorners(spot) => spot.after_ring_corners(v),
+            Wanted::Coordinate(spot) => spot.after_coordinate(),
+            Wanted::Nothing => Wanted::Nothing,
+        }
     }
 }

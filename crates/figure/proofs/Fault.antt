@@ -6,6 +6,7 @@
 --   bad_lengths, good-lengths, lengths_bad   == 2 holds exactly when a ring count, a ring length or the total is bad, in words
 --   or_elim                              == a disjunction of tests that holds, by its two ways
 --   shape_one                            == two answers that tell the same are the same
+use Rattle.std.specs.Prelude.{Result, Ok, Err, ⊤}
 use Prim.Native.Nat.{ℕ, ◌*◌, ◌≤◌, ◌<◌}
 use mathlib.Core.Path.{◌≡◌, refl, sym, ◌∙◌, ap}
 use mathlib.Core.Bool.{Bool, true, false, not, cond, ◌||◌, true≢false}
@@ -21,8 +22,6 @@ use Rattle.sum.proofs.Lists.{All-imp, All-at}
 use Rattle.refusal.specs.declared.Refusal.{Refusal}
 use Rattle.refusal.specs.Refusals.{refusal_no}
 use Rattle.refusal.proofs.Refusals.{refusal-one, refusal-some}
-use Rattle.figure.specs.declared.Shape.{Shape}
-use Rattle.figure.specs.declared.Shape.TheVariants as shape
 use Rattle.figure.specs.Corners.{any, slanted, unturned}
 use Rattle.figure.specs.Figure.{Figure, rings, total, most_rings, most_corners, bad_length, bad_figure, BadLengths, fault, shape_no}
 use Rattle.figure.specs.Steps.{Right}
@@ -90,11 +89,11 @@ module _ (f : Figure) where
 not_right : (why : Refusal) → 0 ≡ refusal_no why → ⊥
 not_right why e = omega (arith, refusal-some why)
 
-pub shape_one : (u v : Shape) → shape_no u ≡ shape_no v → u ≡ v
-shape_one shape.Right shape.Right e = refl
-shape_one shape.Right (shape.Refused why) e = absurd (not_right why e)
-shape_one (shape.Refused why) shape.Right e = absurd (not_right why (sym e))
-shape_one (shape.Refused u) (shape.Refused v) e = ap shape.Refused (refusal-one u v e)
+pub shape_one : (u v : Result ⊤ Refusal) → shape_no u ≡ shape_no v → u ≡ v
+shape_one (Ok s) (Ok t) e = refl
+shape_one (Ok s) (Err why) e = absurd (not_right why e)
+shape_one (Err why) (Ok t) e = absurd (not_right why (sym e))
+shape_one (Err u) (Err v) e = ap Err (refusal-one u v e)
 
 pub or_elim : {P : Type 0} (a b : Bool) → (a || b) ≡ true → (a ≡ true → P) → (b ≡ true → P) → P
 or_elim true b e f g = f refl

@@ -19,13 +19,12 @@
 --                       not two numbers for each corner
 --   fault f          == the first of 2, 3, 4 whose condition holds of f, 0 where none does
 --   shape_no          == the number of each answer of `shape_of`; 0 where the figure is right_angled
-use Rattle.std.specs.Prelude.{ℕ, ◌*◌, ◌<◌, ◌≡◌, ◌⊎◌, Bool, cond, not, ◌||◌, ltb, eqb, length, take, drop}
+use Rattle.std.specs.Prelude.{ℕ, ◌*◌, ◌<◌, ◌≡◌, ◌⊎◌, Bool, cond, not, ◌||◌, ltb, eqb, length, take, drop, Result, Ok, Err, ⊤}
 use mathlib.Core.List.{List, [], ◌∷◌, map, Memᴰ as Member}
 use Rattle.sum.specs.Sum.{sum_of, join}
+use Rattle.refusal.specs.declared.Refusal.{Refusal}
 use Rattle.refusal.specs.declared.Refusal.TheVariants as because
 use Rattle.refusal.specs.Refusals.{refusal_no}
-use Rattle.figure.specs.declared.Shape.{Shape}
-use Rattle.figure.specs.declared.Shape.TheVariants.{Right, Refused}
 use Rattle.figure.specs.Corners.{Corner, Link, Turn, corners, edges, turns, any, slanted, unturned}
 
 pub record Figure : Type 0 where
@@ -88,6 +87,6 @@ fault f =
     (cond (any unturned (rings f)) (refusal_no because.Unturned)
     0))
 
-abbrev pub shape_no : Shape → ℕ
-shape_no Right = 0
-shape_no (Refused why) = refusal_no why
+abbrev pub shape_no : Result ⊤ Refusal → ℕ
+shape_no (Ok none) = 0
+shape_no (Err why) = refusal_no why

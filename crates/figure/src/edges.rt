@@ -31,7 +31,7 @@ pub fn changes(corners: &[u16], k: usize, axis: Axis) -> bool
 {
     let from = along(corners, before(k, corners.len() / 2), axis);
     let to = along(corners, k, axis);
-    from.0 != to.0
+    from != to
 }
 
 // Whether the edge that ends at corner k changes both coordinates.
@@ -58,7 +58,7 @@ pub fn slanted(corners: &[u16]) -> bool
 }
 
 // Whether a ring is not right_angled, 3 or 4, in one pass: an edge changes both coordinates or neither, or x where the edge before it
-// does, or neither of them.
+// does, or neither of them. Over numbers: an edge is read from the corner before it, once round.
 pub fn crooked(corners: &[u16]) -> bool
     requires { 0 < length corners.now / 2 }
     ensures { result ≡ step.crooked (corner.corners corners.now) }

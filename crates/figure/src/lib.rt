@@ -10,11 +10,11 @@ pub mod edges;
 pub mod rings;
 
 // A place in whole nanometres.
-#[derive(Clone, Copy)]
+#[derive(Clone, Copy, PartialEq, Eq)]
 pub struct Place(pub u16);
 
 // A direction: places along x, or along y.
-#[derive(Clone, Copy)]
+#[derive(Clone, Copy, PartialEq, Eq)]
 pub enum Axis {
     X,
     Y,
@@ -32,26 +32,20 @@ pub const MOST_CORNERS: usize = 32;
 // The highest place, in nm.
 pub const MOST_PLACE: u32 = 65535;
 
-// What the corners alone say of a figure: it is right_angled, or the first of 2, 3, 4 whose condition holds.
-#[derive(Clone, Copy)]
-pub enum Shape {
-    Right,
-    Refused(Refusal),
-}
-
-// The shape of a figure, from the list x, y, x, y, .. of its corners, ring after ring, and the number of corners of each ring. Each of
-// 2, 3, 4 is tried over all rings before the next; 3 is told from 4 only where one of them holds.
-pub fn shape_of(corners: &[u16], lengths: &[u16]) -> Shape
+// The shape of a figure, from the list x, y, x, y, .. of its corners, ring after ring, and the number of corners of each ring: it is
+// right-angled, or refused by the first of 2, 3, 4 whose condition holds. Each of 2, 3, 4 is tried over all rings before the next; 3 is
+// told from 4 only where one of them holds.
+pub fn shape_of(corners: &[u16], lengths: &[u16]) -> Result<(), Refusal>
     ensures settled { shape_no result ≡ fault (figure corners.now lengths.now) }
 {
     if rings::bad_figure(corners, lengths) {
-        return Shape::Refused(Refusal::Length);
+        return Err(Refusal::Length);
     }
     if !rings::crooked(corners, lengths) {
-        return Shape::Right;
+        return Ok(());
     }
     if rings::slanted(corners, lengths) {
-        return Shape::Refused(Refusal::Slanted);
+        return Err(Refusal::Slanted);
     }
-    Shape::Refused(Refusal::Unturned)
+    Err(Refusal::Unturned)
 }

@@ -1,17 +1,10 @@
 // The rings of a figure, and refusals 2, 3 and 4 over all of them.
-ghost use Rattle.std.specs.Prelude.{◌≡◌, false, ◌≤◌};
-ghost use Rattle.figure.specs.Corners.{any, slanted};
+ghost use Rattle.std.specs.Prelude.{◌≡◌, false, ◌<◌, ◌/◌, List, Bool, length};
+ghost use Rattle.figure.specs.Corners.{any, corners, slanted};
 ghost use Rattle.figure.specs.Figure.{figure, rings, bad_figure};
 ghost use Rattle.figure.specs.Steps.{crooked};
 
 use crate::{LEAST_CORNERS, MOST_CORNERS, MOST_RINGS, edges};
-
-// A ring length, to reckon with.
-pub fn wide(length: u16) -> usize
-    ensures { result ≡ length }
-{
-    length as usize
-}
 
 // 2: a bad ring count, ring length or total.
 pub fn bad_figure(corners: &[u16], lengths: &[u16]) -> bool
@@ -25,8 +18,8 @@ pub fn bad_figure(corners: &[u16], lengths: &[u16]) -> bool
         return true;
     }
     let mut total: usize = 0;
-    for k in 0..count {
-        let n = wide(lengths[k]);
+    for &length in lengths {
+        let n = usize::from(length);
         if n < LEAST_CORNERS {
             return true;
         }
@@ -38,15 +31,48 @@ pub fn bad_figure(corners: &[u16], lengths: &[u16]) -> bool
     MOST_CORNERS < total || corners.len() != 2 * total
 }
 
-// 3: an edge of a ring changes both coordinates.
-pub fn slanted(corners: &[u16], lengths: &[u16]) -> bool
+// A test of one ring.
+trait RingTest {
+    ghost use Rattle.figure.specs.Corners.{Corner};
+
+    ghost test: { List Corner → Bool };
+
+    fn holds(ring: &[u16]) -> bool
+        requires { 0 < length ring.now / 2 }
+        ensures { result ≡ test (corners ring.now) };
+}
+
+// The test of refusal 3: an edge changes both coordinates.
+struct Slant;
+
+impl RingTest for Slant {
+    ghost test = { slanted };
+
+    fn holds(ring: &[u16]) -> bool {
+        edges::slanted(ring)
+    }
+}
+
+// The test of 3 and 4 together: a ring is not right_angled.
+struct Crook;
+
+impl RingTest for Crook {
+    ghost test = { crooked };
+
+    fn holds(ring: &[u16]) -> bool {
+        edges::crooked(ring)
+    }
+}
+
+// Whether a test holds of some ring: ring after ring.
+fn any<T: RingTest>(corners: &[u16], lengths: &[u16]) -> bool
     requires { bad_figure (figure corners.now lengths.now) ≡ false }
-    ensures { result ≡ any slanted (rings (figure corners.now lengths.now)) }
+    ensures { result ≡ any T.test (rings (figure corners.now lengths.now)) }
 {
     let mut from: usize = 0;
-    for k in 0..lengths.len() {
-        let to = from + 2 * wide(lengths[k]);
-        if edges::slanted(&corners[from..to]) {
+    for &length in lengths {
+        let to = from + 2 * usize::from(length);
+        if T::holds(&corners[from..to]) {
             return true;
         }
         from = to;
@@ -54,18 +80,18 @@ pub fn slanted(corners: &[u16], lengths: &[u16]) -> bool
     false
 }
 
+// 3: an edge of a ring changes both coordinates.
+pub fn slanted(corners: &[u16], lengths: &[u16]) -> bool
+    requires { bad_figure (figure corners.now lengths.now) ≡ false }
+    ensures { result ≡ any slanted (rings (figure corners.now lengths.now)) }
+{
+    any::<Slant>(corners, lengths)
+}
+
 // 3 or 4: a ring is not right_angled.
 pub fn crooked(corners: &[u16], lengths: &[u16]) -> bool
     requires { bad_figure (figure corners.now lengths.now) ≡ false }
     ensures { result ≡ any crooked (rings (figure corners.now lengths.now)) }
 {
-    let mut from: usize = 0;
-    for k in 0..lengths.len() {
-        let to = from + 2 * wide(lengths[k]);
-        if edges::crooked(&corners[from..to]) {
-            return true;
-        }
-        from = to;
-    }
-    false
+    any::<Crook>(corners, lengths)
 }

@@ -2,7 +2,7 @@
 // through; a higher one by widths, in short numbers where they are enough, else in long ones: all promise the same.
 #![tactic(auto)]
 
-ghost use Rattle.std.specs.Prelude.{◌≡◌, ◌++◌, ◌≤◌, length, drop};
+ghost use Rattle.std.specs.Prelude.{◌≡◌, true, ◌++◌, ◌≤◌, length, drop};
 ghost use Rattle.outline.specs.Grid.{stored};
 ghost use Rattle.piece.specs.declared.Mode.TheVariants.{Straight};
 ghost use Rattle.table.specs.Entry.{costs};
@@ -14,8 +14,9 @@ use short::SMALL;
 // So many rows of cells are filled straight through.
 const FEW_ROWS: usize = 5;
 
-// The fill of a small grid by widths: in short numbers, or where they are not enough, in long ones.
-fn fill_small(
+// The fill by widths: in short numbers, or where they are not enough, in long ones. `FEW` says that the grid has at most SMALL columns and
+// rows.
+fn fill_widths<const FEW: bool>(
     xs: &[u16],
     ys: &[u16],
     cells: &[u8],
@@ -25,29 +26,10 @@ fn fill_small(
     table: &mut [u32],
 )
     requires ready { Ready (stored columns rows xs.now ys.now cells.now) rule xs.now ys.now cells.now table.old }
-    requires columns_bound { (columns ≤ 7) × (rows ≤ 7) }
+    requires few { FEW ≡ true → (columns ≤ 7) × (rows ≤ 7) }
     ensures { table.new ≡ costs Straight (stored columns rows xs.now ys.now cells.now) rule ++ drop (length (costs Straight (stored columns rows xs.now ys.now cells.now) rule)) table.old }
 {
-    if short::fill(xs, ys, cells, columns, rows, rule, table, true) {
-        return;
-    }
-    wheels::fill_straight(xs, ys, cells, columns, rows, rule, table);
-}
-
-// The same of any grid.
-fn fill_any(
-    xs: &[u16],
-    ys: &[u16],
-    cells: &[u8],
-    columns: usize,
-    rows: usize,
-    rule: Rule,
-    table: &mut [u32],
-)
-    requires { Ready (stored columns rows xs.now ys.now cells.now) rule xs.now ys.now cells.now table.old }
-    ensures { table.new ≡ costs Straight (stored columns rows xs.now ys.now cells.now) rule ++ drop (length (costs Straight (stored columns rows xs.now ys.now cells.now) rule)) table.old }
-{
-    if short::fill(xs, ys, cells, columns, rows, rule, table, false) {
+    if short::fill(xs, ys, cells, columns, rows, rule, table, FEW) {
         return;
     }
     wheels::fill_straight(xs, ys, cells, columns, rows, rule, table);
@@ -69,13 +51,9 @@ pub fn fill(
 {
     if rows <= FEW_ROWS {
         shallow::fill(xs, ys, cells, columns, rows, rule, table);
-        return;
+    } else if columns <= SMALL && rows <= SMALL {
+        fill_widths::<true>(xs, ys, cells, columns, rows, rule, table);
+    } else {
+        fill_widths::<false>(xs, ys, cells, columns, rows, rule, table);
     }
-    if columns <= SMALL {
-        if rows <= SMALL {
-            fill_small(xs, ys, cells, columns, rows, rule, table);
-            return;
-        }
-    }
-    fill_any(xs, ys, cells, columns, rows, rule, table);
 }

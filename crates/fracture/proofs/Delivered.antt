@@ -3,13 +3,14 @@
 --   area-few                        : a grid has at most 225 cells
 --   room-all, room_fits, room-short : four numbers for each cell are room enough; room for the count; and not
 --   count-written                   : four numbers are written for each shot
---   short-says, enough-says         : what the room says of the count
+--   enough-says                     : what the room says of the count
 --   walk-sized, frame-known         : the plan has the size of a grid; its frame is a piece, with this entry
 --   frame-aside, frame-emittable    : its shots have room in 900 numbers, and in a list that has enough
 --   frame-within                    : its entry is the table's
 --   frame-listed, frame_charged     : they are listed once they are written, and the table has what they are charged
 --   walk-shaded                     : the cells are those that are counted
 --   told_lacking, told-listed       : the answer of a list that is too short, and of one that is not
+use Rattle.std.specs.Prelude.{Result, Ok, Err, ⊤}
 use Prim.Native.Nat.{ℕ, zero, suc, ◌+◌, ◌*◌, ◌-◌, ◌/◌, ◌≤◌, ◌<◌}
 use mathlib.Core.Path.{◌≡◌, refl, ap, ap₂, sym, ◌∙◌, subst}
 use mathlib.Core.Bool.{Bool, true, false, cond}
@@ -21,7 +22,6 @@ use lib.ListN.{length, get_or, drop, length-append}
 use borrow.Author.Tests.{lt-ltb, le-ltb, ltb-true, ltb-false}
 use Rattle.sum.specs.Sum.{sum_of, All}
 use Rattle.sum.proofs.Lists.{sets_front}
-use Rattle.refusal.specs.declared.Refusal.TheVariants as because
 use Rattle.outline.specs.Grid.{Grid}
 use Rattle.rule.specs.declared.Rule.{Rule}
 use Rattle.piece.specs.declared.Mode.{Mode}
@@ -43,10 +43,9 @@ use Rattle.emission.proofs.Measured.{numbers-at}
 use Rattle.demands.specs.Cuts.{weighed_cuts}
 use Rattle.count.specs.Count.{Shaded}
 use Rattle.demands.specs.Promise.{frame_shots, frame_cost, frame_sliver, frame_numbers, Outcome, written, delivered}
-use Rattle.fracture.specs.declared.Fractured.TheVariants.{Done, Refused}
-use Rattle.fracture.specs.declared.delivery.Room.TheVariants.{Enough, Short}
-use Rattle.fracture.specs.Delivery.{room_of, Sized}
-use Rattle.fracture.specs.Told.{told}
+use Rattle.fracture.specs.declared.Denial.{Denial}
+use Rattle.fracture.specs.Delivery.{Enough, Short, room_of, Sized}
+use Rattle.fracture.specs.Told.{fractured, told}
 
 pub room_fits : (n : ℕ) {m l : ℕ} → m ≡ l → 4 * m ≤ n → Enough ≡ room_of n l
 unfolding room_of
@@ -135,12 +134,12 @@ all-at Q [] a k h = absurd (omega arith)
 all-at Q (s ∷ l) a zero h = a.0
 all-at Q (s ∷ l) a (suc k) h = all-at Q l a.1 k (omega arith)
 
-pub short-says : (n m k : ℕ) → Short k ≡ room_of n m → (k ≡ m) × (n < 4 * m)
+short-says : (n m : ℕ) (d : Denial) → Err d ≡ room_of n m → (Err d ≡ Short m) × (n < 4 * m)
 unfolding room_of
-short-says n m k e = go (ltb n (4 * m)) refl e
+short-says n m d e = go (ltb n (4 * m)) refl e
   where
-    go : (t : Bool) → ltb n (4 * m) ≡ t → Short k ≡ cond t (Short m) Enough → (k ≡ m) × (n < 4 * m)
-    go true h e = (cc, ltb-true n (4 * m) h)
+    go : (t : Bool) → ltb n (4 * m) ≡ t → Err d ≡ cond t (Short m) Enough → (Err d ≡ Short m) × (n < 4 * m)
+    go true h e = (e, ltb-true n (4 * m) h)
     go false h e = absurd (let z : ◌≡◌ {A = ℕ} 0 1 = cc in omega arith)
 
 pub enough-says : (n m : ℕ) → Enough ≡ room_of n m → 4 * m ≤ n
@@ -246,19 +245,28 @@ module _ (mode : Mode) (g : Grid) (r : Rule) (t cs xs ys : List ℕ) (plan : Pla
         list = written (frame_numbers mode g r) list;
       }
 
-  pub told_lacking : (list : List ℕ) {k : ℕ} → Short k ≡ room_of (length list) (length (shots mode g r (meant p.piece)))
-      → told (Refused because.List k) t list ≡ delivered mode g r t list
-  unfolding delivered told lacking listed
-  told_lacking list {k} h =
-      let s = short-says (length list) (length (shots mode g r (meant p.piece))) k h in
+  -- what is told of a list whose room is short
+  told-of : Result ⊤ Denial → List ℕ → Outcome
+  told-of (Ok x) list = lacking list
+  told-of (Err d) list = told (Err d) t list
+
+  lacking-told : ℕ → List ℕ → Outcome
+  lacking-told n list = record { number = 7; shots = n; cost = 0; sliver = 0; cuts = 0; table = t; list = list }
+
+  pub told_lacking : (list : List ℕ) {d : Denial} → Err d ≡ room_of (length list) (length (shots mode g r (meant p.piece)))
+      → told (Err d) t list ≡ delivered mode g r t list
+  unfolding delivered told told-of lacking lacking-told listed
+  told_lacking list {d} h =
+      let s = short-says (length list) (length (shots mode g r (meant p.piece))) d h in
       let b : length list < 4 * length (frame_shots mode g r) = omega (arith, s.1, ap length same-frame) in
-      (λ i. record { number = 7; shots = (s.0 ∙ ap length same-frame) i; cost = 0; sliver = 0; cuts = 0; table = t; list = list })
+      ap (λ (x : Result ⊤ Denial). told-of x list) s.0
+      ∙ ap (λ n. lacking-told n list) (ap length same-frame)
       ∙ sym (ap (λ x. cond x (lacking list) (listed list)) (lt-ltb (length list) (4 * length (frame_shots mode g r)) b))
 
   pub told-listed : (list list' : List ℕ) {n v m : ℕ} → Enough ≡ room_of (length list) (length (shots mode g r (meant p.piece)))
       → Written g list list' 0 (shots mode g r (meant p.piece)) n
       → v ≡ sum_of (sliver g plan.rule) (shots mode g r (meant p.piece)) → m ≡ weighed_cuts g
-      → told (Done (n / 4) (get_or t p.entry 0) v m) t list' ≡ delivered mode g r t list
+      → told (fractured (n / 4) (get_or t p.entry 0) v m) t list' ≡ delivered mode g r t list
   unfolding delivered told written lacking listed frame_cost frame_sliver frame_numbers
   told-listed list list' h v s k =
       let m = enough-says (length list) (length (shots mode g r (meant p.piece))) h in

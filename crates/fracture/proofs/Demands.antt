@@ -1,7 +1,7 @@
 -- The demands of the call itself, as theorems from its contract. Assumes nothing.
 --
 -- Of a call of `fracture`, or in the pinwheel mode of `fracture_pinwheel`, with the corners, ring lengths, threshold t, weight w, table and list
--- that answers Done and leaves table' and list'. `settled` is its contract; `typed` is what the language says of a `&[u16]`: each of its
+-- that answers a fracture and leaves table' and list'. `settled` is its contract; `typed` is what the language says of a `&[u16]`: each of its
 -- numbers is one of the type u16. There is no other premise. `fracture_default` is the same at t and w of the default preset. The theorems
 -- speak of what was answered and left: the numbers
 -- shots, cost and sliver, table', and `given`, the shots that the first 4 x shots numbers of list' say. That the numbers of a `&[u16]` are
@@ -14,9 +14,10 @@
 --   call-cuts            == the cuts are those of the figure at unit squares, and at most 134,400
 --   call-ahead           == they are what `cuts` has told ahead
 --   call_bound           == neither the cost nor a table entry exceeds 2,097,345,000
---   call-not-above       == of two calls that answer Done, all else equal but what is lent, `fracture_pinwheel` costs no more than `fracture`
+--   call-not-above       == of two calls that answer a fracture, all else equal but what is lent, `fracture_pinwheel` costs no more than `fracture`
 --   call-cuts-same       == and both report the same cuts
 --   default_row          == `fracture_default` of L answers 2 shots, cost 2000, sliver length 0 and 4 cuts, lists them, and leaves L's nine entries
+use Rattle.std.specs.Prelude.{Result, Ok, Err}
 use Prim.Native.Nat.{ℕ, ◌*◌, ◌≤◌, ◌<◌}
 use mathlib.Core.Path.{◌≡◌, refl, sym, ◌∙◌, ap, subst}
 use mathlib.Core.Bool.{Bool, true}
@@ -27,6 +28,7 @@ use mir.Syntax.{w16}
 use mir.Val.{Fits}
 use lib.ListN.{length, take, get_or}
 use Rattle.sum.specs.Sum.{only, sum_of}
+use Rattle.refusal.specs.declared.Refusal.{Refusal}
 use Rattle.refusal.proofs.Refusals.{refusal-some}
 use Rattle.rule.specs.declared.Rule.{Rule}
 use Rattle.rule.specs.Rules.{in_range, preset_told}
@@ -49,11 +51,8 @@ use Rattle.demands.proofs.Rows.{new_rows-hold, new_entries_of_L}
 use Rattle.demands.proofs.Counted.{cuts_are, cuts-figure, cuts-most, cuts-ahead}
 use Rattle.demands.proofs.Agreed.{cut-rows}
 use Rattle.fracture.specs.declared.Fractured.{Fractured}
-use Rattle.fracture.specs.declared.Fractured.TheVariants.{Done, Refused}
-use Rattle.fracture.specs.declared.Forecast.{Forecast}
-use Rattle.fracture.specs.declared.Forecast.TheVariants as forecast
-use Rattle.fracture.specs.declared.Forecast.TheVariants.{Cuts}
-use Rattle.fracture.specs.Told.{told, by_default, ahead_told}
+use Rattle.fracture.specs.declared.Denial.{Denial}
+use Rattle.fracture.specs.Told.{fractured, told, by_default, ahead_told}
 
 module _ (mode : Mode) (corners lengths : List ℕ) (t w : ℕ) (table list : List ℕ) where
   abbrev ask : Asked
@@ -76,7 +75,7 @@ module _ (mode : Mode) (corners lengths : List ℕ) (t w : ℕ) (table list : Li
   AnyWay = Way mode F OnX OnY (frame_of (corners_of (figure corners lengths)))
 
   module _ (typed : (i : ℕ) → Fits w16 (get_or corners i 0)) (shots cost sliver cuts : ℕ) (table' list' : List ℕ)
-      (settled : told (Done shots cost sliver cuts) table' list' ≡ outcome ask) where
+      (settled : told (fractured shots cost sliver cuts) table' list' ≡ outcome ask) where
     abbrev given : List Shot
     given = shots_in (take (4 * shots) list')
 
@@ -88,7 +87,7 @@ module _ (mode : Mode) (corners lengths : List ℕ) (t w : ℕ) (table list : Li
     done = sym (ap (λ o. o.number) settled)
 
     -- what holds of the outcome holds of what was told
-    said : (P : Outcome → Type 0) → P (outcome ask) → P (told (Done shots cost sliver cuts) table' list')
+    said : (P : Outcome → Type 0) → P (outcome ask) → P (told (fractured shots cost sliver cuts) table' list')
     said P h = subst P (sym settled) h
 
     pub call_cover : (x y : ℕ) → sum_of (λ s. only (holds x y s) 1) given ≡ only (F x y) 1
@@ -152,16 +151,16 @@ module _ (mode : Mode) (corners lengths : List ℕ) (t w : ℕ) (table list : Li
     )
 
     -- what was told ahead by the other call
-    pub call-ahead : (f : Forecast) → ahead_told f ≡ ahead (figure corners lengths) → f ≡ Cuts cuts
+    pub call-ahead : (f : Result ℕ Refusal) → ahead_told f ≡ ahead (figure corners lengths) → f ≡ Ok cuts
     unfolding told ahead_told
-    call-ahead (Cuts n) e = ap Cuts (ap (λ a. a.cuts) (e ∙ cuts-ahead ask done) ∙ sym (ap (λ o. o.cuts) settled))
-    call-ahead (forecast.Refused why) e = absurd (omega (arith, refusal-some why, ap (λ a. a.number) (e ∙ cuts-ahead ask done)))
+    call-ahead (Ok n) e = ap Ok (ap (λ a. a.cuts) (e ∙ cuts-ahead ask done) ∙ sym (ap (λ o. o.cuts) settled))
+    call-ahead (Err why) e = absurd (omega (arith, refusal-some why, ap (λ a. a.number) (e ∙ cuts-ahead ask done)))
 
 -- The two modes
 
 pub call-not-above : (corners lengths : List ℕ) (t w : ℕ) (table list table₂ list₂ : List ℕ) (s c n k s' c' n' k' : ℕ) (u l u' l' : List ℕ)
-    → told (Done s c n k) u l ≡ outcome (asked Pinwheel corners lengths t w table list)
-    → told (Done s' c' n' k') u' l' ≡ outcome (asked Straight corners lengths t w table₂ list₂)
+    → told (fractured s c n k) u l ≡ outcome (asked Pinwheel corners lengths t w table list)
+    → told (fractured s' c' n' k') u' l' ≡ outcome (asked Straight corners lengths t w table₂ list₂)
     → c ≤ c'
 unfolding told
 call-not-above corners lengths t w table list table₂ list₂ s c n k s' c' n' k' u l u' l' p q =
@@ -173,8 +172,8 @@ call-not-above corners lengths t w table list table₂ list₂ s c n k s' c' n' 
     )
 
 pub call-cuts-same : (corners lengths : List ℕ) (t w : ℕ) (table list table₂ list₂ : List ℕ) (s c n k s' c' n' k' : ℕ) (u l u' l' : List ℕ)
-    → told (Done s c n k) u l ≡ outcome (asked Pinwheel corners lengths t w table list)
-    → told (Done s' c' n' k') u' l' ≡ outcome (asked Straight corners lengths t w table₂ list₂)
+    → told (fractured s c n k) u l ≡ outcome (asked Pinwheel corners lengths t w table list)
+    → told (fractured s' c' n' k') u' l' ≡ outcome (asked Straight corners lengths t w table₂ list₂)
     → k ≡ k'
 unfolding told
 call-cuts-same corners lengths t w table list table₂ list₂ s c n k s' c' n' k' u l u' l' p q =
@@ -185,7 +184,7 @@ call-cuts-same corners lengths t w table list table₂ list₂ s c n k s' c' n' 
 -- The call without a rule
 
 -- what a row says of an outcome it says of the answer that tells it
-row_told : {row : Row} {r : Rule} {o : Outcome} (s c n k : ℕ) (table list : List ℕ) → told (Done s c n k) table list ≡ o → Says row r o
+row_told : {row : Row} {r : Rule} {o : Outcome} (s c n k : ℕ) (table list : List ℕ) → told (fractured s c n k) table list ≡ o → Says row r o
     → (4 * s ≡ length row.list) × (c ≡ row.cost) × (n ≡ row.sliver) × (take (4 * s) list ≡ row.list)
 unfolding told
 row_told s c n k table list e q = (
@@ -196,19 +195,19 @@ row_told s c n k table list e q = (
 )
 
 -- with room as the rows have it: for 14,400 entries and 225 shots
-pub default_row : (a : Fractured) (table list table' list' : List ℕ) → 14400 ≤ length table → 900 ≤ length list
+pub default_row : (a : Result Fractured Denial) (table list table' list' : List ℕ) → 14400 ≤ length table → 900 ≤ length list
     → told a table' list' ≡ outcome (by_default L.numbers L.lengths table list)
-    → (a ≡ Done 2 2000 0 4) × (take 8 list' ≡ 0 ∷ 0 ∷ 60 ∷ 80 ∷ 60 ∷ 0 ∷ 100 ∷ 20 ∷ [])
+    → (a ≡ fractured 2 2000 0 4) × (take 8 list' ≡ 0 ∷ 0 ∷ 60 ∷ 80 ∷ 60 ∷ 0 ∷ 100 ∷ 20 ∷ [])
     × (take 9 table' ≡ 1000 ∷ 1000 ∷ 1000 ∷ 1000 ∷ 2000 ∷ 1000 ∷ 1000 ∷ 1000 ∷ 0 ∷ [])
 unfolding told preset_told in_range drawn
-default_row (Done s c n w) table list table' list' k m settled =
+default_row (Ok f) table list table' list' k m settled =
     let ask = by_default L.numbers L.lengths table list in
-    let q = row_told s c n w table' list' settled (new_rows-hold.0 ask refl refl (refl, refl) refl k m) in
-    let two : s ≡ 2 = omega (arith, q.0) in
+    let q = row_told f.shots f.cost f.sliver f.cuts table' list' settled (new_rows-hold.0 ask refl refl (refl, refl) refl k m) in
+    let two : f.shots ≡ 2 = omega (arith, q.0) in
     let done : (outcome ask).number ≡ 0 = sym (ap (λ o. o.number) settled) in
     let full = new_entries_of_L ask refl refl refl refl (inl done) in
-    let four : w ≡ 4 = ap (λ o. o.cuts) settled ∙ cuts_are ask done ∙ cut-rows.0 in
-    (cc (q.1, q.2, four), ap (λ i. take i list') (sym q.0) ∙ q.3, ap (λ o. take 9 o.table) settled ∙ full)
-default_row (Refused why s) table list table' list' k m settled =
+    let four : f.cuts ≡ 4 = ap (λ o. o.cuts) settled ∙ cuts_are ask done ∙ cut-rows.0 in
+    (λ i. fractured (two i) (q.1 i) (q.2 i) (four i), ap (λ i. take i list') (sym q.0) ∙ q.3, ap (λ o. take 9 o.table) settled ∙ full)
+default_row (Err d) table list table' list' k m settled =
     let q = new_rows-hold.0 (by_default L.numbers L.lengths table list) refl refl (refl, refl) refl k m in
-    absurd (omega (arith, refusal-some why, ap (λ o. o.number) settled, q.number))
+    absurd (omega (arith, refusal-some d.why, ap (λ o. o.number) settled, q.number))

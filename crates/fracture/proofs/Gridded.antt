@@ -6,6 +6,7 @@
 --   laid-lowered           : what is left in it once it is lowered to the costs in another mode
 --   gridded-table          : the outcome with too few entries
 --   gridded-delivered      : and with enough of them
+use Rattle.std.specs.Prelude.{Result}
 use Prim.Native.Nat.{ℕ, ◌≤◌, ◌<◌}
 use mathlib.Core.Path.{◌≡◌, refl, ap, ap₂, sym, ◌∙◌, subst}
 use mathlib.Core.Bool.{cond}
@@ -29,9 +30,9 @@ use Rattle.emission.specs.Emission.{Walk}
 use Rattle.demands.specs.Promise.{written, refused, delivered, gridded}
 use Rattle.demands.proofs.Outcome.{written-past, written-length, written_at}
 use Rattle.fracture.specs.declared.Fractured.{Fractured}
-use Rattle.fracture.specs.declared.Fractured.TheVariants.{Refused}
+use Rattle.fracture.specs.declared.Denial.{Denial}
 use Rattle.fracture.specs.Delivery.{Laid}
-use Rattle.fracture.specs.Told.{told}
+use Rattle.fracture.specs.Told.{denied, told}
 
 module _ (g : Grid) (m : Memory) (w : Laid g m) where
   pub laid-few : (m.columns ≤ 15) × (m.rows ≤ 15)
@@ -103,7 +104,7 @@ module _ (mode : Mode) (g : Grid) (m : Memory) (w : Laid g m) where
           long : length v ≡ length t
           long = b.long ∙ ap length e ∙ written-length (costs mode g r) t (omega (arith, counted g m w, costs-length mode g r))
 
-      pub gridded-delivered : (a : Fractured) (l l' : List ℕ) → told a u l' ≡ delivered mode g r u l → told a u l' ≡ gridded mode g r t l
+      pub gridded-delivered : (a : Result Fractured Denial) (l l' : List ℕ) → told a u l' ≡ delivered mode g r u l → told a u l' ≡ gridded mode g r t l
       unfolding gridded refused
       gridded-delivered a l l' h =
           h
@@ -116,7 +117,7 @@ module _ (mode : Mode) (g : Grid) (m : Memory) (w : Laid g m) where
           (le-ltb (length t) (entry_count g.columns g.rows) (omega (arith, counted g m w))))
 
     pub gridded-table : (l : List ℕ) → length t < entry_count m.columns m.rows
-        → told (Refused because.Table 0) t l ≡ gridded mode g r t l
+        → told (denied because.Table 0) t l ≡ gridded mode g r t l
     unfolding gridded refused told
     gridded-table l h =
         sym

@@ -1,12 +1,14 @@
 -- Inner: what the call delivers once it has a grid (nobody has to believe these).
 --
---   room_of n m               == whether n numbers have room for m shots, four for each
+--   Enough, Short m          == the list has room; or it has not, and m shots are needed
+--   room_of n m              == whether n numbers have room for m shots, four for each
 --   Sized plan               == the plan's size is that of a grid, and it has the count of its pairs of y lines
 --   Walkable mode ..         == what is lent speaks of some grid and rule in that mode
 --   Laid g m                 == the sound grid g lies in memory as m, and is read back as itself
 --   Fillable m r             == there is such a grid, and the weight of the rule r is within its limit
 --   Sizes t columns rows     == what the answer t tells of the size of a grid
-use Rattle.std.specs.Prelude.{ℕ, ◌*◌, ◌≤◌, ◌≡◌, cond, ◌⊎◌, List, ltb}
+use Rattle.std.specs.Prelude.{ℕ, ◌*◌, ◌≤◌, ◌≡◌, cond, ◌⊎◌, List, ltb, Result, Ok, Err, ⊤}
+use Rattle.refusal.specs.declared.Refusal.TheVariants as because
 use Rattle.outline.specs.Grid.{Grid, Sound, Drawn, Memory, stored}
 use Rattle.rule.specs.declared.Rule.{Rule}
 use Rattle.rule.specs.Rules.{limit}
@@ -16,10 +18,15 @@ use Rattle.verdict.specs.declared.Plan.{Plan}
 use Rattle.emission.specs.Emission.{Walk}
 use Rattle.fracture.specs.declared.pinwheel.Turns.{Turns}
 use Rattle.fracture.specs.declared.pinwheel.Turns.TheVariants.{None, Few, Wide, High}
-use Rattle.fracture.specs.declared.delivery.Room.{Room}
-use Rattle.fracture.specs.declared.delivery.Room.TheVariants.{Enough, Short}
+use Rattle.fracture.specs.declared.Denial.{Denial}
 
-unfoldable pub room_of : ℕ → ℕ → Room
+abbrev pub Enough : Result ⊤ Denial
+Enough = Ok tt
+
+abbrev pub Short : ℕ → Result ⊤ Denial
+Short m = Err (record { why = because.List; needed = m })
+
+unfoldable pub room_of : ℕ → ℕ → Result ⊤ Denial
 room_of n m = cond (ltb n (4 * m)) (Short m) Enough
 
 pub record Sized (plan : Plan) : Type 0 where

@@ -13,14 +13,16 @@ ghost use Rattle.fracture.specs.Delivery.{Laid, Fillable};
 ghost use Rattle.fracture.specs.Told.{told, by_default, ahead_told};
 
 use delivery::deliver;
-use fill::fill;
-use outline::{Answer, MOST_CELLS, MOST_LINES, draw};
+use manner::{Grids, Manner, StraightCuts};
+use outline::{Drawing, MOST_CELLS, MOST_LINES, draw};
+use pinwheel::Pinwheels;
 use refusal::Refusal;
-use rule::{Made, Preset, Rule};
+use rule::Rule;
 use table::numbering::{entries, pair_count};
 use verdict::Plan;
 
 mod delivery;
+mod manner;
 mod pinwheel;
 
 // Room that is enough for every figure, whatever it is asked: entries of the table, one for each piece of 16 by 16 lines.
@@ -29,28 +31,33 @@ pub const ENTRIES: usize = 14400;
 // And numbers of the list, four for each of 225 shots.
 pub const NUMBERS: usize = 900;
 
-// What a fracture answers: how many shots, their cost in thousandths of a shot, their sliver length in nm, and how many cuts were weighed;
-// or why there are none, and beside it how many shots there are where the list is too short for them, else 0.
-#[derive(Clone, Copy)]
-pub enum Fractured {
-    Done {
-        shots: u32,
-        cost: u32,
-        sliver: u32,
-        cuts: u32,
-    },
-    Refused(Refusal, u32),
+// What a fracture answers: how many shots, their cost in thousandths of a shot, their sliver length in nm, and how many cuts were weighed.
+#[derive(Clone, Copy, PartialEq, Eq)]
+pub struct Fractured {
+    pub shots: u32,
+    pub cost: u32,
+    pub sliver: u32,
+    pub cuts: u32,
 }
 
-// What is told of a figure ahead of its fracture: how many cuts it will weigh, or why it will be refused.
-#[derive(Clone, Copy)]
-pub enum Forecast {
-    Cuts(u32),
-    Refused(Refusal),
+// Why there is none, and how many shots there are where the list is too short for them, else 0.
+#[derive(Clone, Copy, PartialEq, Eq)]
+pub struct Denial {
+    pub why: Refusal,
+    pub needed: u32,
+}
+
+// No shots were counted.
+impl From<Refusal> for Denial {
+    ghost from_gives = { λ why denial. denial ≡ record { why = why; needed = 0 } };
+
+    fn from(why: Refusal) -> Denial {
+        Denial { why, needed: 0 }
+    }
 }
 
 // The fracture of the grid of a figure by a rule in range: 6, 7 or the shots.
-fn fracture_grid(
+fn fracture_grid<M: Manner>(
     columns: usize,
     rows: usize,
     xs: &[u16; MOST_LINES],
@@ -59,14 +66,14 @@ fn fracture_grid(
     rule: Rule,
     table: &mut [u32],
     list: &mut [u16],
-) -> Fractured
+) -> Result<Fractured, Denial>
     requires { Fillable (memory columns rows xs.now ys.now cells.now) rule }
-    ensures { (g : Grid) → Laid g (memory columns rows xs.now ys.now cells.now) → told result table.new list.new ≡ gridded Straight g rule table.old list.old }
+    ensures { (g : Grid) → Laid g (memory columns rows xs.now ys.now cells.now) → told result table.new list.new ≡ gridded M.mode g rule table.old list.old }
 {
     if table.len() < entries(columns, rows) {
-        return Fractured::Refused(Refusal::Table, 0);
+        return Err(Refusal::Table.into());
     }
-    fill(xs, ys, cells, columns, rows, rule, table);
+    M::fill(xs, ys, cells, columns, rows, rule, table);
     let pairs = pair_count(rows);
     let plan = Plan {
         columns,
@@ -74,34 +81,41 @@ fn fracture_grid(
         pairs,
         rule,
     };
-    deliver(table, cells, xs, ys, list, plan)
+    deliver::<M>(table, cells, xs, ys, list, plan)
+}
+
+impl Grids for StraightCuts {
+    fn of_grid(
+        columns: usize,
+        rows: usize,
+        xs: &[u16; MOST_LINES],
+        ys: &[u16; MOST_LINES],
+        cells: &[u8],
+        rule: Rule,
+        table: &mut [u32],
+        list: &mut [u16],
+    ) -> Result<Fractured, Denial> {
+        fracture_grid::<StraightCuts>(columns, rows, xs, ys, cells, rule, table, list)
+    }
 }
 
 // The fracture of a figure by a rule in range: 2 to 7 or the shots. The corners are 16-bit numbers by their type, which `words` says.
-fn fracture_by(
+fn fracture_by<M: Grids>(
     corners: &[u16],
     lengths: &[u16],
     rule: Rule,
     table: &mut [u32],
     list: &mut [u16],
-) -> Fractured
+) -> Result<Fractured, Denial>
     requires { in_range rule.threshold rule.weight ≡ true }
-    ensures settled { told result table.new list.new ≡ ruled Straight (figure corners.now lengths.now) rule table.old list.old }
+    ensures settled { told result table.new list.new ≡ ruled M.mode (figure corners.now lengths.now) rule table.old list.old }
     ensures words { Words (figure corners.now lengths.now) }
 {
     let mut xs = [0u16; MOST_LINES];
     let mut ys = [0u16; MOST_LINES];
     let mut cells = [0u8; MOST_CELLS];
-    let drawing = draw(corners, lengths, &mut xs, &mut ys, &mut cells);
-    let answer = drawing.answer;
-    match answer {
-        Answer::Accepted => {
-            let columns = drawing.columns;
-            let rows = drawing.rows;
-            fracture_grid(columns, rows, &xs, &ys, &cells, rule, table, list)
-        }
-        Answer::Refused(why) => Fractured::Refused(why, 0),
-    }
+    let Drawing { columns, rows } = draw(corners, lengths, &mut xs, &mut ys, &mut cells)?;
+    M::of_grid(columns, rows, &xs, &ys, &cells, rule, table, list)
 }
 
 // Fractures a figure, given as x, y, x, y, .. of its corners, ring after ring, and the number of corners of each ring, by a
@@ -114,13 +128,11 @@ pub fn fracture(
     weight: u32,
     table: &mut [u32],
     list: &mut [u16],
-) -> Fractured
+) -> Result<Fractured, Denial>
     ensures settled { told result table.new list.new ≡ outcome (asked Straight corners.now lengths.now threshold weight table.old list.old) }
 {
-    match Rule::new(threshold, weight) {
-        Made::Rule(rule) => fracture_by(corners, lengths, rule, table, list),
-        Made::Refused(why) => Fractured::Refused(why, 0),
-    }
+    let rule = Rule::new(threshold, weight)?;
+    fracture_by::<StraightCuts>(corners, lengths, rule, table, list)
 }
 
 // The same by the default preset.
@@ -129,13 +141,11 @@ pub fn fracture_default(
     lengths: &[u16],
     table: &mut [u32],
     list: &mut [u16],
-) -> Fractured
+) -> Result<Fractured, Denial>
     ensures settled { told result table.new list.new ≡ outcome (by_default corners.now lengths.now table.old list.old) }
 {
-    match Rule::preset(Rule::DEFAULT_PRESET) {
-        Preset::Row(rule) => fracture_by(corners, lengths, rule, table, list),
-        Preset::Refused(why) => Fractured::Refused(why, 0),
-    }
+    let rule = Rule::preset(Rule::DEFAULT_PRESET)?;
+    fracture_by::<StraightCuts>(corners, lengths, rule, table, list)
 }
 
 // Fewer numbers have no pinwheel: two corners and more lie on each line, so seven have three lines each way at most.
@@ -150,33 +160,23 @@ pub fn fracture_pinwheel(
     weight: u32,
     table: &mut [u32],
     list: &mut [u16],
-) -> Fractured
+) -> Result<Fractured, Denial>
     ensures settled { told result table.new list.new ≡ outcome (asked Pinwheel corners.now lengths.now threshold weight table.old list.old) }
 {
     if corners.len() < FEW_NUMBERS {
         return fracture(corners, lengths, threshold, weight, table, list);
     }
-    match Rule::new(threshold, weight) {
-        Made::Rule(made) => pinwheel::fracture_by(corners, lengths, made, table, list),
-        Made::Refused(cause) => Fractured::Refused(cause, 0),
-    }
+    let rule = Rule::new(threshold, weight)?;
+    fracture_by::<Pinwheels>(corners, lengths, rule, table, list)
 }
 
 // How many cuts the fracture of a figure will weigh, without a rule, a table or a list; or 2 to 5.
-pub fn cuts(corners: &[u16], lengths: &[u16]) -> Forecast
+pub fn cuts(corners: &[u16], lengths: &[u16]) -> Result<u32, Refusal>
     ensures settled { ahead_told result ≡ ahead (figure corners.now lengths.now) }
 {
     let mut xs = [0u16; MOST_LINES];
     let mut ys = [0u16; MOST_LINES];
     let mut cells = [0u8; MOST_CELLS];
-    let drawing = draw(corners, lengths, &mut xs, &mut ys, &mut cells);
-    let answer = drawing.answer;
-    match answer {
-        Answer::Accepted => {
-            let columns = drawing.columns;
-            let rows = drawing.rows;
-            Forecast::Cuts(count::cuts(&cells, columns, rows))
-        }
-        Answer::Refused(why) => Forecast::Refused(why),
-    }
+    let drawing = draw(corners, lengths, &mut xs, &mut ys, &mut cells)?;
+    Ok(count::cuts(&cells, drawing.columns, drawing.rows))
 }

@@ -29,7 +29,9 @@ use Rattle.figure.specs.Figure.{figure}
 use Rattle.outline.specs.Promise.{refusal}
 use Rattle.piece.specs.declared.Mode.TheVariants.{Straight}
 use Rattle.demands.specs.Promise.{Outcome, asked, outcome, written}
-use Rattle.fracture.specs.declared.Fractured.TheVariants.{Done, Refused}
+use Rattle.std.specs.Prelude.{Ok, Err}
+use Rattle.fracture.specs.declared.Fractured.{Fractured}
+use Rattle.fracture.specs.declared.Denial.{Denial}
 use Rattle.fracture.specs.Told.{told}
 use Rattle.gdsii.specs.declared.stream.Run.{Run}
 use Rattle.gdsii.specs.Boundary.{points, ring_of, moved, shift, figure_of, boundary}
@@ -119,16 +121,16 @@ module _ (s : List ℕ) (run : Run) (next : ℕ) (found : read run next ≡ meas
           ap (plated_by (points s run)) (e ∙ held_figure (λ c ns. outcome (qualified c ns table list)))
           ∙ sym (ap (points_fractured table list) is_read)
 
-      pub exit_refused : (r : Refusal) (shots : ℕ) (t u : List ℕ)
-          → told (Refused r shots) t u ≡ outcome (qualified (take (2 * (run.count - 1)) numbers) ((run.count - 1) ∷ []) table list)
-          → unplated (refusal_no r) shots 0 t u ≡ boundary_fractured s table list
+      pub exit_refused : (d : Denial) (t u : List ℕ)
+          → told (Err d) t u ≡ outcome (qualified (take (2 * (run.count - 1)) numbers) ((run.count - 1) ∷ []) table list)
+          → unplated (refusal_no d.why) d.needed 0 t u ≡ boundary_fractured s table list
       unfolding told
-      exit_refused r shots t u e =
-          let z : eqb (refusal_no r) 0 ≡ false = ne_eqb (refusal_no r) 0 (λ q. omega (arith, q, refusal-some r)) in
+      exit_refused d t u e =
+          let z : eqb (refusal_no d.why) 0 ≡ false = ne_eqb (refusal_no d.why) 0 (λ q. omega (arith, q, refusal-some d.why)) in
           ap (λ (b : Bool).
           record {
-            number = refusal_no r;
-            shots = shots;
+            number = refusal_no d.why;
+            shots = d.needed;
             cost = 0;
             sliver = 0;
             cuts = 0;
@@ -138,18 +140,18 @@ module _ (s : List ℕ) (run : Run) (next : ℕ) (found : read run next ≡ meas
             table = t;
             list = u;
           }) (sym z)
-          ∙ by-ring (told (Refused r shots) t u) e
+          ∙ by-ring (told (Err d) t u) e
 
-      pub exit_done : (shots cost sliver cuts : ℕ) (x y : ℤ) (t u : List ℕ)
-          → told (Done shots cost sliver cuts) t u ≡ outcome (qualified (take (2 * (run.count - 1)) numbers) ((run.count - 1) ∷ []) table list)
+      pub exit_done : (f : Fractured) (x y : ℤ) (t u : List ℕ)
+          → told (Ok f) t u ≡ outcome (qualified (take (2 * (run.count - 1)) numbers) ((run.count - 1) ∷ []) table list)
           → x ≡ shift X (points s run) → y ≡ shift Y (points s run)
           → ◌≡◌ {A = PlateSaid}
           (record {
             number = 0;
-            shots = shots;
-            cost = cost;
-            sliver = sliver;
-            cuts = cuts;
+            shots = f.shots;
+            cost = f.cost;
+            sliver = f.sliver;
+            cuts = f.cuts;
             shift-x = to_z w32 (of_z w32 x);
             shift-y = to_z w32 (of_z w32 y);
             offset = 0;
@@ -158,11 +160,22 @@ module _ (s : List ℕ) (run : Run) (next : ℕ) (found : read run next ≡ meas
           })
           (boundary_fractured s table list)
       unfolding told
-      exit_done shots cost sliver cuts x y t u e ex ey =
+      exit_done f x y t u e ex ey =
           ap₂ (λ (v w : ℤ).
-          record { number = 0; shots = shots; cost = cost; sliver = sliver; cuts = cuts; shift-x = v; shift-y = w; offset = 0; table = t; list = u })
+          record {
+            number = 0;
+            shots = f.shots;
+            cost = f.cost;
+            sliver = f.sliver;
+            cuts = f.cuts;
+            shift-x = v;
+            shift-y = w;
+            offset = 0;
+            table = t;
+            list = u;
+          })
           (shift-told X (points s run) x ex) (shift-told Y (points s run) y ey)
-          ∙ by-ring (told (Done shots cost sliver cuts) t u) e
+          ∙ by-ring (told (Ok f) t u) e
 
 -- the rule that plates are qualified by
 

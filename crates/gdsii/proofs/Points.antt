@@ -6,6 +6,7 @@
 --   points-more, points_none        == points in a row, by the first
 --   length-points, take-points, last-points == how many they are, the first of them, the last
 --   lowest-more, lowest-none, highest-more, highest-none == the lowest and the highest, one point more
+--   lowest-first, lowest-next, highest-first, highest-next == the same, point by point
 --   lowest_start, lowest-all, highest-start, highest-all == no point is lower, or higher
 --   unclosed-points, unclosed-same, unclosed-other == 17, by the first point and the last
 --   broad-points                    == 18, by the lowest and the highest place
@@ -107,6 +108,37 @@ module _ (s : List ℕ) where
     pub highest-none : (high : ℕ) → n ≤ 0 → high ≡ highest_from a high (points_from s p n)
     unfolding highest_from
     highest-none high h = sym (ap (highest_from a high) (points_none p n h))
+
+  -- the same, point i from a place on
+  at-first : (p : ℕ) → p + 8 * 0 ≡ p
+  at-first p = omega arith
+
+  at_next : (p i : ℕ) → p + 8 * (i + 1) ≡ p + 8 * i + 8
+  at_next p i = omega arith
+
+  fewer : (n i : ℕ) → n - (i + 1) ≡ n - i - 1
+  fewer n i = omega arith
+
+  all_left : (n : ℕ) → n - 0 ≡ n
+  all_left n = omega arith
+
+  module _ (a : Axis) (p n : ℕ) where
+    pub lowest-first : (low : ℕ) → lowest_from a low (points_from s (p + 8 * 0) (n - 0)) ≡ lowest_from a low (points_from s p n)
+    lowest-first low = ap₂ (λ q m. lowest_from a low (points_from s q m)) (at-first p) (all_left n)
+
+    pub highest-first : (high : ℕ) → highest_from a high (points_from s (p + 8 * 0) (n - 0)) ≡ highest_from a high (points_from s p n)
+    highest-first high = ap₂ (λ q m. highest_from a high (points_from s q m)) (at-first p) (all_left n)
+
+    module _ (i : ℕ) where
+      pub lowest-next : (low v w : ℕ) → v ≡ along a (point_at s (p + 8 * i)) → w ≡ min low v → i < n
+          → lowest_from a w (points_from s (p + 8 * (i + 1)) (n - (i + 1))) ≡ lowest_from a low (points_from s (p + 8 * i) (n - i))
+      lowest-next low v w e f h =
+          ap₂ (λ q m. lowest_from a w (points_from s q m)) (at_next p i) (fewer n i) ∙ lowest-more a (p + 8 * i) (n - i) low v w e f (omega arith)
+
+      pub highest-next : (high v w : ℕ) → v ≡ along a (point_at s (p + 8 * i)) → w ≡ max high v → i < n
+          → highest_from a w (points_from s (p + 8 * (i + 1)) (n - (i + 1))) ≡ highest_from a high (points_from s (p + 8 * i) (n - i))
+      highest-next high v w e f h =
+          ap₂ (λ q m. highest_from a w (points_from s q m)) (at_next p i) (fewer n i) ∙ highest-more a (p + 8 * i) (n - i) high v w e f (omega arith)
 
   module _ (p n q : ℕ) (h : 0 < n) (z : q ≡ p + 8 * (n - 1)) where
     pub unclosed-points : unclosed (points_from s p n) ≡ apart (point_at s p) (point_at s q)

@@ -2,58 +2,62 @@
 --
 --   boundary-settled, plate-settled  == for each call of the crate
 use Prim.Native.Nat.{ℕ}
-use mathlib.Core.Path.{◌≡◌, ◌∙◌, refl, sym, ap, ap₂}
+use mathlib.Core.Path.{◌≡◌, ◌∙◌, refl, sym, ap}
 use mathlib.Core.List.{List}
-use lib.IntN.{ℤ}
-use Rattle.refusal.specs.declared.Refusal.{Refusal}
 use Rattle.refusal.proofs.Refusals.{refusal-one, never}
+use Rattle.std.specs.Prelude.{Result, Ok, Err}
+use Rattle.refusal.specs.declared.Fault.{Fault}
 use Rattle.gdsii.specs.declared.Boundary.{Boundary}
-use Rattle.gdsii.specs.declared.Boundary.TheVariants as reading
 use Rattle.gdsii.specs.declared.Plate.{Plate}
-use Rattle.gdsii.specs.declared.Plate.TheVariants as plate
+use Rattle.gdsii.specs.declared.Unplated.{Unplated}
 use Rattle.gdsii.specs.Calls.{BoundarySaid, boundary_read, boundary_told, PlateSaid, boundary_fractured, plate_told}
 
-boundary-one : (u v : Boundary) (l m : List ℕ) → boundary_told u l ≡ boundary_told v m → u ≡ v
-boundary-one (reading.Corners n x y) (reading.Corners n' x' y') l m e =
-    let a : n ≡ n' = ap (λ (s : BoundarySaid). s.corners) e in
-    let b : x ≡ x' = ap (λ (s : BoundarySaid). s.shift-x) e in
-    let d : y ≡ y' = ap (λ (s : BoundarySaid). s.shift-y) e in
-    ap₂ (λ k (z : ℤ). reading.Corners k z y) a b ∙ ap (reading.Corners n' x') d
-boundary-one (reading.Corners n x y) (reading.Refused r p) l m e = absurd (never r (ap (λ (s : BoundarySaid). s.number) e))
-boundary-one (reading.Refused r p) (reading.Corners n x y) l m e = absurd (never r (sym (ap (λ (s : BoundarySaid). s.number) e)))
-boundary-one (reading.Refused r p) (reading.Refused r' p') l m e =
-    ap₂ reading.Refused (refusal-one r r' (ap (λ (s : BoundarySaid). s.number) e)) (ap (λ (s : BoundarySaid). s.offset) e)
+boundary_same : (b d : Boundary) → b.corners ≡ d.corners → b.shift_x ≡ d.shift_x → b.shift_y ≡ d.shift_y → b ≡ d
+boundary_same b d n x y = λ i. record { corners = n i; shift_x = x i; shift_y = y i }
 
-boundary-list : (u : Boundary) (l : List ℕ) → (boundary_told u l).list ≡ l
-boundary-list (reading.Corners n x y) l = refl
-boundary-list (reading.Refused r p) l = refl
+boundary-one : (u v : Result Boundary Fault) (l m : List ℕ) → boundary_told u l ≡ boundary_told v m → u ≡ v
+boundary-one (Ok b) (Ok d) l m e =
+    ap (λ (x : Boundary). Ok x)
+    (boundary_same b d (ap (λ (s : BoundarySaid). s.corners) e) (ap (λ (s : BoundarySaid). s.shift-x) e) (ap (λ (s : BoundarySaid). s.shift-y) e))
+boundary-one (Ok b) (Err f) l m e = absurd (never f.why (ap (λ (s : BoundarySaid). s.number) e))
+boundary-one (Err f) (Ok b) l m e = absurd (never f.why (sym (ap (λ (s : BoundarySaid). s.number) e)))
+boundary-one (Err f) (Err g) l m e =
+    let same : (p q : Fault) → p.why ≡ q.why → p.at ≡ q.at → p ≡ q = λ p q w t i. record { why = w i; at = t i } in
+    ap (λ (x : Fault). Err x) (same f g (refusal-one f.why g.why (ap (λ (s : BoundarySaid). s.number) e)) (ap (λ (s : BoundarySaid). s.offset) e))
 
-pub boundary-settled : (s l : List ℕ) (u v : Boundary) (m m' : List ℕ) → boundary_told u m ≡ boundary_read s l
+boundary-list : (u : Result Boundary Fault) (l : List ℕ) → (boundary_told u l).list ≡ l
+boundary-list (Ok b) l = refl
+boundary-list (Err f) l = refl
+
+pub boundary-settled : (s l : List ℕ) (u v : Result Boundary Fault) (m m' : List ℕ) → boundary_told u m ≡ boundary_read s l
     → boundary_told v m' ≡ boundary_read s l → (u ≡ v) × (m ≡ m')
 boundary-settled s l u v m m' e f =
     let g = e ∙ sym f in
     (boundary-one u v m m' g, sym (boundary-list u m) ∙ ap (λ (s : BoundarySaid). s.list) g ∙ boundary-list v m')
 
-plate-one : (u v : Plate) (t l t' l' : List ℕ) → plate_told u t l ≡ plate_told v t' l' → u ≡ v
-plate-one (plate.Done n k w c x y) (plate.Done n' k' w' c' x' y') t l t' l' e =
-    let a : n ≡ n' = ap (λ (s : PlateSaid). s.shots) e in
-    let b : k ≡ k' = ap (λ (s : PlateSaid). s.cost) e in
-    let d : w ≡ w' = ap (λ (s : PlateSaid). s.sliver) e in
-    let h : c ≡ c' = ap (λ (s : PlateSaid). s.cuts) e in
-    let f : x ≡ x' = ap (λ (s : PlateSaid). s.shift-x) e in
-    let g : y ≡ y' = ap (λ (s : PlateSaid). s.shift-y) e in
-    ap₂ (λ i j. plate.Done i j w c x y) a b ∙ ap₂ (λ i j. plate.Done n' k' i j x y) d h ∙ ap₂ (plate.Done n' k' w' c') f g
-plate-one (plate.Done n k w c x y) (plate.Refused r m p) t l t' l' e = absurd (never r (ap (λ (s : PlateSaid). s.number) e))
-plate-one (plate.Refused r m p) (plate.Done n k w c x y) t l t' l' e = absurd (never r (sym (ap (λ (s : PlateSaid). s.number) e)))
-plate-one (plate.Refused r m p) (plate.Refused r' m' p') t l t' l' e =
-    ap₂ (λ (i : Refusal) j. plate.Refused i j p) (refusal-one r r' (ap (λ (s : PlateSaid). s.number) e)) (ap (λ (s : PlateSaid). s.shots) e)
-    ∙ ap (plate.Refused r' m') (ap (λ (s : PlateSaid). s.offset) e)
+plate_same : (p q : Plate) → p.shots ≡ q.shots → p.cost ≡ q.cost → p.sliver ≡ q.sliver → p.cuts ≡ q.cuts → p.shift_x ≡ q.shift_x
+    → p.shift_y ≡ q.shift_y → p ≡ q
+plate_same p q a b d h f g = λ i. record { shots = a i; cost = b i; sliver = d i; cuts = h i; shift_x = f i; shift_y = g i }
 
-plate_lists : (u : Plate) (t l : List ℕ) → ((plate_told u t l).table ≡ t) × ((plate_told u t l).list ≡ l)
-plate_lists (plate.Done n k w c x y) t l = (refl, refl)
-plate_lists (plate.Refused r m p) t l = (refl, refl)
+none_same : (u v : Unplated) → u.why ≡ v.why → u.needed ≡ v.needed → u.at ≡ v.at → u ≡ v
+none_same u v a b d = λ i. record { why = a i; needed = b i; at = d i }
 
-pub plate-settled : (s t l : List ℕ) (u v : Plate) (a a' b b' : List ℕ) → plate_told u a b ≡ boundary_fractured s t l
+plate-one : (u v : Result Plate Unplated) (t l t' l' : List ℕ) → plate_told u t l ≡ plate_told v t' l' → u ≡ v
+plate-one (Ok p) (Ok q) t l t' l' e =
+    ap (λ (x : Plate). Ok x)
+    (plate_same p q (ap (λ (s : PlateSaid). s.shots) e) (ap (λ (s : PlateSaid). s.cost) e) (ap (λ (s : PlateSaid). s.sliver) e)
+    (ap (λ (s : PlateSaid). s.cuts) e) (ap (λ (s : PlateSaid). s.shift-x) e) (ap (λ (s : PlateSaid). s.shift-y) e))
+plate-one (Ok p) (Err u) t l t' l' e = absurd (never u.why (ap (λ (s : PlateSaid). s.number) e))
+plate-one (Err u) (Ok p) t l t' l' e = absurd (never u.why (sym (ap (λ (s : PlateSaid). s.number) e)))
+plate-one (Err u) (Err v) t l t' l' e =
+    ap (λ (x : Unplated). Err x)
+    (none_same u v (refusal-one u.why v.why (ap (λ (s : PlateSaid). s.number) e)) (ap (λ (s : PlateSaid). s.shots) e) (ap (λ (s : PlateSaid). s.offset) e))
+
+plate_lists : (u : Result Plate Unplated) (t l : List ℕ) → ((plate_told u t l).table ≡ t) × ((plate_told u t l).list ≡ l)
+plate_lists (Ok p) t l = (refl, refl)
+plate_lists (Err u) t l = (refl, refl)
+
+pub plate-settled : (s t l : List ℕ) (u v : Result Plate Unplated) (a a' b b' : List ℕ) → plate_told u a b ≡ boundary_fractured s t l
     → plate_told v a' b' ≡ boundary_fractured s t l → (u ≡ v) × (a ≡ a') × (b ≡ b')
 plate-settled s t l u v a a' b b' e f =
     let g = e ∙ sym f in

@@ -2,7 +2,7 @@
 --
 --   near             == the points of a boundary that passes 18 lie within 65,535 nm of the lowest place
 --   Storing          == the state of the loop that stores: what is stored and what is still to come give the whole
---   storing_start, storing_near, storing_more, storing_done == the loop's ways
+--   storing_start, storing_same, storing_near, storing_more, storing_done == the loop's ways
 --   length_moved     == two numbers for each corner
 --   front-stored     == the front of a list that corners are stored to is the corners
 --   read-shape, read_short, read-stored == what reading says: 3 to 5, 14, or the corners
@@ -54,7 +54,7 @@ unfolding numbers_of
 length-numbers x y [] = refl
 length-numbers x y (p ∷ ps) = omega (arith, length-numbers x y ps)
 
--- a loop cannot speak of the run of points, so this speaks of where they start, and of how many there are without the last
+-- first and count are where the points start, and how many there are without the last
 pub record Storing (s : List ℕ) (x y : ℕ) (before : List ℕ) (first count at to left : ℕ) (list : List ℕ) : Type 0 where
   pub same : length list ≡ length before
   pub room : to + 2 * left ≤ length list
@@ -79,6 +79,13 @@ module _ (s : List ℕ) (x y : ℕ) (before : List ℕ) where
             (subst (λ m. All (Near Y m) (points s run)) (sym ey) (near Y (points s run) fit.low));
         all = refl;
       }
+
+  -- places that are the same
+  pub storing_same : (first count : ℕ) (list : List ℕ) {at to left at' to' left' : ℕ} → Storing s x y before first count at to left list
+      → at ≡ at' → to ≡ to' → left ≡ left' → Storing s x y before first count at' to' left' list
+  storing_same first count list {at} {to} {left} {at'} {to'} {left'} h e f g =
+      subst (λ n. Storing s x y before first count at' to' n list) g
+      (subst (λ n. Storing s x y before first count at' n left list) f (subst (λ n. Storing s x y before first count n to left list) e h))
 
   module _ (first count at to left : ℕ) (list : List ℕ) (h : Storing s x y before first count at to left list) where
     module _ (k : 0 < left) where

@@ -15,7 +15,7 @@
 --   points_fractured table list r == the same of points that are read or not
 --   boundary_fractured s table list == fracturing the element s
 --   boundary_told, plate_told  == the same for each case of an answer of the code, with the lent memory afterwards
-use Rattle.std.specs.Prelude.{ℕ, cond, List, [], ◌∷◌, ltb, eqb, length, ℤ, pos}
+use Rattle.std.specs.Prelude.{ℕ, cond, List, [], ◌∷◌, ltb, eqb, length, ℤ, pos, Result, Ok, Err}
 use Rattle.refusal.specs.declared.Refusal.TheVariants as because
 use Rattle.refusal.specs.Refusals.{refusal_no}
 use Rattle.rule.specs.Rules.{preset_told}
@@ -24,9 +24,9 @@ use Rattle.outline.specs.Promise.{refusal}
 use Rattle.piece.specs.declared.Mode.TheVariants.{Straight}
 use Rattle.demands.specs.Promise.{asked, Outcome, outcome, written}
 use Rattle.gdsii.specs.declared.Boundary.{Boundary}
-use Rattle.gdsii.specs.declared.Boundary.TheVariants as reading
 use Rattle.gdsii.specs.declared.Plate.{Plate}
-use Rattle.gdsii.specs.declared.Plate.TheVariants as plate
+use Rattle.gdsii.specs.declared.Unplated.{Unplated}
+use Rattle.refusal.specs.declared.Fault.{Fault}
 use Rattle.number.specs.Reading.{Reading, read, fault}
 use Rattle.gdsii.specs.Boundary.{Point, ring_of, moved, shift, figure_of, boundary}
 
@@ -62,9 +62,9 @@ points_read l (fault r at) = unread (refusal_no r) at l
 unfoldable pub boundary_read : List ℕ → List ℕ → BoundarySaid
 boundary_read s l = points_read l (boundary s)
 
-abbrev pub boundary_told : Boundary → List ℕ → BoundarySaid
-boundary_told (reading.Corners n x y) l = record { number = 0; corners = n; shift-x = x; shift-y = y; offset = 0; list = l }
-boundary_told (reading.Refused r at) l = unread (refusal_no r) at l
+abbrev pub boundary_told : Result Boundary Fault → List ℕ → BoundarySaid
+boundary_told (Ok b) l = record { number = 0; corners = b.corners; shift-x = b.shift_x; shift-y = b.shift_y; offset = 0; list = l }
+boundary_told (Err f) l = unread (refusal_no f.why) f.at l
 
 -- fracture
 
@@ -124,18 +124,18 @@ points_fractured table list (fault r at) = unplated (refusal_no r) 0 at table li
 unfoldable pub boundary_fractured : List ℕ → List ℕ → List ℕ → PlateSaid
 boundary_fractured s table list = points_fractured table list (boundary s)
 
-abbrev pub plate_told : Plate → List ℕ → List ℕ → PlateSaid
-plate_told (plate.Done shots cost sliver cuts x y) table list =
+abbrev pub plate_told : Result Plate Unplated → List ℕ → List ℕ → PlateSaid
+plate_told (Ok p) table list =
     record {
       number = 0;
-      shots = shots;
-      cost = cost;
-      sliver = sliver;
-      cuts = cuts;
-      shift-x = x;
-      shift-y = y;
+      shots = p.shots;
+      cost = p.cost;
+      sliver = p.sliver;
+      cuts = p.cuts;
+      shift-x = p.shift_x;
+      shift-y = p.shift_y;
       offset = 0;
       table = table;
       list = list;
     }
-plate_told (plate.Refused r shots at) table list = unplated (refusal_no r) shots at table list
+plate_told (Err u) table list = unplated (refusal_no u.why) u.needed u.at table list

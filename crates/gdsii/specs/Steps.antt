@@ -7,7 +7,8 @@
 --   measured s       == the points of an element that passes 8, 16, 17, 18 and 2
 --   Fit s run        == what is known of such a run: the points stand in the bytes, 4 to 32 of them are corners, and they fit 16 bits
 --   qualified ..     == what the fracture of a ring is asked: straight cuts by preset 0
-use Rattle.std.specs.Prelude.{ℕ, ◌+◌, ◌*◌, ◌-◌, ◌≤◌, ◌≡◌, false, cond, ◌||◌, List, length}
+use Rattle.std.specs.Prelude.{ℕ, ◌+◌, ◌*◌, ◌-◌, ◌≤◌, ◌≡◌, false, cond, ◌||◌, List, length, Result, Ok, Err}
+use Rattle.refusal.specs.declared.Fault.{Fault}
 use Rattle.refusal.specs.declared.Refusal.TheVariants as because
 use Rattle.rule.specs.Rules.{preset_told}
 use Rattle.figure.specs.declared.Axis.TheVariants.{X, Y}
@@ -15,21 +16,17 @@ use Rattle.figure.specs.Figure.{most_corners, bad_length}
 use Rattle.piece.specs.declared.Mode.TheVariants.{Straight}
 use Rattle.demands.specs.Promise.{Asked, asked}
 use Rattle.gdsii.specs.declared.stream.Run.{Run}
-use Rattle.gdsii.specs.declared.stream.Past.{Past}
-use Rattle.gdsii.specs.declared.stream.Past.TheVariants as step
-use Rattle.gdsii.specs.declared.stream.Scanned.{Scanned}
-use Rattle.gdsii.specs.declared.stream.Scanned.TheVariants as scan
 use Rattle.number.specs.Reading.{Reading, read, fault, and_then}
 use Rattle.gdsii.specs.Record.{reached, end_of, element}
 use Rattle.gdsii.specs.Boundary.{points, unclosed, broad}
 
-abbrev pub past_told : Past → Reading (Unit {0})
-past_told (step.At next) = reached next
-past_told (step.Stopped r at) = fault r at
+abbrev pub past_told : Result ℕ Fault → Reading (Unit {0})
+past_told (Ok next) = reached next
+past_told (Err f) = fault f.why f.at
 
-abbrev pub scan_told : Scanned → Reading Run
-scan_told (scan.Points run) = read run (end_of run)
-scan_told (scan.Stopped r at) = fault r at
+abbrev pub scan_told : Result Run Fault → Reading Run
+scan_told (Ok run) = read run (end_of run)
+scan_told (Err f) = fault f.why f.at
 
 pub record Within (s : List ℕ) (run : Run) : Type 0 where
   pub some : 1 ≤ run.count

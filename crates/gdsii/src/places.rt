@@ -1,15 +1,15 @@
 // The points of a boundary, raised by 2^31 so that their order is that of whole numbers: what closes, how far they extend, and the ring
 // moved to 0.
-ghost use Rattle.std.specs.Prelude.{◌≡◌, ◌+◌, ◌-◌, ◌*◌, ◌≤◌, min, max, length};
+ghost use Rattle.std.specs.Prelude.{◌≡◌, ◌+◌, ◌-◌, ◌*◌, ◌≤◌, length};
 ghost use Rattle.std.proofs.lemmas.List.Edits.{sets};
 ghost use Rattle.std.proofs.Math.IntN.{sub_ℕ};
 ghost use Rattle.figure.specs.Figure.{bad_length};
 ghost use Rattle.gdsii.specs.Boundary as point;
 ghost use Rattle.gdsii.specs.Steps.{scan_told, Within, Fit, measured};
 
-use crate::stream::{Run, Scanned, pair_at, scan};
+use crate::stream::{Run, pair_at, scan};
 use figure::{Axis, LEAST_CORNERS, MOST_CORNERS};
-use refusal::Refusal;
+use refusal::{Fault, Refusal};
 
 // 2^31: so much a coordinate is raised.
 const HALF: u32 = 2147483648;
@@ -58,33 +58,14 @@ fn place_at(element: &[u8], at: usize, axis: Axis) -> u32
     }
 }
 
-// The lower of two places.
-fn lower(a: u32, b: u32) -> u32
-    ensures { result ≡ min a b }
-{
-    if a <= b { a } else { b }
-}
-
-// The higher of two places.
-fn higher(a: u32, b: u32) -> u32
-    ensures { result ≡ max a b }
-{
-    if a <= b { b } else { a }
-}
-
 // The lowest place of the points along an axis.
 fn lowest(element: &[u8], run: Run, axis: Axis) -> u32
     requires { Within element.now run }
     ensures { result ≡ point.lowest axis (point.points element.now run) }
 {
     let mut low = HIGHEST;
-    let mut at = run.first;
-    let mut left = run.count;
-    while 0 < left {
-        let place = place_at(element, at, axis);
-        low = lower(low, place);
-        at += 8;
-        left -= 1;
+    for i in 0..run.count {
+        low = low.min(place_at(element, run.first + 8 * i, axis));
     }
     low
 }
@@ -94,14 +75,9 @@ fn highest(element: &[u8], run: Run, axis: Axis) -> u32
     requires { Within element.now run }
     ensures { result ≡ point.highest axis (point.points element.now run) }
 {
-    let mut high = 0;
-    let mut at = run.first;
-    let mut left = run.count;
-    while 0 < left {
-        let place = place_at(element, at, axis);
-        high = higher(high, place);
-        at += 8;
-        left -= 1;
+    let mut high: u32 = 0;
+    for i in 0..run.count {
+        high = high.max(place_at(element, run.first + 8 * i, axis));
     }
     high
 }
@@ -128,7 +104,7 @@ fn broad(element: &[u8], run: Run, axis: Axis) -> bool
 {
     let low = lowest(element, run, axis);
     let high = highest(element, run, axis);
-    (low as u64) + MOST_EXTENT < high as u64
+    u64::from(low) + MOST_EXTENT < u64::from(high)
 }
 
 // 2: a ring of fewer corners than 4 or of more than 32.
@@ -140,27 +116,23 @@ fn bad_length(corners: usize) -> bool
 
 // The points of an element, or the first of 8, 16, 17, 18 and 2. All points are looked at before 2 counts them, so nothing is stored
 // here.
-pub fn measure(element: &[u8]) -> Scanned
+pub fn measure(element: &[u8]) -> Result<Run, Fault>
     ensures { scan_told result ≡ measured element.now }
 {
-    match scan(element) {
-        Scanned::Stopped(r, p) => Scanned::Stopped(r, p),
-        Scanned::Points(run) => {
-            if unclosed(element, run) {
-                return Scanned::Stopped(Refusal::Unclosed, 0);
-            }
-            if broad(element, run, Axis::X) {
-                return Scanned::Stopped(Refusal::Extent, 0);
-            }
-            if broad(element, run, Axis::Y) {
-                return Scanned::Stopped(Refusal::Extent, 0);
-            }
-            if bad_length(run.count - 1) {
-                return Scanned::Stopped(Refusal::Length, 0);
-            }
-            Scanned::Points(run)
-        }
+    let run = scan(element)?;
+    if unclosed(element, run) {
+        return Err(Refusal::Unclosed.at(0));
     }
+    if broad(element, run, Axis::X) {
+        return Err(Refusal::Extent.at(0));
+    }
+    if broad(element, run, Axis::Y) {
+        return Err(Refusal::Extent.at(0));
+    }
+    if bad_length(run.count - 1) {
+        return Err(Refusal::Length.at(0));
+    }
+    Ok(run)
 }
 
 // What was taken off along an axis to move the ring to 0.
@@ -179,16 +151,11 @@ pub fn store(element: &[u8], run: Run, list: &mut [u16])
 {
     let low_x = lowest(element, run, Axis::X);
     let low_y = lowest(element, run, Axis::Y);
-    let mut at = run.first;
-    let mut to: usize = 0;
-    let mut left = run.count - 1;
-    while 0 < left {
+    for i in 0..run.count - 1 {
+        let at = run.first + 8 * i;
         let x = place_at(element, at, Axis::X) - low_x;
         let y = place_at(element, at, Axis::Y) - low_y;
-        list[to] = x as u16;
-        list[to + 1] = y as u16;
-        at += 8;
-        to += 2;
-        left -= 1;
+        list[2 * i] = x as u16;
+        list[2 * i + 1] = y as u16;
     }
 }

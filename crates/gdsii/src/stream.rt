@@ -4,27 +4,13 @@ ghost use Rattle.std.specs.Prelude.{◌≡◌, ◌+◌, ◌*◌, ◌≤◌, leng
 ghost use Rattle.gdsii.specs.Record as records;
 ghost use Rattle.gdsii.specs.Steps.{past_told, scan_told};
 
-use refusal::Refusal;
-
-// Where reading got to, or the first fault: beside 8 the offset of the record cut short, else 0.
-#[derive(Clone, Copy)]
-pub enum Past {
-    At(usize),
-    Stopped(Refusal, usize),
-}
+use refusal::{Fault, Refusal};
 
 // Points in a row: where the first one stands, and how many there are, eight bytes each.
-#[derive(Clone, Copy)]
+#[derive(Clone, Copy, PartialEq, Eq)]
 pub struct Run {
     pub first: usize,
     pub count: usize,
-}
-
-// The points of an element, or the first fault, likewise.
-#[derive(Clone, Copy)]
-pub enum Scanned {
-    Points(Run),
-    Stopped(Refusal, usize),
 }
 
 // Types of records.
@@ -55,7 +41,7 @@ const FOUR_BYTES: u8 = 3;
 fn pair(high: u8, low: u8) -> u32
     ensures { (result ≡ 256 * high + low) × (result ≤ 65535) }
 {
-    256 * (high as u32) + low as u32
+    256 * u32::from(high) + u32::from(low)
 }
 
 // Two bytes as a number, high first.
@@ -110,115 +96,93 @@ fn is(element: &[u8], at: usize, kind: u8, form: u8, size: usize) -> bool
     of_type && (of_form && of_size)
 }
 
-// Past a record that has to stand at a place.
-fn required(element: &[u8], at: usize, kind: u8, form: u8, size: usize) -> Past
+// Past a record that has to stand at a place; or 8 with the offset of the record cut short, 16 with 0.
+fn required(element: &[u8], at: usize, kind: u8, form: u8, size: usize) -> Result<usize, Fault>
     ensures { past_told result ≡ records.required element.now at kind form size }
 {
     if cut_short(element, at) {
-        return Past::Stopped(Refusal::Ends, at);
+        return Err(Refusal::Ends.at(at));
     }
     if is(element, at, kind, form, size) {
-        let next = at + size;
-        return Past::At(next);
+        return Ok(at + size);
     }
-    Past::Stopped(Refusal::Record, 0)
+    Err(Refusal::Record.at(0))
 }
 
 // Past a record that may stand at a place; before a record of another type, still there.
-fn optional(element: &[u8], at: usize, kind: u8, form: u8, size: usize) -> Past
+fn optional(element: &[u8], at: usize, kind: u8, form: u8, size: usize) -> Result<usize, Fault>
     ensures { past_told result ≡ records.optional element.now at kind form size }
 {
     if cut_short(element, at) {
-        return Past::Stopped(Refusal::Ends, at);
+        return Err(Refusal::Ends.at(at));
     }
     if has_type(element, at, kind) {
         return required(element, at, kind, form, size);
     }
-    Past::At(at)
+    Ok(at)
 }
 
 // From the front past BOUNDARY, and past ELFLAGS and PLEX where they stand. What these two hold is free.
-fn heading(element: &[u8]) -> Past
+fn heading(element: &[u8]) -> Result<usize, Fault>
     ensures { past_told result ≡ records.heading element.now }
 {
-    match required(element, 0, TYPE_BOUNDARY, NO_DATA, 4) {
-        Past::Stopped(r, p) => Past::Stopped(r, p),
-        Past::At(next) => match optional(element, next, TYPE_ELFLAGS, BIT_ARRAY, 6) {
-            Past::Stopped(r, p) => Past::Stopped(r, p),
-            Past::At(after) => optional(element, after, TYPE_PLEX, FOUR_BYTES, 8),
-        },
-    }
+    let flags = required(element, 0, TYPE_BOUNDARY, NO_DATA, 4)?;
+    let plex = optional(element, flags, TYPE_ELFLAGS, BIT_ARRAY, 6)?;
+    optional(element, plex, TYPE_PLEX, FOUR_BYTES, 8)
 }
 
 // Past LAYER and DATATYPE, whatever they hold.
-fn layering(element: &[u8], at: usize) -> Past
+fn layering(element: &[u8], at: usize) -> Result<usize, Fault>
     ensures { past_told result ≡ records.layering element.now at }
 {
-    match required(element, at, TYPE_LAYER, TWO_BYTES, 6) {
-        Past::Stopped(r, p) => Past::Stopped(r, p),
-        Past::At(next) => required(element, next, TYPE_DATATYPE, TWO_BYTES, 6),
-    }
+    let next = required(element, at, TYPE_LAYER, TWO_BYTES, 6)?;
+    required(element, next, TYPE_DATATYPE, TWO_BYTES, 6)
 }
 
 // The points of XY: one at least, and whole ones only.
-fn xy(element: &[u8], at: usize) -> Scanned
+fn xy(element: &[u8], at: usize) -> Result<Run, Fault>
     ensures { scan_told result ≡ records.xy element.now at }
 {
     if cut_short(element, at) {
-        return Scanned::Stopped(Refusal::Ends, at);
+        return Err(Refusal::Ends.at(at));
     }
     let size = size_at(element, at);
     if size < 12 {
-        return Scanned::Stopped(Refusal::Record, 0);
+        return Err(Refusal::Record.at(0));
     }
     let count = (size - 4) / 8;
     if is(element, at, TYPE_XY, FOUR_BYTES, 4 + 8 * count) {
         let first = at + 4;
-        return Scanned::Points(Run { first, count });
+        return Ok(Run { first, count });
     }
-    Scanned::Stopped(Refusal::Record, 0)
+    Err(Refusal::Record.at(0))
 }
 
 // Past ENDEL, with which the bytes have to end: one byte more is 16, also where it looks like a record cut short.
-fn ending(element: &[u8], at: usize) -> Past
+fn ending(element: &[u8], at: usize) -> Result<usize, Fault>
     ensures { past_told result ≡ records.ending element.now at }
 {
-    match required(element, at, TYPE_ENDEL, NO_DATA, 4) {
-        Past::Stopped(r, p) => Past::Stopped(r, p),
-        Past::At(last) => {
-            if last == element.len() {
-                return Past::At(last);
-            }
-            Past::Stopped(Refusal::Record, 0)
-        }
+    let last = required(element, at, TYPE_ENDEL, NO_DATA, 4)?;
+    if last == element.len() {
+        return Ok(last);
     }
+    Err(Refusal::Record.at(0))
 }
 
 // The points that stand at a place, where the element ends after them.
-fn body(element: &[u8], at: usize) -> Scanned
+fn body(element: &[u8], at: usize) -> Result<Run, Fault>
     ensures { scan_told result ≡ records.body element.now at }
 {
-    match xy(element, at) {
-        Scanned::Stopped(r, p) => Scanned::Stopped(r, p),
-        Scanned::Points(run) => {
-            let next = run.first + 8 * run.count;
-            match ending(element, next) {
-                Past::Stopped(r, p) => Scanned::Stopped(r, p),
-                Past::At(_) => Scanned::Points(run),
-            }
-        }
-    }
+    let run = xy(element, at)?;
+    ending(element, run.first + 8 * run.count)?;
+    Ok(run)
 }
 
 // The points of a whole element, in one pass over its records; or the first of 8 and 16.
-pub fn scan(element: &[u8]) -> Scanned
+pub fn scan(element: &[u8]) -> Result<Run, Fault>
     ensures { scan_told result ≡ records.element element.now }
 {
-    match heading(element) {
-        Past::Stopped(r, p) => Scanned::Stopped(r, p),
-        Past::At(at) => match layering(element, at) {
-            Past::Stopped(r, p) => Scanned::Stopped(r, p),
-            Past::At(here) => body(element, here),
-        },
-    }
+    let layer = heading(element)?;
+    let points = layering(element, layer)?;
+    body(element, points)
 }

@@ -4,7 +4,7 @@
 --   coordinates-small, figure-small == no figure has more than 222 bytes
 --   figure-known, figure-refused == a figure is written to as many bytes, or refused by 2
 --   parts-length, parts-put == three runs of bytes, one behind the other
---   anew_long, anew_out, anew_index, anew_done == the ways of `changed_for`
+--   anew_long, anew_out, anew_index, anew_never, anew_done == the ways of `changed_for`
 use Prim.Native.Nat.{ℕ, ◌+◌, ◌*◌, ◌<◌, ◌≤◌}
 use mathlib.Core.Path.{◌≡◌, ◌∙◌, refl, sym, ap, ap₂, subst}
 use mathlib.Core.List.{List, [], ◌∷◌, ◌++◌}
@@ -14,6 +14,7 @@ use lib.Dec.{eqb}
 use lib.ListN.{length, take, drop, length-append, length-map, length-take}
 use lib.Seq.{sets, take_at}
 use borrow.Author.Tests.{le-leb, lt-leb, lt-ltb, le-ltb}
+use Rattle.std.specs.Prelude.{Ok, Err}
 use Rattle.sum.specs.Sum.{join}
 use Rattle.sum.proofs.Lists.{sets_append, sets_front}
 use Rattle.refusal.specs.declared.Refusal.{Refusal}
@@ -23,15 +24,14 @@ use Rattle.refusal.proofs.Refusals.{refusal-some, refusal-one}
 use Rattle.rule.specs.Rules.{limit, in_range}
 use Rattle.figure.specs.Figure.{Figure, share, bad_figure}
 use Rattle.figure.proofs.Fault.{rings-good}
-use Rattle.number.specs.Reading.{Reading, read}
+use Rattle.number.specs.Reading.{Reading, read, fault, past}
 use Rattle.number.specs.Number.{number_bytes}
+use Rattle.number.proofs.Number.{apart}
 use Rattle.number.proofs.Bytes.{bytes-length, stands-front, stands-whole}
 use Rattle.job.specs.Bytes.{coordinate_bytes, header_bytes, ring_bytes, figure_bytes}
 use Rattle.job.specs.Job.{most_bytes, most_outlines, Part, outlines, Header, Job, job}
 use Rattle.job.specs.Steps.{announce_bytes}
 use Rattle.job.specs.Calls.{WriteSaid, unwritten, header_written, outline_written, write_told}
-use Rattle.job.specs.declared.write.Written.{Written}
-use Rattle.job.specs.declared.write.Written.TheVariants as write
 use Rattle.job.proofs.Job.{job-whole}
 use Rattle.job.proofs.RoundTrip.{header-back}
 use Rattle.job.proofs.ByCalls.{stood, fits, figure-goes}
@@ -41,18 +41,15 @@ use Rattle.index.specs.Steps.{starts_in, Noted, Parted, changed_for}
 
 -- what a writer tells that stores all of some bytes
 
-module _ (u : Written) (b o out : List ℕ) (all : write_told u o ≡ stood b out) where
-  stood_known : {n : ℕ} → u ≡ write.Bytes n → (n ≡ length b) × (take n o ≡ b)
-  stood_known {n} e =
-      let z = ap (λ (v : Written). write_told v o) (sym e) ∙ all in
-      let m : n ≡ length b = ap (λ (v : WriteSaid). v.bytes) z in
-      let q : o ≡ b ++ drop (length b) out = ap (λ (v : WriteSaid). v.out) z in
+module _ (b o out : List ℕ) where
+  stood_known : {n : ℕ} → write_told (Ok n) o ≡ stood b out → (n ≡ length b) × (take n o ≡ b)
+  stood_known {n} all =
+      let m : n ≡ length b = ap (λ (v : WriteSaid). v.bytes) all in
+      let q : o ≡ b ++ drop (length b) out = ap (λ (v : WriteSaid). v.out) all in
       (m, ap (take n) q ∙ take_at b (drop (length b) out) n (sym m))
 
-  stood_never : {why : Refusal} → u ≡ write.Refused why → ⊥
-  stood_never {why} e =
-      let z : refusal_no why ≡ 0 = ap (λ (v : WriteSaid). v.number) (ap (λ (v : Written). write_told v o) (sym e) ∙ all) in
-      omega (arith, refusal-some why, z)
+  stood_never : (why : Refusal) → write_told (Err why) o ≡ stood b out → ⊥
+  stood_never why all = let z : refusal_no why ≡ 0 = ap (λ (v : WriteSaid). v.number) all in omega (arith, refusal-some why, z)
 
 -- a header
 
@@ -72,18 +69,18 @@ header-length t w n =
       length-append (number_bytes w) (number_bytes n),
     )
 
-module _ (t w n : ℕ) (ht : t ≤ limit) (hw : w ≤ limit) (hn : n ≤ most_outlines) (u : Written) (o out : List ℕ)
-    (told : write_told u o ≡ header_written t w n out) (room : 9 ≤ length out) where
-  header_stood : write_told u o ≡ stood (header_bytes t w n) out
+module _ (t w n : ℕ) (ht : t ≤ limit) (hw : w ≤ limit) (hn : n ≤ most_outlines) (o out : List ℕ) (room : 9 ≤ length out) where
+  header_stood : header_written t w n out ≡ stood (header_bytes t w n) out
   header_stood =
-      told ∙ sym (header-few t w n out (in_range_lem t w ht hw) hn) ∙ fits out (header_bytes t w n) (omega (arith, header-length t w n))
+      sym (header-few t w n out (in_range_lem t w ht hw) hn) ∙ fits out (header_bytes t w n) (omega (arith, header-length t w n))
 
-  pub header-known : {m : ℕ} → u ≡ write.Bytes m → (m ≡ length (header_bytes t w n)) × (take m o ≡ header_bytes t w n) × (m ≤ 9)
-  header-known e =
-      let k = stood_known u (header_bytes t w n) o out header_stood e in (k.0, k.1, omega (arith, k.0, header-length t w n))
+  pub header-known : {m : ℕ} → write_told (Ok m) o ≡ header_written t w n out
+      → (m ≡ length (header_bytes t w n)) × (take m o ≡ header_bytes t w n) × (m ≤ 9)
+  header-known told =
+      let k = stood_known (header_bytes t w n) o out (told ∙ header_stood) in (k.0, k.1, omega (arith, k.0, header-length t w n))
 
-  pub header_never : {why : Refusal} → u ≡ write.Refused why → ⊥
-  header_never e = stood_never u (header_bytes t w n) o out header_stood e
+  pub header_never : (why : Refusal) → write_told (Err why) o ≡ header_written t w n out → ⊥
+  header_never why told = stood_never (header_bytes t w n) o out why (told ∙ header_stood)
 
 -- a figure
 
@@ -121,33 +118,33 @@ module _ (f : Figure) where
         g.most,
       )
 
-  module _ (u : Written) (o out : List ℕ) (told : write_told u o ≡ outline_written f out) (room : 222 ≤ length out) where
-    figure_stood : bad_figure f ≡ false → write_told u o ≡ stood bytes_of out
-    figure_stood good = told ∙ figure-goes f out good ∙ fits out bytes_of (omega (arith, figure-small good))
+  module _ (o out : List ℕ) (room : 222 ≤ length out) where
+    figure_stood : bad_figure f ≡ false → outline_written f out ≡ stood bytes_of out
+    figure_stood good = figure-goes f out good ∙ fits out bytes_of (omega (arith, figure-small good))
 
-    figure_badly : bad_figure f ≡ true → write_told u o ≡ unwritten (refusal_no Length) out
-    figure_badly bad = told ∙ sym (outline_bad f out bad)
+    figure_badly : bad_figure f ≡ true → outline_written f out ≡ unwritten (refusal_no Length) out
+    figure_badly bad = sym (outline_bad f out bad)
 
-    pub figure-known : {m : ℕ} → u ≡ write.Bytes m
+    pub figure-known : {m : ℕ} → write_told (Ok m) o ≡ outline_written f out
         → (bad_figure f ≡ false) × (m ≡ length (figure_bytes (share f.lengths f.numbers)))
         × (take m o ≡ figure_bytes (share f.lengths f.numbers)) × (m ≤ 222)
-    figure-known {m} e = go (bad_figure f) refl
+    figure-known {m} told = go (bad_figure f) refl
       where
         go : (b : Bool) → bad_figure f ≡ b → (bad_figure f ≡ false) × (m ≡ length bytes_of) × (take m o ≡ bytes_of) × (m ≤ 222)
         go true p =
-            let z : 0 ≡ refusal_no Length = ap (λ (v : WriteSaid). v.number) (ap (λ (v : Written). write_told v o) (sym e) ∙ figure_badly p) in
+            let z : 0 ≡ refusal_no Length = ap (λ (v : WriteSaid). v.number) (told ∙ figure_badly p) in
             absurd (omega (arith, refusal-some Length, z))
         go false p =
-            let k = stood_known u bytes_of o out (figure_stood p) e in (p, k.0, k.1, omega (arith, k.0, figure-small p))
+            let k = stood_known bytes_of o out (told ∙ figure_stood p) in (p, k.0, k.1, omega (arith, k.0, figure-small p))
 
-    pub figure-refused : {why : Refusal} → u ≡ write.Refused why → (bad_figure f ≡ true) × (why ≡ Length)
-    figure-refused {why} e = go (bad_figure f) refl
+    pub figure-refused : (why : Refusal) → write_told (Err why) o ≡ outline_written f out → (bad_figure f ≡ true) × (why ≡ Length)
+    figure-refused why told = go (bad_figure f) refl
       where
         go : (b : Bool) → bad_figure f ≡ b → (bad_figure f ≡ true) × (why ≡ Length)
         go true p =
-            let z : refusal_no why ≡ refusal_no Length = ap (λ (v : WriteSaid). v.number) (ap (λ (v : Written). write_told v o) (sym e) ∙ figure_badly p) in
+            let z : refusal_no why ≡ refusal_no Length = ap (λ (v : WriteSaid). v.number) (told ∙ figure_badly p) in
             (p, refusal-one why Length z)
-        go false p = absurd (stood_never u bytes_of o out (figure_stood p) e)
+        go false p = absurd (stood_never bytes_of o out why (told ∙ figure_stood p))
 
 -- three runs of bytes
 
@@ -214,6 +211,19 @@ module _ (t w n : ℕ) (a b index out : List ℕ) (fit : Parted t w n (a ++ b)) 
         let y : wh.first ≡ length (header_bytes t w n) = cc in
         ap₂ (λ k i. outlines new k i) (sym (ap (λ (h : Header). h.count) z)) (e ∙ sym y) ∙ wh.parts_are
 
+    -- what stands at the front of the buffer is the new job
+    new_stands : m ≤ length out → (s q : List ℕ) → q ≡ sets out 0 new → s ≡ take m q → s ≡ new
+    new_stands h s q put taken =
+        taken
+        ∙ ap (take m) (put ∙ sets_front out new (omega (arith, long)))
+        ∙ take_at new (drop (length new) out) m (sym long)
+
+    -- and its figures read well
+    pub anew_never : {first : ℕ} → first ≡ length (header_bytes t w n) → m ≤ length out → (s q : List ℕ)
+        → q ≡ sets out 0 (header_bytes t w n ++ (a ++ b)) → s ≡ take m q → {r : Refusal} {p : ℕ} → fault r p ≡ past (outlines s n first) → ⊥
+    anew_never {first} e h s q put taken f =
+        apart (sym (f ∙ ap past (ap (λ (v : List ℕ). outlines v n first) (new_stands h s q put taken) ∙ new_parts e)))
+
     pub anew_done : {first : ℕ} → first ≡ length (header_bytes t w n) → m ≤ length out → n ≤ length index → (s q done : List ℕ)
         → q ≡ sets out 0 (header_bytes t w n ++ (a ++ b)) → s ≡ take m q → Noted (outlines s n first) index done
         → record { number = 0; bytes = m; outlines = n; offset = 0; index = done; out = q } ≡ changed_for (header_bytes t w n ++ (a ++ b)) index out
@@ -221,7 +231,7 @@ module _ (t w n : ℕ) (a b index out : List ℕ) (fit : Parted t w n (a ++ b)) 
         let j : Job = reads.0 in
         let said : ℕ → ℕ → List ℕ → List ℕ → ChangeSaid = λ x y i o. record { number = 0; bytes = x; outlines = y; offset = 0; index = i; out = o } in
         let front : q ≡ new ++ drop (length new) out = put ∙ sets_front out new (omega (arith, long)) in
-        let same : s ≡ new = taken ∙ ap (take m) front ∙ take_at new (drop (length new) out) m (sym long) in
+        let same = new_stands h s q put taken in
         let starts : List ℕ = starts_in j.parts in
         let l : length starts ≡ length j.parts = length-map j.parts (λ (p : Part). p.start) in
         let kept : done ≡ sets index 0 starts =

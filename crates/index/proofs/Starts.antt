@@ -17,10 +17,10 @@ use native.Mathlib.Nat.{le_of_suc-le-suc, not-suc-le-zero}
 use native.Mathlib.Numerals.{add-one}
 use native.Mathlib.Omega.{arith}
 use lib.Dec.{ltb}
-use lib.ListN.{length, get_or, take, drop, set, length-map}
+use lib.ListN.{length, get_or, take, drop, set, length-map, length-take}
 use lib.Seq.{sets}
 use borrow.Author.Tests.{lt-ltb, le-ltb, ltb-true}
-use Rattle.sum.proofs.Lists.{sets_append}
+use Rattle.sum.proofs.Lists.{sets_append, sets_front}
 use Rattle.refusal.specs.declared.Refusal.{Refusal}
 use Rattle.refusal.specs.declared.Refusal.TheVariants.{Long, Missing}
 use Rattle.refusal.specs.Refusals.{refusal_no}
@@ -32,6 +32,7 @@ use Rattle.job.specs.Steps.{located}
 use Rattle.job.specs.Calls.{told}
 use Rattle.job.specs.Placed.{Lies}
 use Rattle.job.proofs.Job.{told-fault, told-read, part-read, outline-onward}
+use Rattle.job.proofs.Unpacking.{sets_all}
 use Rattle.index.specs.Index.{found, picked_by, picked, start_in, picked_at}
 use Rattle.index.specs.Steps.{starts_in, Noted, place_of}
 
@@ -120,18 +121,27 @@ module _ (s : List ℕ) (from : ℕ) (before : List ℕ) where
               ∙ ap (sets before 0) (sym (map_last (λ (p : Part). p.start) g.done h.0));
         }
 
-    pub noting_fault : (n : ℕ) {r : Refusal} {p : ℕ} → fault r p ≡ located s 0 at → i < n
-        → (fault r p ≡ past (outlines s n from)) × Noted (outlines s n from) before starts
+    pub noting_fault : (n : ℕ) {r : Refusal} {p : ℕ} → fault r p ≡ located s 0 at → i < n → (l m : List ℕ)
+        → (fault r p ≡ past (outlines s n from)) × Noted (outlines s n from) l m
     unfolding outlines
-    noting_fault n e h =
+    noting_fault n e h l m =
         let b = many_broken (part s) i from n g.reads (here-fault s at e) h in
-        (sym (ap past b), subst (λ u. Noted u before starts) (sym b) tt)
+        (sym (ap past b), subst (λ u. Noted u l m) (sym b) tt)
 
-    pub noting_done : (n : ℕ) → n ≤ i → i ≤ n → (read tt at ≡ past (outlines s n from)) × Noted (outlines s n from) before starts
-    noting_done n h k =
+    -- what was noted is the front of a list
+    pub noting_done : (n : ℕ) → n ≤ i → i ≤ n → (l : List ℕ) → before ≡ take n l → n ≤ length l
+        → (read tt at ≡ past (outlines s n from)) × Noted (outlines s n from) l (starts ++ drop n l)
+    unfolding outlines
+    noting_done n h k l front room =
         let z : n ≡ i = omega arith in
         let b = ap (λ m. outlines s m from) z ∙ g.reads in
-        (sym (ap past b), subst (λ u. Noted u before starts) (sym b) g.stored)
+        let S : List ℕ = starts_in g.done in
+        let m : length S ≡ i = length-map g.done (λ (p : Part). p.start) ∙ many-length (part s) i from g.reads in
+        let y : n ≡ length S = omega arith in
+        let stored : starts ≡ S = g.stored ∙ ap (λ (t : List ℕ). sets t 0 S) front ∙ sets_all (take n l) S (omega (arith, length-take n l)) in
+        let all : starts ++ drop n l ≡ sets l 0 S =
+        ap₂ (λ (t : List ℕ) q. t ++ drop q l) stored y ∙ sym (sets_front l S (omega arith))
+        in (sym (ap past b), subst (λ u. Noted u l (starts ++ drop n l)) (sym b) all)
 
 -- finding by an entry
 

@@ -23,18 +23,16 @@
 --   start_in r              == where an outline that is found starts; with a refusal 0
 --   picked_at s index n k   == where the part starts that is handed back; beside a refusal, at the job's first byte
 --   open_told, change_told   == the same for each case of an answer of the code, with the lent memory afterwards
-use Rattle.std.specs.Prelude.{ℕ, suc, ◌≡◌, List, [], ◌∷◌, ◌++◌, map, cond, ◌&&◌, length, get_or, take, drop, ltb, leb}
+use Rattle.std.specs.Prelude.{ℕ, suc, ◌≡◌, List, [], ◌∷◌, ◌++◌, map, cond, ◌&&◌, length, get_or, take, drop, ltb, leb, Result, Ok, Err}
 use Rattle.refusal.specs.declared.Refusal.TheVariants as because
+use Rattle.refusal.specs.declared.Fault.{Fault}
 use Rattle.refusal.specs.Refusals.{refusal_no}
 use Rattle.number.specs.Reading.{Reading, read, fault}
 use Rattle.figure.specs.Figure.{Figure, share, bad_figure}
 use Rattle.job.specs.Bytes.{job_bytes}
 use Rattle.job.specs.Job.{most_bytes, most_outlines, Part, part, Job, job}
 use Rattle.job.specs.Calls.{TakeSaid, told, part_bytes}
-use Rattle.index.specs.declared.opening.Opened.{Opened}
-use Rattle.index.specs.declared.opening.Opened.TheVariants as opens
 use Rattle.index.specs.declared.changing.Changed.{Changed}
-use Rattle.index.specs.declared.changing.Changed.TheVariants as changes
 
 abbrev pub starts_of : Job → List ℕ
 starts_of j = map (λ (p : Part). p.start) j.parts
@@ -67,9 +65,9 @@ opened_by index (fault r at) = unopened (refusal_no r) at index
 unfoldable pub opened : List ℕ → List ℕ → OpenSaid
 opened s index = opened_by index (job s)
 
-abbrev pub open_told : Opened → List ℕ → OpenSaid
-open_told (opens.Outlines n) index = record { number = 0; outlines = n; offset = 0; index = index }
-open_told (opens.Refused r at) index = unopened (refusal_no r) at index
+abbrev pub open_told : Result ℕ Fault → List ℕ → OpenSaid
+open_told (Ok n) index = record { number = 0; outlines = n; offset = 0; index = index }
+open_told (Err e) index = unopened (refusal_no e.why) e.at index
 
 -- append, remove
 
@@ -130,9 +128,9 @@ removed_from k index out (fault r at) = unchanged (refusal_no r) at index out
 unfoldable pub removed : List ℕ → ℕ → List ℕ → List ℕ → ChangeSaid
 removed s k index out = removed_from k index out (job s)
 
-abbrev pub change_told : Changed → List ℕ → List ℕ → ChangeSaid
-change_told (changes.Job b n) index out = record { number = 0; bytes = b; outlines = n; offset = 0; index = index; out = out }
-change_told (changes.Refused r at) index out = unchanged (refusal_no r) at index out
+abbrev pub change_told : Result Changed Fault → List ℕ → List ℕ → ChangeSaid
+change_told (Ok c) index out = record { number = 0; bytes = c.bytes; outlines = c.outlines; offset = 0; index = index; out = out }
+change_told (Err e) index out = unchanged (refusal_no e.why) e.at index out
 
 -- pick
 

@@ -6,28 +6,26 @@ ghost use Rattle.job.specs.Steps.{past_told};
 ghost use Rattle.index.specs.Steps.{Noted};
 
 use job::read;
-use job::read::{Located, Past};
 use number::Cursor;
+use refusal::Fault;
 
 // Past so many figures, and where each begins at the front of a list; or the first fault.
-pub(crate) fn note(job: &[u8], from: Cursor, count: usize, starts: &mut [u16]) -> Past
+pub(crate) fn note(
+    job: &[u8],
+    from: Cursor,
+    count: usize,
+    starts: &mut [u16],
+) -> Result<Cursor, Fault>
     requires { (length job.now ≤ most_bytes) × (count ≤ length starts.old) }
     ensures result_value { past_told result ≡ past (outlines job.now count from.at) }
     ensures noted { Noted (outlines job.now count from.at) starts.old starts.new }
 {
     let mut c = from;
-    let mut i = 0;
-    while i < count {
-        match read::locate(job, c, 0) {
-            Located::Fault(r, p) => {
-                return Past::Fault(r, p);
-            }
-            Located::Part(start, end) => {
-                starts[i] = start as u16;
-                c = Cursor { at: end };
-            }
-        }
-        i += 1;
+    let front = &mut starts[..count];
+    for start in front.iter_mut() {
+        let part = read::locate(job, c, 0)?;
+        *start = part.start as u16;
+        c = Cursor { at: part.end };
     }
-    Past::At(c)
+    Ok(c)
 }

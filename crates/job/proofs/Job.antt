@@ -6,7 +6,7 @@
 --   ring-fault, ring_go, ring_inv, ring_long, ring-onward == a ring, by its V
 --   sized-V, sized-fault, sized-read, ring-sized == its V with the place past it
 --   rings-fault, rings_go, rings-first, rings-none, rings-length, rings-onward == rings in a row, by the first
---   announces-none, announces_byte, announces_true == whether rings are announced
+--   announces-none, announces-short, announces_byte, announces_true == whether rings are announced
 --   begun-many, begun-one, begun-some == how many rings there are
 --   outline-begun, outline-fault, outline_go, outline-rings, outline-past, outline-onward == a figure, by its rings
 --   part-past, part-read == a part, by its figure
@@ -202,6 +202,11 @@ module _ (s : List ℕ) (at : ℕ) where
   pub announces-none : length s ≤ at → false ≡ announces s at
   unfolding announces
   announces-none h = rw (le-ltb at (length s) h)
+
+  -- a test that failed says the same of it
+  pub announces-short : length s ≤ at → ltb at (length s) ≡ announces s at
+  unfolding announces
+  announces-short h = rw (le-ltb at (length s) h)
 
   pub announces_byte : at < length s → eqb (get_or s at 0) 0 ≡ announces s at
   unfolding announces

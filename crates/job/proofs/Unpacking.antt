@@ -1,28 +1,37 @@
 -- Laws of unpacking. Assumes nothing.
 --
+--   no_fault         == an answer is a number where what it tells of is no fault
+--   sets_all         == a run of stores that fills a list
 --   values_more      == the numbers read from one on
 --   Storing          == the state of the loop that stores coordinates: what is stored and what is still to be read give the whole
 --   storing_start, storing_more, storing_never, storing_done == the loop's ways
---   ring_never, ring-reads, ring-room, ring-stored == a ring that is known to read well, by its V
+--   part_stored      == a part of a list that is stored to
+--   ring_never, ring-reads, ring-room, ring-long, ring-stored == a ring that is known to read well, by its V
 --   Filling          == the state of the loop that stores rings, of both lists
 --   filling_start, filling_ring, filling_room, filling_few, filling_more, filling_done == the loop's ways
---   shown-numbers, shown-reads == the rings that are stored: how many numbers, and that they are read
+--   lengths-long     == as many lengths as rings
+--   shown-numbers, shown-lengths, shown-reads == the rings that are stored: how many numbers and lengths, and that they are read
 --   unpacked-..      == the cases of `unpacked`
 use Prim.Native.Nat.{ℕ, zero, suc, ◌+◌, ◌-◌, ◌*◌, ◌/◌, ◌<◌, ◌≤◌}
 use mathlib.Core.Path.{◌≡◌, ◌∙◌, refl, sym, ap, ap₂, subst}
-use mathlib.Core.List.{List, ◌∷◌, ◌++◌, map}
+use mathlib.Core.List.{List, ◌∷◌, ◌++◌, map, append_assoc, append-nil}
 use mathlib.Core.Bool.{and-false}
-use native.Mathlib.Nat.{sub-zero, add-zero}
+use native.Mathlib.Nat.{sub-zero}
 use native.Mathlib.Numerals.{add-one}
 use native.Mathlib.Omega.{arith}
-use lib.ListN.{length, drop, set, length-set, length-append, length-map}
-use lib.Seq.{sets, length-sets}
+use lib.ListN.{length, take, drop, set, length-set, length-append, length-map, drop_of_length-le}
+use lib.Seq.{sets, length-sets, sets-eq, drop-drop}
+use borrow.Rule.Slice.PartMut.{put_mid}
 use borrow.Author.Tests.{le-leb, lt-leb}
+use Rattle.std.specs.Prelude.{Result, Ok, Err, IsOk}
 use Rattle.sum.specs.Sum.{sum_of, join}
 use Rattle.sum.proofs.Lists.{sets_append, sets_front}
 use Rattle.refusal.specs.declared.Refusal.{Refusal}
 use Rattle.refusal.specs.declared.Refusal.TheVariants.{Extra, Room}
+use Rattle.refusal.specs.declared.Fault.{Fault}
 use Rattle.refusal.specs.Refusals.{refusal_no}
+use Rattle.number.specs.declared.Read.{Read}
+use Rattle.number.specs.Number.{read_told}
 use Rattle.number.specs.Reading.{Reading, read, fault, and_then, many, past}
 use Rattle.figure.specs.Figure.{most_corners, most_place, total}
 use Rattle.number.proofs.Reading.{one_less, many_go, many-fault, many-length, many-more-left}
@@ -54,21 +63,31 @@ is_read : {A : Type 0} (u : Reading A) → IsRead u → (a : A) × (last : ℕ) 
 is_read (read a last) h = (a, last, refl)
 is_read (fault r p) h = absurd h
 
+-- an answer is a number where what it tells of is no fault
+pub no_fault : (u : Result Read Fault) {v : Reading ℕ} → read_told u ≡ v → ((r : Refusal) (p : ℕ) → fault r p ≡ v → ⊥) → IsOk u
+no_fault (Ok r) e never = refl
+no_fault (Err d) e never = absurd (never d.why d.at e)
+
+-- a run of stores that fills a list
+pub sets_all : (l u : List ℕ) → length u ≡ length l → sets l 0 u ≡ u
+sets_all l u e =
+    sets_front l u (omega arith) ∙ ap (λ (d : List ℕ). u ++ d) (drop_of_length-le l (omega arith)) ∙ append-nil u
+
 -- storing
 
 -- on the way: the numbers stored and those still to be read give what the whole gives
-pub record Storing (s : List ℕ) (n from : ℕ) (before : List ℕ) (to i at : ℕ) (list : List ℕ) : Type 0 where
+pub record Storing (s : List ℕ) (n from : ℕ) (before : List ℕ) (i at : ℕ) (list : List ℕ) : Type 0 where
   pub most : i ≤ n
   pub same : length list ≡ length before
   pub reads : IsRead (coordinates s (n - i) at)
   pub ends : past (coordinates s n from) ≡ past (coordinates s (n - i) at)
-  pub all : sets list (to + i) (values_of (coordinates s (n - i) at)) ≡ sets before to (values_of (coordinates s n from))
+  pub all : sets list i (values_of (coordinates s (n - i) at)) ≡ sets before 0 (values_of (coordinates s n from))
 
-module _ (s : List ℕ) (n from : ℕ) (before : List ℕ) (to : ℕ) where
-  pub storing_start : IsRead (coordinates s n from) → Storing s n from before to 0 from before
-  storing_start h = record { most = omega arith; same = refl; reads = rw sub-zero h; ends = rw sub-zero; all = rw (sub-zero, add-zero) }
+module _ (s : List ℕ) (n from : ℕ) (before : List ℕ) where
+  pub storing_start : IsRead (coordinates s n from) → Storing s n from before 0 from before
+  storing_start h = record { most = omega arith; same = refl; reads = rw sub-zero h; ends = rw sub-zero; all = rw sub-zero }
 
-  module _ (i at : ℕ) (list : List ℕ) (h : Storing s n from before to i at list) where
+  module _ (i at : ℕ) (list : List ℕ) (h : Storing s n from before i at list) where
     module _ (k : i < n) where
       still : IsRead (coordinates s (suc (n - (i + 1))) at)
       still = subst (λ m. IsRead (coordinates s m at)) (one_less n i k) h.reads
@@ -77,30 +96,43 @@ module _ (s : List ℕ) (n from : ℕ) (before : List ℕ) (to : ℕ) where
       unfolding coordinates
       storing_never e = values_never (value s 0 most_place) (n - (i + 1)) at e still
 
-      pub storing_more : {v next : ℕ} → read v next ≡ value s 0 most_place at → Storing s n from before to (i + 1) next (set list (to + i) v)
+      pub storing_more : {v next : ℕ} → read v next ≡ value s 0 most_place at → Storing s n from before (i + 1) next (set list i v)
       unfolding coordinates
       storing_more {v} {next} e =
           let m = values_more (value s 0 most_place) (n - (i + 1)) at e still in
           let rest : List ℕ = values_of (coordinates s (n - (i + 1)) next) in
-          let z : to + (i + 1) ≡ suc (to + i) = omega arith in
           record {
             most = omega arith;
-            same = length-set list (to + i) v ∙ h.same;
+            same = length-set list i v ∙ h.same;
             reads = m.0;
             ends = h.ends ∙ many-more-left (value s 0 most_place) at n i k (ap past e);
             all =
-                ap (λ j. sets (set list (to + i) v) j rest) z
-                ∙ sym (ap (sets list (to + i)) (ap (λ j. values_of (coordinates s j at)) (one_less n i k) ∙ m.1))
+                ap (λ j. sets (set list i v) j rest) (add-one i)
+                ∙ sym (ap (sets list i) (ap (λ j. values_of (coordinates s j at)) (one_less n i k) ∙ m.1))
                 ∙ h.all;
           }
 
-    pub storing_done : n ≤ i → (read tt at ≡ past (coordinates s n from)) × (list ≡ sets before to (values_of (coordinates s n from)))
+    pub storing_done : n ≤ i → length before ≡ n → IsRead (coordinates s n from)
+        → (read tt at ≡ past (coordinates s n from)) × (list ≡ values_of (coordinates s n from))
     unfolding coordinates many
-    storing_done k =
-        let e : n - i ≡ 0 = omega arith in (
+    storing_done k long good =
+        let e : n - i ≡ 0 = omega arith in
+        let u = is_read (coordinates s n from) good in
+        let vs : List ℕ = values_of (coordinates s n from) in
+        let m : length vs ≡ n = ap (λ w. length (values_of w)) u.2 ∙ many-length (value s 0 most_place) n from u.2 in (
           sym (h.ends ∙ ap (λ j. past (coordinates s j at)) e),
-          sym (ap (λ j. sets list (to + i) (values_of (coordinates s j at))) e) ∙ h.all,
+          sym (ap (λ j. sets list i (values_of (coordinates s j at))) e)
+              ∙ h.all
+              ∙ sets_all before vs (omega arith),
         )
+
+-- a part of a list that is stored to
+pub part_stored : (l ys : List ℕ) (a n : ℕ) → length ys ≡ n → a + n ≤ length l → put_mid a (a + n - a) l ys ≡ sets l a ys
+part_stored l ys a n e h =
+    let z : a + n - a ≡ length ys = omega arith in
+    ap (λ k. put_mid a k l ys) z
+    ∙ ap (λ (d : List ℕ). take a l ++ (ys ++ d)) (drop-drop (length ys) a l)
+    ∙ sym (sets-eq ys l a (omega arith) ∙ append_assoc (take a l) ys (drop (a + length ys) l))
 
 -- a ring
 
@@ -119,6 +151,12 @@ module _ (s : List ℕ) (most at : ℕ) (h : IsRead (ring s most at)) where
         let n = many-length (value s 0 most_place) (2 * v) next u.2 in
         let m = ap (λ w. length (values_of w)) (sym (ring_go s most at e) ∙ u.2) in
         omega (arith, n, m)
+
+    pub ring-long : length (values_of (coordinates s (2 * v) next)) ≡ 2 * v
+    unfolding coordinates
+    ring-long =
+        let u = is_read (coordinates s (2 * v) next) ring-reads in
+        ap (λ w. length (values_of w)) u.2 ∙ many-length (value s 0 most_place) (2 * v) next u.2
 
     pub ring-stored : (l : List ℕ) (to : ℕ) → sets l to (values_of (coordinates s (2 * v) next)) ≡ sets l to (values_of (ring s most at))
     ring-stored l to = ap (λ u. sets l to (values_of u)) (ring_go s most at e)
@@ -245,6 +283,12 @@ module _ (s : List ℕ) (n from : ℕ) (before counts : List ℕ) where
           sym (ap (λ j. sets lengths k (lengths_of (rings_from s j (most_corners - total) at))) e) ∙ h.corners,
         )
 
+-- as many lengths as rings
+pub lengths-long : (s : List ℕ) (n left at : ℕ) → IsRead (rings_from s n left at) → length (lengths_of (rings_from s n left at)) ≡ n
+lengths-long s n left at h =
+    let u = is_read (rings_from s n left at) h in
+    ap (λ w. length (lengths_of w)) u.2 ∙ length-map u.0 (λ (l : List ℕ). length l / 2) ∙ rings-length s n left at u.2
+
 -- the cases of `unpacked`
 
 -- rings that are read have two numbers for each corner
@@ -274,7 +318,7 @@ module _ (s : List ℕ) (n first : ℕ) {m last : ℕ} (f : read m last ≡ summ
   shown-numbers =
       ap (λ u. length (numbers_of u)) shown.1 ∙ rings-even s n most_corners first shown.1 ∙ ap (λ k. 2 * k) shown.2
 
-  shown-lengths : length (lengths_of (rings_from s n most_corners first)) ≡ n
+  pub shown-lengths : length (lengths_of (rings_from s n most_corners first)) ≡ n
   shown-lengths =
       ap (λ u. length (lengths_of u)) shown.1
       ∙ length-map shown.0 (λ (r : List ℕ). length r / 2)
@@ -321,11 +365,11 @@ module _ (s l ns : List ℕ) where
             simp (lt-leb (length (lengths_of (rings_from s n most_corners first))) (length ns) (omega (arith, shown-lengths s n first f)), and-false)
             in p ∙ read_all
 
-        pub unpacked-stored : (list lengths : List ℕ) → list ≡ sets l 0 (numbers_of (rings_from s n most_corners first))
-            → lengths ≡ sets ns 0 (lengths_of (rings_from s n most_corners first)) → 2 * m ≤ length l → n ≤ length ns
-            → record { number = 0; corners = m; rings = n; offset = 0; list = list; lengths = lengths } ≡ unpacked s l ns
+        pub unpacked-stored : (list done : List ℕ) → list ≡ sets l 0 (numbers_of (rings_from s n most_corners first))
+            → done ≡ lengths_of (rings_from s n most_corners first) → 2 * m ≤ length l → n ≤ length ns
+            → record { number = 0; corners = m; rings = n; offset = 0; list = list; lengths = done ++ drop n ns } ≡ unpacked s l ns
         unfolding filled_by
-        unpacked-stored list lengths el en kl kn =
+        unpacked-stored list done el en kl kn =
             let N : List ℕ = numbers_of (rings_from s n most_corners first) in
             let C : List ℕ = lengths_of (rings_from s n most_corners first) in
             let said : ℕ → ℕ → List ℕ → List ℕ → UnpackSaid =
@@ -340,9 +384,9 @@ module _ (s l ns : List ℕ) where
             ≡ filled_by (figure_of (values_of (rings_from s n most_corners first))) l ns =
             simp (le-leb (length N) (length l) fitsN, le-leb (length C) (length ns) fitsC)
             in
-            ap₂ (λ a b. said a b list lengths) (sym all) (sym (shown-lengths s n first f))
+            ap₂ (λ a b. said a b list (done ++ drop n ns)) (sym all) (sym (shown-lengths s n first f))
             ∙ ap₂ (λ (x y : List ℕ). said (total (figure_of (values_of (rings_from s n most_corners first)))) (length C) x y)
             (el ∙ sets_front l N fitsN)
-            (en ∙ sets_front ns C fitsC)
+            (ap₂ (λ (x : List ℕ) k. x ++ drop k ns) en (sym (shown-lengths s n first f)))
             ∙ q
             ∙ read_all

@@ -4,7 +4,7 @@
 --   job_said r            == the same of a job that is read or not: a refusal has zeros beside its number and offset
 --   checked s            == checking the job s
 --   TakeSaid             == what taking a figure tells: number, offset, and the bytes of the part
---   told n at l          == the two numbers lent, and the part handed back
+--   told n at l          == a number, an offset, and the bytes of a part
 --   part_bytes s p        == the bytes of s from the start of the part p to its end
 --   no_part               == what stands past the last part
 --   part_taken s k r      == figure k of a job that is read or not: with a refusal the part is empty, and 13 comes last
@@ -19,8 +19,12 @@
 --   written_to out b      == the bytes b at the front of the buffer, or 14 where they do not fit
 --   header_written t w k out == writing a header: 1, 10 for K above 255, 14
 --   outline_written f out == writing the figure f: 2 for a bad ring count, ring length or total, 14
---   check_told, unpack_told, write_told == the same for each case of an answer of the code, with the lent memory afterwards
-use Rattle.std.specs.Prelude.{ℕ, ◌-◌, List, [], ◌++◌, cond, ◌&&◌, length, get_or, take, drop, ltb, leb}
+--   check_told, take_told, unpack_told, write_told == the same for each case of an answer of the code, with the lent memory
+--                           afterwards
+use Rattle.std.specs.Prelude.{ℕ, ◌-◌, List, [], ◌++◌, cond, ◌&&◌, length, get_or, take, drop, ltb, leb, Result, Ok, Err}
+use Rattle.std.specs.Borrow.{Bor}
+use Rattle.refusal.specs.declared.Refusal.{Refusal}
+use Rattle.refusal.specs.declared.Fault.{Fault}
 use Rattle.refusal.specs.declared.Refusal.TheVariants as because
 use Rattle.refusal.specs.Refusals.{refusal_no}
 use Rattle.number.specs.Reading.{Reading, read, fault}
@@ -28,12 +32,8 @@ use Rattle.rule.specs.Rules.{in_range}
 use Rattle.figure.specs.Figure.{Figure, share, total, bad_figure}
 use Rattle.job.specs.Bytes.{header_bytes, figure_bytes}
 use Rattle.job.specs.Job.{most_outlines, Part, Job, figure_of, outline, filled, job}
-use Rattle.job.specs.declared.read.Checked.{Checked}
-use Rattle.job.specs.declared.read.Checked.TheVariants as check
+use Rattle.job.specs.declared.read.Job.{Job as Checked}
 use Rattle.job.specs.declared.unpack.Unpacked.{Unpacked}
-use Rattle.job.specs.declared.unpack.Unpacked.TheVariants as unpack
-use Rattle.job.specs.declared.write.Written.{Written}
-use Rattle.job.specs.declared.write.Written.TheVariants as write
 
 -- check a whole job
 
@@ -52,9 +52,9 @@ job_said (fault r at) = record { number = refusal_no r; threshold = 0; weight = 
 unfoldable pub checked : List ℕ → CheckSaid
 checked s = job_said (job s)
 
-abbrev pub check_told : Checked → CheckSaid
-check_told (check.Job t w k) = record { number = 0; threshold = t; weight = w; outlines = k; offset = 0 }
-check_told (check.Refused r at) = record { number = refusal_no r; threshold = 0; weight = 0; outlines = 0; offset = at }
+abbrev pub check_told : Result Checked Fault → CheckSaid
+check_told (Ok j) = record { number = 0; threshold = j.threshold; weight = j.weight; outlines = j.outlines; offset = 0 }
+check_told (Err e) = record { number = refusal_no e.why; threshold = 0; weight = 0; outlines = 0; offset = e.at }
 
 -- take figure k
 
@@ -81,6 +81,10 @@ part_taken s k (fault r at) = record { number = refusal_no r; offset = at; part 
 
 unfoldable pub taken : List ℕ → ℕ → TakeSaid
 taken s k = part_taken s k (job s)
+
+abbrev pub take_told : Result (Bor (List ℕ)) Fault → TakeSaid
+take_told (Ok part) = told 0 0 part.now
+take_told (Err e) = told (refusal_no e.why) e.at []
 
 -- unpack a part
 
@@ -115,9 +119,9 @@ part_unpacked l ns (fault r at) = unfilled (refusal_no r) at l ns
 unfoldable pub unpacked : List ℕ → List ℕ → List ℕ → UnpackSaid
 unpacked p l ns = part_unpacked l ns (filled p (outline p 0))
 
-abbrev pub unpack_told : Unpacked → List ℕ → List ℕ → UnpackSaid
-unpack_told (unpack.Figure n r) l ns = record { number = 0; corners = n; rings = r; offset = 0; list = l; lengths = ns }
-unpack_told (unpack.Refused r at) l ns = unfilled (refusal_no r) at l ns
+abbrev pub unpack_told : Result Unpacked Fault → List ℕ → List ℕ → UnpackSaid
+unpack_told (Ok u) l ns = record { number = 0; corners = u.corners; rings = u.rings; offset = 0; list = l; lengths = ns }
+unpack_told (Err e) l ns = unfilled (refusal_no e.why) e.at l ns
 
 -- write
 
@@ -145,6 +149,6 @@ unfoldable pub outline_written : Figure → List ℕ → WriteSaid
 outline_written f out =
     cond (bad_figure f) (unwritten (refusal_no because.Length) out) (written_to out (figure_bytes (share f.lengths f.numbers)))
 
-abbrev pub write_told : Written → List ℕ → WriteSaid
-write_told (write.Bytes n) out = record { number = 0; bytes = n; out = out }
-write_told (write.Refused why) out = unwritten (refusal_no why) out
+abbrev pub write_told : Result ℕ Refusal → List ℕ → WriteSaid
+write_told (Ok n) out = record { number = 0; bytes = n; out = out }
+write_told (Err why) out = unwritten (refusal_no why) out

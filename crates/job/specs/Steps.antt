@@ -12,29 +12,27 @@
 --   values_of r       == the numbers, or the rings, that are read
 --   numbers_of r, lengths_of r == the two lists of the rings that are read
 --   announce_bytes n  == what stands before n rings: nothing before one, else 0 and n
-use Rattle.std.specs.Prelude.{ℕ, ◌+◌, ◌/◌, cond, List, [], ◌++◌, eqb, length}
+use Rattle.std.specs.Prelude.{ℕ, ◌+◌, ◌/◌, cond, List, [], ◌++◌, eqb, length, Result, Ok, Err}
+use Rattle.refusal.specs.declared.Fault.{Fault}
 use Rattle.number.specs.Reading.{Reading, read, fault, and_then}
 use Rattle.number.specs.Number.{number_bytes}
 use Rattle.figure.specs.Figure.{most_rings, total}
 use Rattle.job.specs.Job.{Header, header, job, least_rings, value, announces, figure_of, outlines, outline}
-use Rattle.job.specs.declared.read.Located.{Located}
-use Rattle.job.specs.declared.read.Located.TheVariants as locate
-use Rattle.job.specs.declared.read.Past.{Past}
-use Rattle.job.specs.declared.read.Past.TheVariants as past
-use Rattle.job.specs.declared.read.Head.{Head}
-use Rattle.job.specs.declared.read.Head.TheVariants as head
+use Rattle.number.specs.declared.Cursor.{Cursor}
+use Rattle.job.specs.declared.Header.{Header as Head}
+use Rattle.job.specs.declared.read.Part.{Part}
 
-abbrev pub past_told : Past → Reading (Unit {0})
-past_told (past.At c) = read tt c.at
-past_told (past.Fault r at) = fault r at
+abbrev pub past_told : Result Cursor Fault → Reading (Unit {0})
+past_told (Ok c) = read tt c.at
+past_told (Err e) = fault e.why e.at
 
-abbrev pub head_told : Head → Reading Header
-head_told (head.Header t w k c) = read (record { threshold = t; weight = w; count = k }) c.at
-head_told (head.Fault r at) = fault r at
+abbrev pub head_told : Result Head Fault → Reading Header
+head_told (Ok h) = read (record { threshold = h.threshold; weight = h.weight; count = h.outlines }) h.next.at
+head_told (Err e) = fault e.why e.at
 
-abbrev pub located_told : Located → Reading ℕ
-located_told (locate.Part start end) = read start end
-located_told (locate.Fault r at) = fault r at
+abbrev pub located_told : Result Part Fault → Reading ℕ
+located_told (Ok p) = read p.start p.end
+located_told (Err e) = fault e.why e.at
 
 unfoldable pub begun : List ℕ → ℕ → Reading ℕ
 begun s at = cond (announces s at) (value s least_rings most_rings (at + 1)) (read 1 at)

@@ -5,6 +5,8 @@ pub mod read;
 pub mod unpack;
 pub mod write;
 
+use number::Cursor;
+
 // No job has more bytes.
 pub const MOST_BYTES: usize = 4096;
 
@@ -22,3 +24,12 @@ const MOST_RINGS: u32 = figure::MOST_RINGS as u32;
 
 // A figure announces its rings from two on: one ring is not announced.
 const LEAST_RINGS: u32 = 2;
+
+// What a header says, and where the figures begin.
+#[derive(Clone, Copy, PartialEq, Eq)]
+pub struct Header {
+    pub threshold: u32,
+    pub weight: u32,
+    pub outlines: u32,
+    pub next: Cursor,
+}

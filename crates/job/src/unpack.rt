@@ -10,129 +10,89 @@ ghost use Rattle.job.specs.Steps.{sized, IsRead, values_of, numbers_of, lengths_
 use crate::{LEAST_CORNERS, MOST_CORNERS, read};
 use figure::MOST_PLACE;
 use number::{Cursor, Read};
-use refusal::Refusal;
+use refusal::{Fault, Refusal};
 
-// Corners in all and rings, with both lists filled; or why the part is refused and where.
-#[derive(Clone, Copy)]
-pub enum Unpacked {
-    Figure { corners: u32, rings: u32 },
-    Refused(Refusal, usize),
+// How many corners a figure has in all, and how many rings.
+#[derive(Clone, Copy, PartialEq, Eq)]
+pub struct Unpacked {
+    pub corners: u32,
+    pub rings: u32,
 }
 
-// A ring that is stored: how many corners it has, and the place past its bytes.
-#[derive(Clone, Copy)]
-struct Stored {
-    corners: u32,
-    next: Cursor,
-}
-
-// Stores n coordinates, which are known to read well, at a place of the list, and gives the place past their bytes.
-fn store(part: &[u8], from: Cursor, n: usize, list: &mut [u16], to: usize) -> Cursor
-    requires read { IsRead (coordinates part.now n from.at) }
-    requires n_in_bounds { to + n ≤ length list.old }
-    ensures at_value { read tt result.at ≡ past (coordinates part.now n from.at) }
-    ensures list_after { list.new ≡ sets list.old to (values_of (coordinates part.now n from.at)) }
+// Stores coordinates, which are known to read well, until the list is full, and gives the place past their bytes.
+fn store(part: &[u8], from: Cursor, list: &mut [u16]) -> Cursor
+    requires read { IsRead (coordinates part.now (length list.old) from.at) }
+    ensures at_value { read tt result.at ≡ past (coordinates part.now (length list.old) from.at) }
+    ensures list_after { list.new ≡ values_of (coordinates part.now (length list.old) from.at) }
 {
     let mut c = from;
-    let mut i = 0;
-    while i < n {
-        match read::value(part, c, 0, MOST_PLACE) {
-            Read::Fault(_, _) => {
-                return c;
-            }
-            Read::Number(v, next) => {
-                list[to + i] = v as u16;
-                c = next;
-            }
-        }
-        i += 1;
+    for place in list.iter_mut() {
+        let read = read::value(part, c, 0, MOST_PLACE).unwrap();
+        *place = read.value as u16;
+        c = read.next;
     }
     c
 }
 
-// Stores the coordinates of a ring, which is known to read well, at a place of the list.
-fn store_ring(part: &[u8], from: Cursor, most: u32, list: &mut [u16], to: usize) -> Stored
+// Stores the coordinates of a ring, which is known to read well, at a place of the list. Gives how many corners it has, with the
+// place past its bytes.
+fn store_ring(part: &[u8], from: Cursor, most: u32, list: &mut [u16], to: usize) -> Read
     requires most_le_most_corners { most ≤ most_corners }
     requires read { IsRead (ring part.now most from.at) }
     requires at_in_bounds { to + length (values_of (ring part.now most from.at)) ≤ length list.old }
-    ensures at_value { read result.corners result.next.at ≡ sized (ring part.now most from.at) }
+    ensures at_value { read result.value result.next.at ≡ sized (ring part.now most from.at) }
     ensures list_after { list.new ≡ sets list.old to (values_of (ring part.now most from.at)) }
 {
-    match read::value(part, from, LEAST_CORNERS, most) {
-        Read::Fault(_, _) => Stored {
-            corners: 0,
-            next: from,
-        },
-        Read::Number(v, first) => {
-            let n = 2 * (v as usize);
-            let end = store(part, first, n, list, to);
-            Stored {
-                corners: v,
-                next: end,
-            }
-        }
+    let v = read::value(part, from, LEAST_CORNERS, most).unwrap();
+    let n = 2 * (v.value as usize);
+    let end = store(part, v.next, &mut list[to..to + n]);
+    Read {
+        value: v.value,
+        next: end,
     }
 }
 
-// Notes how many corners ring k has.
-fn note(lengths: &mut [u16], k: usize, corners: u32)
-    requires { (k < length lengths.old) × (corners ≤ most_corners) }
-    ensures { lengths.new ≡ set lengths.old k corners }
-{
-    lengths[k] = corners as u16;
-}
-
-// Stores so many rings, which are known to read well, at the front of the two lists: their coordinates, one ring after the other,
-// and how many corners each has.
-fn store_rings(part: &[u8], from: Cursor, count: usize, list: &mut [u16], lengths: &mut [u16])
-    requires read { IsRead (rings_from part.now count most_corners from.at) }
-    requires at_in_bounds { length (numbers_of (rings_from part.now count most_corners from.at)) ≤ length list.old }
-    requires count_in_bounds { count ≤ length lengths.old }
-    ensures list_after { list.new ≡ sets list.old 0 (numbers_of (rings_from part.now count most_corners from.at)) }
-    ensures lengths_after { lengths.new ≡ sets lengths.old 0 (lengths_of (rings_from part.now count most_corners from.at)) }
+// Stores rings, which are known to read well, until the list of lengths is full: their coordinates at the front of the other list, one
+// ring after the other, and how many corners each has.
+fn store_rings(part: &[u8], from: Cursor, list: &mut [u16], lengths: &mut [u16])
+    requires read { IsRead (rings_from part.now (length lengths.old) most_corners from.at) }
+    requires at_in_bounds { length (numbers_of (rings_from part.now (length lengths.old) most_corners from.at)) ≤ length list.old }
+    ensures list_after { list.new ≡ sets list.old 0 (numbers_of (rings_from part.now (length lengths.old) most_corners from.at)) }
+    ensures lengths_after { lengths.new ≡ lengths_of (rings_from part.now (length lengths.old) most_corners from.at) }
 {
     let mut c = from;
     let mut total = 0;
-    let mut k = 0;
-    while k < count {
+    for length in lengths.iter_mut() {
         let to = 2 * (total as usize);
         let ring = store_ring(part, c, MOST_CORNERS - total, list, to);
-        let v = ring.corners;
-        note(lengths, k, v);
-        total += v;
+        *length = ring.value as u16;
+        total += ring.value;
         c = ring.next;
-        k += 1;
     }
 }
 
 // The two lists of the one figure that the part holds, and nothing after it; nothing is written before the whole part is seen and
 // both lists are known to be long enough.
-pub fn unpack(part: &[u8], list: &mut [u16], lengths: &mut [u16]) -> Unpacked
+pub fn unpack(part: &[u8], list: &mut [u16], lengths: &mut [u16]) -> Result<Unpacked, Fault>
     ensures settled { unpack_told result list.new lengths.new ≡ unpacked part.now list.old lengths.old }
 {
-    match read::begin(part, Cursor { at: 0 }) {
-        Read::Fault(r, p) => Unpacked::Refused(r, p),
-        Read::Number(count, first) => match read::rings(part, first, count) {
-            Read::Fault(r, p) => Unpacked::Refused(r, p),
-            Read::Number(corners, end) => {
-                let at = end.at;
-                if at < part.len() {
-                    return Unpacked::Refused(Refusal::Extra, at);
-                }
-                let n = 2 * (corners as usize);
-                if list.len() < n {
-                    return Unpacked::Refused(Refusal::Room, 0);
-                }
-                let rings = count as usize;
-                if lengths.len() < rings {
-                    return Unpacked::Refused(Refusal::Room, 0);
-                }
-                store_rings(part, first, rings, list, lengths);
-                Unpacked::Figure {
-                    corners,
-                    rings: count,
-                }
-            }
-        },
+    let count = read::begin(part, Cursor { at: 0 })?;
+    let corners = read::rings(part, count.next, count.value)?;
+    let at = corners.next.at;
+    if at < part.len() {
+        return Err(Refusal::Extra.at(at));
     }
+    let n = 2 * (corners.value as usize);
+    if list.len() < n {
+        return Err(Fault::from(Refusal::Room));
+    }
+    let rings = count.value as usize;
+    if lengths.len() < rings {
+        return Err(Fault::from(Refusal::Room));
+    }
+    store_rings(part, count.next, list, &mut lengths[..rings]);
+    Ok(Unpacked {
+        corners: corners.value,
+        rings: count.value,
+    })
 }

@@ -11,14 +11,10 @@ ghost use Rattle.job.specs.Calls.{write_told, header_written, outline_written};
 use crate::MOST_OUTLINES;
 use figure::rings;
 use refusal::Refusal;
-use rule::{Made, Rule};
+use rule::Rule;
 
-// How many bytes stand at the front of the buffer, or why none do.
-#[derive(Clone, Copy)]
-pub enum Written {
-    Bytes(usize),
-    Refused(Refusal),
-}
+// Room for a header's three numbers, of three bytes at most each. A header in range takes six at most.
+pub const HEADER_BYTES: usize = 9;
 
 // How many bytes a number has.
 fn size(n: u32) -> usize
@@ -52,23 +48,14 @@ fn put(out: &mut [u8], at: usize, n: u32) -> usize
     at + 3
 }
 
-// A coordinate, or a ring length, as a number.
-fn wide(x: u16) -> u32
-    ensures { result ≡ x }
-{
-    x as u32
-}
-
 // How many bytes some numbers have: the coordinates, or the ring lengths.
 fn sizes(numbers: &[u16]) -> usize
     requires { length numbers.now ≤ 2 * most_corners }
     ensures { (result ≡ length (coordinate_bytes numbers.now)) × (result ≤ 6 * most_corners) }
 {
     let mut total = 0;
-    let mut i = 0;
-    while i < numbers.len() {
-        total += size(wide(numbers[i]));
-        i += 1;
+    for x in numbers {
+        total += size(u32::from(*x));
     }
     total
 }
@@ -80,10 +67,8 @@ fn put_all(corners: &[u16], out: &mut [u8], from: usize) -> usize
     ensures out_after { out.new ≡ sets out.old from (coordinate_bytes corners.now) }
 {
     let mut at = from;
-    let mut i = 0;
-    while i < corners.len() {
-        at = put(out, at, wide(corners[i]));
-        i += 1;
+    for x in corners {
+        at = put(out, at, u32::from(*x));
     }
     at
 }
@@ -108,8 +93,8 @@ fn put_rings(corners: &[u16], lengths: &[u16], out: &mut [u8], first: usize)
 {
     let mut at = first;
     let mut from: usize = 0;
-    for k in 0..lengths.len() {
-        let to = from + 2 * (wide(lengths[k]) as usize);
+    for length in lengths {
+        let to = from + 2 * usize::from(*length);
         at = put_ring(&corners[from..to], out, at);
         from = to;
     }
@@ -137,41 +122,42 @@ fn put_announcement(out: &mut [u8], count: u32) -> usize
     put(out, at, count)
 }
 
-// A header for a job of so many figures.
-pub fn write_header(threshold: u32, weight: u32, outlines: u32, out: &mut [u8]) -> Written
+// A header for a job of so many figures. Gives how many bytes it has.
+pub fn write_header(
+    threshold: u32,
+    weight: u32,
+    outlines: u32,
+    out: &mut [u8],
+) -> Result<usize, Refusal>
     ensures settled { write_told result out.new ≡ header_written threshold weight outlines out.old }
 {
-    match Rule::new(threshold, weight) {
-        Made::Refused(why) => Written::Refused(why),
-        Made::Rule(_) => {
-            if MOST_OUTLINES < outlines {
-                return Written::Refused(Refusal::Range);
-            }
-            let n = size(threshold) + size(weight) + size(outlines);
-            if out.len() < n {
-                return Written::Refused(Refusal::Room);
-            }
-            let a = put(out, 0, threshold);
-            let b = put(out, a, weight);
-            put(out, b, outlines);
-            Written::Bytes(n)
-        }
+    Rule::new(threshold, weight)?;
+    if MOST_OUTLINES < outlines {
+        return Err(Refusal::Range);
     }
+    let n = size(threshold) + size(weight) + size(outlines);
+    if out.len() < n {
+        return Err(Refusal::Room);
+    }
+    let a = put(out, 0, threshold);
+    let b = put(out, a, weight);
+    put(out, b, outlines);
+    Ok(n)
 }
 
-// A figure: what announces its rings, and the rings, each its V and its coordinates.
-pub fn write_outline(corners: &[u16], lengths: &[u16], out: &mut [u8]) -> Written
+// A figure: what announces its rings, and the rings, each its V and its coordinates. Gives how many bytes it has.
+pub fn write_outline(corners: &[u16], lengths: &[u16], out: &mut [u8]) -> Result<usize, Refusal>
     ensures settled { write_told result out.new ≡ outline_written (figure corners.now lengths.now) out.old }
 {
     if rings::bad_figure(corners, lengths) {
-        return Written::Refused(Refusal::Length);
+        return Err(Refusal::Length);
     }
     let count = lengths.len() as u32;
     let need = announcement(count) + sizes(lengths) + sizes(corners);
     if out.len() < need {
-        return Written::Refused(Refusal::Room);
+        return Err(Refusal::Room);
     }
     let at = put_announcement(out, count);
     put_rings(corners, lengths, out, at);
-    Written::Bytes(need)
+    Ok(need)
 }

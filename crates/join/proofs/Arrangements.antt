@@ -16,10 +16,10 @@ use Rattle.sum.specs.Sum.{over}
 use Rattle.shot.specs.Shot.{Shot, holds, shots_in}
 use Rattle.shot.specs.Bad.{bad_shots, empty, any_empty}
 use Rattle.join.specs.declared.Joined.{Joined}
-use Rattle.join.specs.Join.{touches, beside, below, can_join, no_entry, at, as_shot, JoinSaid, join_told, Promise}
+use Rattle.join.specs.Join.{touches, beside, below, can_join, no_entry, at, as_shot, JoinSaid, Promise}
 use Rattle.join.specs.Union.{union, corners_at, corners}
-use Rattle.join.specs.Steps.{mated, takes, first, settled, mate_of, set_partner, linked, paired, counted, pairs_to, entry_of, filled, checked, to_join, answered}
-use Rattle.join.proofs.Promised.{call_ends}
+use Rattle.join.specs.Steps.{mated, takes, first, settled, mate_of, set_partner, linked, paired, counted, pairs_to, entry_of, filled, checked}
+use Rattle.join.proofs.Promised.{outcome, says}
 use Rattle.join.proofs.Settled.{join-settled}
 
 abbrev shot : ℕ → ℕ → ℕ → ℕ → Shot
@@ -64,22 +64,12 @@ unfolding corners corners_at union holds over
 union-corners = refl
 
 -- ---- lists
-abbrev outcome : List ℕ → List Joined → JoinSaid
-outcome l t =
-    let c = checked l (length t) in
-    let n = to_join c in
-    join_told (answered c (pairs_to (filled l t n) n n)) (paired (filled l t n) n n)
-
-pub row_is : (l : List ℕ) (t : List Joined) (s : JoinSaid) → Promise l t s → s ≡ outcome l t
-row_is l t s p =
-    let c = checked l (length t) in
-    let n = to_join c in
-    join-settled l t s (outcome l t) p
-    (call_ends l t c n refl refl (filled l t n) (paired (filled l t n) n n) (pairs_to (filled l t n) n n) (answered c (pairs_to (filled l t n) n n)) refl (refl, refl) refl)
+pub row_is : (l : List ℕ) (t : List Joined) (s : JoinSaid) → Promise l t s → s ≡ outcome l t (checked l (length t))
+row_is l t s p = join-settled l t s (outcome l t (checked l (length t))) p (says l t)
 
 -- the number, the flashes, and the partners in a table of as many entries as there are shots
-abbrev says : List ℕ → List ℕ
-says l = let o = outcome l (replicate (length l / 4) no_entry) in o.number ∷ o.flashes ∷ map (λ (e : Joined). e.partner) o.table
+abbrev told : List ℕ → List ℕ
+told l = let t = replicate (length l / 4) no_entry in let o = outcome l t (checked l (length t)) in o.number ∷ o.flashes ∷ map (λ (e : Joined). e.partner) o.table
 
 abbrev lists : List (List ℕ)
 lists =
@@ -93,7 +83,7 @@ lists =
     ∷ (0 ∷ 0 ∷ 20 ∷ 60 ∷ 20 ∷ 0 ∷ 60 ∷ 20 ∷ 20 ∷ 40 ∷ 60 ∷ 60 ∷ 60 ∷ 20 ∷ 80 ∷ 60 ∷ [])
     ∷ []
 
-pub rows : map says lists
+pub rows : map told lists
     ≡ (0 ∷ 1 ∷ 1 ∷ 0 ∷ []) ∷ (0 ∷ 2 ∷ 1 ∷ 0 ∷ 2 ∷ []) ∷ (0 ∷ 2 ∷ 0 ∷ 1 ∷ []) ∷ (0 ∷ 2 ∷ 0 ∷ 1 ∷ []) ∷ (0 ∷ 2 ∷ 1 ∷ 0 ∷ 2 ∷ []) ∷ (0 ∷ 0 ∷ [])
     ∷ (21 ∷ 0 ∷ 0 ∷ []) ∷ (0 ∷ 2 ∷ 1 ∷ 0 ∷ 3 ∷ 2 ∷ []) ∷ []
 unfolding can_join beside below touches as_shot at mated takes first settled mate_of set_partner linked paired counted pairs_to entry_of filled checked bad_shots empty any_empty shots_in

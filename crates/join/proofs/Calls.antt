@@ -11,10 +11,11 @@ use lib.Seq.{get_or-set_same, get_or-set_other}
 use borrow.Author.Tests.{ltb-false}
 use Rattle.join.specs.declared.Joined.{Joined}
 use Rattle.shot.specs.Bad.{bad_shots}
-use Rattle.join.specs.declared.Checked.{Checked}
+use Rattle.std.specs.Prelude.{Result, Ok, Err}
+use Rattle.refusal.specs.declared.Refusal.{Refusal}
 use Rattle.join.specs.Join.{no_entry, at}
-use Rattle.join.specs.Steps.{paired, pairs_to, entry_of, filled, checked, to_join, Fillable, Within}
-use Rattle.join.proofs.Pairs.{same_or_not, length-paired, pairs-most}
+use Rattle.join.specs.Steps.{pairs_to, entry_of, filled, checked, Fillable, Within}
+use Rattle.join.proofs.Pairs.{same_or_not, pairs-most}
 
 -- ---- the filled table
 pub length-filled : (l : List ℕ) (t : List Joined) (k : ℕ) → length (filled l t k) ≡ length t
@@ -42,24 +43,25 @@ pub within-filled : (l : List ℕ) (t : List Joined) (n : ℕ) → n ≤ length 
 within-filled l t n h = record { room = omega (arith, length-filled l t n); below = λ i g. omega (arith, partner_filled l t n i h g) }
 
 -- ---- what is checked has room in the table
+abbrev to_join : Result ℕ Refusal → ℕ
+to_join (Ok n) = n
+to_join (Err why) = 0
+
 fits_by : (l : List ℕ) (room : ℕ) (b d : Bool) → bad_shots l ≡ b → ltb room (length l / 4) ≡ d → (to_join (checked l room) ≤ room) × (4 * to_join (checked l room) ≤ length l)
 unfolding checked
 fits_by l room true d e g = simp e (omega arith, omega arith)
 fits_by l room false true e g = simp (e, g) (omega arith, omega arith)
 fits_by l room false false e g = simp (e, g) (omega (arith, ltb-false room (length l / 4) g), omega arith)
 
-module _ (l : List ℕ) (t : List Joined) (c : Checked) (n : ℕ) (hc : c ≡ checked l (length t)) (hn : n ≡ to_join c) where
+module _ (l : List ℕ) (t : List Joined) (n : ℕ) (h : Ok n ≡ checked l (length t)) where
   pub fillable : Fillable l t n
   fillable =
       let f = fits_by l (length t) (bad_shots l) (ltb (length t) (length l / 4)) refl refl in
-      let e : n ≡ to_join (checked l (length t)) = hn ∙ ap to_join hc in
+      let e : n ≡ to_join (checked l (length t)) = ap to_join h in
       record { room = omega (arith, f.0); numbers = omega (arith, f.1) }
 
   pub pairable : (u : List Joined) → u ≡ filled l t n → Within u n
   pairable u e = rw e (within-filled l t n fillable.room)
 
-  pub pairs-fit : (u : List Joined) (pairs : ℕ) → pairs ≡ pairs_to u n n → pairs ≤ to_join c
-  pairs-fit u pairs h = omega (arith, pairs-most u n n, hn)
-
-  pub call_length : (u v : List Joined) → u ≡ filled l t n → v ≡ paired u n n → length v ≡ length t
-  call_length u v hu hv = ap length hv ∙ length-paired u n n ∙ ap length hu ∙ length-filled l t n
+pub pairs-fit : (u : List Joined) (n pairs : ℕ) → pairs ≡ pairs_to u n n → pairs ≤ n
+pairs-fit u n pairs h = omega (arith, pairs-most u n n)

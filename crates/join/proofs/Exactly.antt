@@ -19,7 +19,8 @@ use Rattle.sum.proofs.Sum.{le-or}
 use Rattle.shot.specs.Shot.{Shot, shots_in}
 use Rattle.shot.specs.Bad.{bad_shots}
 use Rattle.join.specs.declared.Joined.{Joined}
-use Rattle.join.specs.declared.Pairing.{Pairing}
+use Rattle.std.specs.Prelude.{Result, Ok, Err}
+use Rattle.refusal.specs.declared.Refusal.{Refusal}
 use Rattle.join.specs.Join.{as_shot, refusal, JoinSaid, join_told, Joins, Promise}
 
 data Number (l : List ℕ) (room : ℕ) : Type 0 where
@@ -95,9 +96,9 @@ length-by l t s p true e =
     let z = eqb-true s.number 0 e in kept-length (shots_in l) t s ((joined_exactly l t s p).1 z).1 (p.joined z)
 length-by l t s p false e = ap length (p.refused (eqb-false s.number 0 e)).1
 
-answer-by : (l : List ℕ) (t u : List Joined) (r : Pairing) → Promise l t (join_told r u) → length (join_told r u).table ≡ length t → length u ≡ length t
-answer-by l t u (Pairing.Flashes n) p h = h
-answer-by l t u (Pairing.Refused why) p h = h
+answer-by : (l : List ℕ) (t u : List Joined) (r : Result ℕ Refusal) → Promise l t (join_told r u) → length (join_told r u).table ≡ length t → length u ≡ length t
+answer-by l t u (Ok n) p h = h
+answer-by l t u (Err why) p h = h
 
-pub answer-length : (l : List ℕ) (t u : List Joined) (r : Pairing) → Promise l t (join_told r u) → length u ≡ length t
+pub answer-length : (l : List ℕ) (t u : List Joined) (r : Result ℕ Refusal) → Promise l t (join_told r u) → length u ≡ length t
 answer-length l t u r p = answer-by l t u r p (length-by l t (join_told r u) p (eqb (join_told r u).number 0) refl)

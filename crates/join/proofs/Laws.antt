@@ -10,9 +10,9 @@ use Rattle.join.specs.declared.Joined.{Joined}
 use Rattle.refusal.specs.declared.Refusal.TheVariants.{Room, Shots}
 use Rattle.shot.specs.Shot.{Shot}
 use Rattle.shot.specs.Bad.{bad_shots}
-use Rattle.join.specs.declared.Checked.{Checked}
+use Rattle.std.specs.Prelude.{Ok, Err}
 use Rattle.join.specs.Join.{touches, beside, below, can_join, as_shot}
-use Rattle.join.specs.Steps.{takes, settled, counted, checked, seek_from, nearer_of}
+use Rattle.join.specs.Steps.{takes, settled, counted, checked}
 
 -- ---- side_touches
 module _ (e s al ah bl bh : ℕ) where
@@ -54,27 +54,15 @@ module _ (a b : Shot) where
   unfolding can_join
   join-bottom r h k l e = simp (sym h, sym k, sym l, e)
 
--- ---- limit, nearer, settle, count
-pub limit_free : (a : Joined) (i n : ℕ) → a.partner ≡ i → n ≡ seek_from a i n
-unfolding seek_from
-limit_free a i n h = simp (eq-eqb a.partner i h)
+-- ---- takes, settled, count
+module _ (a b : Joined) (j : ℕ) where
+  pub takes_paired : (b.partner ≡ j → ⊥) → false ≡ takes a b j
+  unfolding takes
+  takes_paired h = simp (ne_eqb b.partner j h)
 
-pub limit-paired : (a : Joined) (i n : ℕ) → (a.partner ≡ i → ⊥) → 0 ≡ seek_from a i n
-unfolding seek_from
-limit-paired a i n h = simp (ne_eqb a.partner i h)
-
-module _ (a b : Joined) (j found : ℕ) where
-  pub nearer_paired : (b.partner ≡ j → ⊥) → found ≡ nearer_of a b j found
-  unfolding nearer_of takes
-  nearer_paired h = simp (ne_eqb b.partner j h)
-
-  pub nearer_joins : b.partner ≡ j → true ≡ can_join (as_shot a) (as_shot b) → j ≡ nearer_of a b j found
-  unfolding nearer_of takes
-  nearer_joins h k = simp (eq-eqb b.partner j h, sym k)
-
-  pub nearer_apart : b.partner ≡ j → false ≡ can_join (as_shot a) (as_shot b) → found ≡ nearer_of a b j found
-  unfolding nearer_of takes
-  nearer_apart h k = simp (eq-eqb b.partner j h, sym k)
+  pub takes_free : (r : Bool) → b.partner ≡ j → r ≡ can_join (as_shot a) (as_shot b) → r ≡ takes a b j
+  unfolding takes
+  takes_free r h k = simp (eq-eqb b.partner j h, k)
 
 module _ (a : Joined) (i n found : ℕ) where
   pub settle_found : a.partner ≡ i → found < n → found ≡ settled a i n found
@@ -99,14 +87,14 @@ count_none pairs i j h = simp (le-ltb i j h)
 
 -- ---- check
 module _ (l : List ℕ) (room : ℕ) where
-  pub check_bad : true ≡ bad_shots l → Checked.Refused Shots ≡ checked l room
+  pub check_bad : true ≡ bad_shots l → Err Shots ≡ checked l room
   unfolding checked
   check_bad h = simp (sym h)
 
-  pub check_room : false ≡ bad_shots l → room < length l / 4 → Checked.Refused Room ≡ checked l room
+  pub check_room : false ≡ bad_shots l → room < length l / 4 → Err Room ≡ checked l room
   unfolding checked
   check_room h k = simp (sym h, lt-ltb room (length l / 4) k)
 
-  pub check_all : false ≡ bad_shots l → length l / 4 ≤ room → Checked.Shots (length l / 4) ≡ checked l room
+  pub check_all : false ≡ bad_shots l → length l / 4 ≤ room → Ok (length l / 4) ≡ checked l room
   unfolding checked
   check_all h k = simp (sym h, le-ltb room (length l / 4) k)

@@ -3,10 +3,11 @@
 --   nth-shots        == shot i of a list of numbers is the one at the place 4 i
 --   shots-count      == a list of a multiple of four numbers has a quarter as many shots
 --   paired-beyond    == what lies behind the first n entries stays
---   call_ends        == the promise of the call, from what its steps ensure
+--   outcome          == what the steps of the call make of the checked list
+--   call_refused, call_joined  == the promise of the call, from what its steps ensure
 use Prim.Native.Nat.{ℕ, zero, suc, ◌+◌, ◌*◌, ◌-◌, ◌<◌, ◌≤◌, ◌/◌, ◌%◌}
 use native.Mathlib.Omega.{arith}
-use mathlib.Core.Path.{◌≡◌, refl, sym, ◌∙◌, ap, ap₂}
+use mathlib.Core.Path.{◌≡◌, refl, sym, ◌∙◌, ap, ap₂, subst}
 use mathlib.Core.Bool.{Bool, true, false}
 use mathlib.Core.List.{List, [], ◌∷◌, map}
 use lib.Dec.{ltb}
@@ -22,10 +23,9 @@ use Rattle.shot.specs.Bad.{bad_shots}
 use Rattle.shot.proofs.Shot.{numbers-length}
 use Rattle.shot.proofs.Bad.{numbers-shots, good-shots}
 use Rattle.join.specs.declared.Joined.{Joined}
-use Rattle.join.specs.declared.Pairing.{Pairing}
-use Rattle.join.specs.declared.Checked.{Checked}
-use Rattle.join.specs.Join.{at, nth, no_shot, no_entry, as_shot, partner_at, can_join, pairs, refusal, join_told, Greedy, Joins, Promise}
-use Rattle.join.specs.Steps.{mated, mate_of, set_partner, linked, paired, pairs_to, entry_of, filled, checked, to_join, answered, Within}
+use Rattle.std.specs.Prelude.{Result, Ok, Err}
+use Rattle.join.specs.Join.{at, nth, no_shot, no_entry, as_shot, partner_at, can_join, pairs, refusal, JoinSaid, join_told, Greedy, Joins, Promise}
+use Rattle.join.specs.Steps.{mated, mate_of, set_partner, linked, paired, pairs_to, entry_of, filled, checked, Within}
 use Rattle.join.proofs.Pairs.{mate_below, within-paired, length-paired}
 use Rattle.join.proofs.Calls.{at-filled, partner_filled, length-filled, within-filled}
 use Rattle.join.proofs.Fairness.{shot_at, Fair, AllFree, paired_fair, paired-shot, paired-pairs}
@@ -141,7 +141,7 @@ module _ (l : List ℕ) (t : List Joined) (good : bad_shots l ≡ false) (fits :
   unfolding refusal
   ok = let r : length (shots_in l) ≤ length t = omega (arith, count, fits) in simp (good, le-ltb (length t) (length (shots_in l)) r)
 
-  joins : Joins (shots_in l) t (join_told (Pairing.Flashes (n - pairs_to s n n)) v)
+  joins : Joins (shots_in l) t (join_told (Ok (n - pairs_to s n n)) v)
   joins =
       record {
         shots = ap (λ (m : ℕ). map as_shot (take m v)) count ∙ all_shown;
@@ -150,20 +150,21 @@ module _ (l : List ℕ) (t : List Joined) (good : bad_shots l ≡ false) (fits :
         flashes = ap₂ ◌-◌ (sym count) (paired-pairs s n free n (omega arith) ∙ ap (pairs (partner_at v)) (sym count));
       }
 
-  joined-said : Promise l t (join_told (Pairing.Flashes (n - pairs_to s n n)) v)
+  joined-said : Promise l t (join_told (Ok (n - pairs_to s n n)) v)
   joined-said = record { number = ok; refused = λ d. absurd (d refl); joined = λ z. joins }
 
 -- ---- a list that is refused
-refused-said : (l : List ℕ) (t : List Joined) (why : Refusal) → refusal_no why ≡ refusal l (length t) → Promise l t (join_told (Pairing.Refused why) t)
+refused-said : (l : List ℕ) (t : List Joined) (why : Refusal) → refusal_no why ≡ refusal l (length t) → Promise l t (join_told (Err why) t)
 refused-said l t why e = record { number = e; refused = λ d. (refl, refl); joined = λ z. absurd (omega (arith, refusal-some why)) }
 
 -- ---- the call
 module _ (l : List ℕ) (t : List Joined) where
-  abbrev Says : Checked → Type 0
-  Says c = Promise l t (join_told (answered c (pairs_to (filled l t (to_join c)) (to_join c) (to_join c))) (paired (filled l t (to_join c)) (to_join c) (to_join c)))
+  abbrev pub outcome : Result ℕ Refusal → JoinSaid
+  outcome (Ok n) = join_told (Ok (n - pairs_to (filled l t n) n n)) (paired (filled l t n) n n)
+  outcome (Err why) = join_told (Err why) t
 
-  says-by : (b d : Bool) → bad_shots l ≡ b → ltb (length t) (length l / 4) ≡ d → Says (checked l (length t))
-  unfolding checked refusal paired filled pairs_to
+  says-by : (b d : Bool) → bad_shots l ≡ b → ltb (length t) (length l / 4) ≡ d → Promise l t (outcome (checked l (length t)))
+  unfolding checked refusal
   says-by true d e g = let z : 21 ≡ refusal l (length t) = simp e in simp e (refused-said l t Shots z)
   says-by false true e g =
       let k : length t < length (shots_in l) = omega (arith, shots-count l (good-shots l e).fours, ltb-true (length t) (length l / 4) g) in
@@ -171,7 +172,12 @@ module _ (l : List ℕ) (t : List Joined) where
       simp (e, g) (refused-said l t Room z)
   says-by false false e g = simp (e, g) (joined-said l t e (ltb-false (length t) (length l / 4) g))
 
-  pub call_ends : (c : Checked) (n : ℕ) → c ≡ checked l (length t) → n ≡ to_join c → (u v : List Joined) (pairs : ℕ) (r : Pairing) → u ≡ filled l t n → (pairs ≡ pairs_to u n n) × (v ≡ paired u n n) → r ≡ answered c pairs
-      → Promise l t (join_told r v)
-  call_ends c n hc hn u v pairs r hu hp hr =
-      simp (hr, hp.0, hp.1, hu, hn, hc) (says-by (bad_shots l) (ltb (length t) (length l / 4)) refl refl)
+  pub says : Promise l t (outcome (checked l (length t)))
+  says = says-by (bad_shots l) (ltb (length t) (length l / 4)) refl refl
+
+  pub call_refused : (why : Refusal) → Err why ≡ checked l (length t) → Promise l t (join_told (Err why) t)
+  call_refused why h = subst (λ (c : Result ℕ Refusal). Promise l t (outcome c)) (sym h) says
+
+  pub call_joined : (n : ℕ) → Ok n ≡ checked l (length t) → (u v : List Joined) (pairs : ℕ) → u ≡ filled l t n → (pairs ≡ pairs_to u n n) × (v ≡ paired u n n)
+      → Promise l t (join_told (Ok (n - pairs)) v)
+  call_joined n h u v pairs hu hp = simp (hp.0, hp.1, hu) (subst (λ (c : Result ℕ Refusal). Promise l t (outcome c)) (sym h) says)

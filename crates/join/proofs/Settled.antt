@@ -16,7 +16,8 @@ use Rattle.sum.proofs.Sum.{over-same}
 use Rattle.refusal.proofs.Refusals.{refusal-one, refusal-some}
 use Rattle.shot.specs.Shot.{Shot, shots_in}
 use Rattle.join.specs.declared.Joined.{Joined}
-use Rattle.join.specs.declared.Pairing.{Pairing}
+use Rattle.std.specs.Prelude.{Result, Ok, Err}
+use Rattle.refusal.specs.declared.Refusal.{Refusal}
 use Rattle.join.specs.Join.{at, nth, no_shot, no_entry, as_shot, partner_at, pairs, JoinSaid, join_told, Joins, Promise}
 use Rattle.join.proofs.Greedy.{greedy-one}
 use Rattle.join.proofs.Promised.{none_as_shot}
@@ -89,17 +90,17 @@ pub join-settled : (l : List ℕ) (t : List Joined) (s s' : JoinSaid) → Promis
 join-settled l t s s' p q = settled-by l t s s' p q (eqb s.number 0) refl
 
 -- ---- two answers that tell the same are the same
-answer-one : (r r' : Pairing) (u u' : List Joined) → join_told r u ≡ join_told r' u' → r ≡ r'
-answer-one (Pairing.Flashes n) (Pairing.Flashes n') u u' e = ap (λ (s : JoinSaid). Pairing.Flashes s.flashes) e
-answer-one (Pairing.Flashes n) (Pairing.Refused why) u u' e = let z = ap (λ (s : JoinSaid). s.number) e in absurd (omega (arith, z, refusal-some why))
-answer-one (Pairing.Refused why) (Pairing.Flashes n) u u' e = let z = ap (λ (s : JoinSaid). s.number) e in absurd (omega (arith, z, refusal-some why))
-answer-one (Pairing.Refused why) (Pairing.Refused why') u u' e = ap Pairing.Refused (refusal-one why why' (ap (λ (s : JoinSaid). s.number) e))
+answer-one : (r r' : Result ℕ Refusal) (u u' : List Joined) → join_told r u ≡ join_told r' u' → r ≡ r'
+answer-one (Ok n) (Ok n') u u' e = ap (λ (s : JoinSaid). Ok s.flashes) e
+answer-one (Ok n) (Err why) u u' e = let z = ap (λ (s : JoinSaid). s.number) e in absurd (omega (arith, z, refusal-some why))
+answer-one (Err why) (Ok n) u u' e = let z = ap (λ (s : JoinSaid). s.number) e in absurd (omega (arith, z, refusal-some why))
+answer-one (Err why) (Err why') u u' e = ap (λ (w : Refusal). Err w) (refusal-one why why' (ap (λ (s : JoinSaid). s.number) e))
 
-table_of : (r : Pairing) (u : List Joined) → (join_told r u).table ≡ u
-table_of (Pairing.Flashes n) u = refl
-table_of (Pairing.Refused why) u = refl
+table_of : (r : Result ℕ Refusal) (u : List Joined) → (join_told r u).table ≡ u
+table_of (Ok n) u = refl
+table_of (Err why) u = refl
 
-pub answer-settled : (l : List ℕ) (t : List Joined) (r r' : Pairing) (u u' : List Joined) → Promise l t (join_told r u) → Promise l t (join_told r' u') → (r ≡ r') × (u ≡ u')
+pub answer-settled : (l : List ℕ) (t : List Joined) (r r' : Result ℕ Refusal) (u u' : List Joined) → Promise l t (join_told r u) → Promise l t (join_told r' u') → (r ≡ r') × (u ≡ u')
 answer-settled l t r r' u u' p q =
     let e = join-settled l t (join_told r u) (join_told r' u') p q in
     (answer-one r r' u u' e, sym (table_of r u) ∙ ap (λ (s : JoinSaid). s.table) e ∙ table_of r' u')

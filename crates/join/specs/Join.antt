@@ -15,14 +15,14 @@
 --   join_told r t            == that, of the answer r
 --   Joins l t s             == what is said of a list that is joined in the table t
 --   Promise l t s           == what the call says of any list and table
-use Rattle.std.specs.Prelude.{ℕ, ◌-◌, ◌<◌, ◌≤◌, ◌≡◌, Bool, true, cond, ◌&&◌, ◌||◌, List, map, ltb, eqb, length, get_or, take, drop}
+use Rattle.std.specs.Prelude.{ℕ, ◌-◌, ◌<◌, ◌≤◌, ◌≡◌, Bool, true, cond, ◌&&◌, ◌||◌, List, map, ltb, eqb, length, get_or, take, drop, Result, Ok, Err}
 use Rattle.sum.specs.Sum.{only, over}
+use Rattle.refusal.specs.declared.Refusal.{Refusal}
 use Rattle.refusal.specs.declared.Refusal.TheVariants as because
 use Rattle.refusal.specs.Refusals.{refusal_no}
 use Rattle.shot.specs.Shot.{Shot, shots_in}
 use Rattle.shot.specs.Bad.{bad_shots}
 use Rattle.join.specs.declared.Joined.{Joined}
-use Rattle.join.specs.declared.Pairing.{Pairing}
 
 -- ---- two shots
 unfoldable pub touches : (e s al ah bl bh : ℕ) → Bool
@@ -79,9 +79,9 @@ pub record JoinSaid : Type 0 where
 abbrev pub join_lent : ℕ → ℕ → List Joined → JoinSaid
 join_lent n flashes table = record { number = n; flashes = flashes; table = table }
 
-abbrev pub join_told : Pairing → List Joined → JoinSaid
-join_told (Pairing.Flashes n) t = join_lent 0 n t
-join_told (Pairing.Refused why) t = join_lent (refusal_no why) 0 t
+abbrev pub join_told : Result ℕ Refusal → List Joined → JoinSaid
+join_told (Ok n) t = join_lent 0 n t
+join_told (Err why) t = join_lent (refusal_no why) 0 t
 
 pub record Joins (l : List Shot) (t : List Joined) (s : JoinSaid) : Type 0 where
   pub shots : map as_shot (take (length l) s.table) ≡ l

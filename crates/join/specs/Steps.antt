@@ -9,18 +9,15 @@
 --   paired t n k        == the first n entries of t, when the first k have taken their partners in turn
 --   counted p i j       == one more than p where i is the lower number of the pair i, j
 --   pairs_to t n k       == the pairs that were made in the first k turns
---   seek_from, nearer_of  == where a search may stop; what one entry makes of what was found
 --   entry_of l i         == shot i of the list l, free: its partner is itself
 --   filled l t k        == the table t with the first k shots of the list l in front
---   checked l room      == the shots to join, or the refusal;   to_join c == the shots, none where it is a refusal
---   answered c p        == the answer: the refusal, or a flash for each shot less one for each of p pairs
+--   checked l room      == the shots to join, or the refusal
 --   Fillable, Seekable, Within    == what the functions ask for
-use Rattle.std.specs.Prelude.{ℕ, zero, suc, ◌+◌, ◌*◌, ◌-◌, ◌<◌, ◌≤◌, ◌/◌, Bool, cond, ◌&&◌, List, ltb, eqb, length, get_or, set}
+use Rattle.std.specs.Prelude.{ℕ, zero, suc, ◌+◌, ◌*◌, ◌-◌, ◌<◌, ◌≤◌, ◌/◌, Bool, cond, ◌&&◌, List, ltb, eqb, length, get_or, set, Result, Ok, Err}
+use Rattle.refusal.specs.declared.Refusal.{Refusal}
 use Rattle.refusal.specs.declared.Refusal.TheVariants.{Room, Shots}
 use Rattle.shot.specs.Bad.{bad_shots}
 use Rattle.join.specs.declared.Joined.{Joined}
-use Rattle.join.specs.declared.Pairing.{Pairing}
-use Rattle.join.specs.declared.Checked.{Checked}
 use Rattle.join.specs.Join.{at, can_join, as_shot, partner_at}
 
 -- ---- partners
@@ -57,13 +54,6 @@ unfoldable pub pairs_to : List Joined → ℕ → ℕ → ℕ
 pairs_to t n zero = 0
 pairs_to t n (suc k) = counted (pairs_to t n k) k (mate_of (paired t n k) n k)
 
--- ---- the search
-unfoldable pub seek_from : Joined → ℕ → ℕ → ℕ
-seek_from a i n = cond (eqb a.partner i) n 0
-
-unfoldable pub nearer_of : Joined → Joined → ℕ → ℕ → ℕ
-nearer_of a b j found = cond (takes a b j) j found
-
 -- ---- the call
 unfoldable pub entry_of : List ℕ → ℕ → Joined
 entry_of l i =
@@ -73,17 +63,9 @@ unfoldable pub filled : List ℕ → List Joined → ℕ → List Joined
 filled l t zero = t
 filled l t (suc k) = set (filled l t k) k (entry_of l k)
 
-unfoldable pub checked : List ℕ → ℕ → Checked
+unfoldable pub checked : List ℕ → ℕ → Result ℕ Refusal
 checked l room =
-    cond (bad_shots l) (Checked.Refused Shots) (cond (ltb room (length l / 4)) (Checked.Refused Room) (Checked.Shots (length l / 4)))
-
-abbrev pub to_join : Checked → ℕ
-to_join (Checked.Shots n) = n
-to_join (Checked.Refused why) = 0
-
-abbrev pub answered : Checked → ℕ → Pairing
-answered (Checked.Shots n) pairs = Pairing.Flashes (n - pairs)
-answered (Checked.Refused why) pairs = Pairing.Refused why
+    cond (bad_shots l) (Err Shots) (cond (ltb room (length l / 4)) (Err Room) (Ok (length l / 4)))
 
 -- ---- what the functions ask for
 pub record Fillable (l : List ℕ) (t : List Joined) (n : ℕ) : Type 0 where

@@ -1,37 +1,23 @@
-// Joining shots in pairs, for a writer that exposes an L in one flash. The table of shots is a lent slice of structs: the functions
-// that hold it are thin, and hand entries by value to those that decide.
+// Joining shots in pairs, for a writer that exposes an L in one flash. Whether two shots are joined is asked of two entries of the table, by
+// value.
 #![tactic(auto)]
 
 ghost use Rattle.std.specs.Prelude.{◌≡◌, ◌+◌, ◌*◌, ◌≤◌, ◌<◌, length};
 ghost use Rattle.join.specs.Join.{touches, can_join, as_shot, join_told, Promise};
-ghost use Rattle.join.specs.Steps.{entry_of, checked, to_join as toJoinOf, seek_from, nearer_of, settled, counted, answered, filled, set_partner, mate_of, paired, pairs_to, Fillable, Seekable, Within};
+ghost use Rattle.join.specs.Steps.{entry_of, checked, takes, counted, filled, set_partner, mate_of, paired, pairs_to, Fillable, Seekable, Within};
 
 use refusal::Refusal;
 use shot::bad_shots;
 
 // A shot in the table, with its partner's number, or its own where it has none.
 #[repr(C)]
-#[derive(Clone, Copy)]
+#[derive(Clone, Copy, PartialEq, Eq)]
 pub struct Joined {
     pub x_low: u16,
     pub y_low: u16,
     pub x_high: u16,
     pub y_high: u16,
     pub partner: usize,
-}
-
-// The number of flashes, or why the list is not joined.
-#[derive(Clone, Copy)]
-pub enum Pairing {
-    Flashes(usize),
-    Refused(Refusal),
-}
-
-// The number of shots to join, or why none is.
-#[derive(Clone, Copy)]
-pub enum Checked {
-    Shots(usize),
-    Refused(Refusal),
 }
 
 // Whether two sides lie on one line, touch along a stretch, and have an end in common.
@@ -88,59 +74,28 @@ fn entry_of(list: &[u16], i: usize) -> Joined
     }
 }
 
-// How many shots are joined in a table of so many entries: all, or none, with 21 or 14.
-fn check(list: &[u16], room: usize) -> Checked
+// How many shots are joined in a table of so many entries: all, or 21, 14.
+fn check(list: &[u16], room: usize) -> Result<usize, Refusal>
     ensures { result ≡ checked list.now room }
 {
     if bad_shots(list) {
-        return Checked::Refused(Refusal::Shots);
+        return Err(Refusal::Shots);
     }
     let n = list.len() / 4;
     if room < n {
-        return Checked::Refused(Refusal::Room);
+        return Err(Refusal::Room);
     }
-    Checked::Shots(n)
+    Ok(n)
 }
 
-// The shots to join; none where the call is refused.
-fn to_join(found: Checked) -> usize
-    ensures { result ≡ toJoinOf found }
-{
-    match found {
-        Checked::Shots(n) => n,
-        Checked::Refused(_) => 0,
-    }
-}
-
-// Where the search for a partner of entry i, a, may stop: at n, or at once where it has one.
-fn limit(a: Joined, i: usize, n: usize) -> usize
-    ensures { result ≡ seek_from a i n }
-{
-    if a.partner == i { n } else { 0 }
-}
-
-// j where entry j, b, is free and can be joined with a; what was found before otherwise.
-fn nearer(a: Joined, b: Joined, j: usize, found: usize) -> usize
-    ensures { result ≡ nearer_of a b j found }
+// Whether a can take entry j, b, for its partner: b is free, and the two can be joined.
+fn takes(a: Joined, b: Joined, j: usize) -> bool
+    ensures { result ≡ takes a b j }
 {
     if b.partner != j {
-        return found;
+        return false;
     }
-    if can_be_joined(a, b) {
-        return j;
-    }
-    found
-}
-
-// The partner of entry i, a: its own, or the one found where that lies below n, or itself.
-fn settle(a: Joined, i: usize, n: usize, found: usize) -> usize
-    ensures { result ≡ settled a i n found }
-{
-    if a.partner == i {
-        if found < n { found } else { i }
-    } else {
-        a.partner
-    }
+    can_be_joined(a, b)
 }
 
 // One pair more where i is the lower number of one.
@@ -151,27 +106,13 @@ fn count(pairs: usize, i: usize, j: usize) -> usize
     if i < j { pairs + 1 } else { pairs }
 }
 
-// The answer: the refusal, or a flash for each shot less one for each pair.
-fn tell(found: Checked, pairs: usize) -> Pairing
-    requires { pairs ≤ toJoinOf found }
-    ensures { result ≡ answered found pairs }
-{
-    match found {
-        Checked::Shots(n) => Pairing::Flashes(n - pairs),
-        Checked::Refused(why) => Pairing::Refused(why),
-    }
-}
-
 // Lays the first n shots of a list in the front of the table.
 fn fill(list: &[u16], table: &mut [Joined], n: usize)
     requires { Fillable list.now table.old n }
     ensures { table.new ≡ filled list.now table.old n }
 {
-    let mut i = 0;
-    while i < n {
-        let e = entry_of(list, i);
-        table[i] = e;
-        i += 1;
+    for i in 0..n {
+        table[i] = entry_of(list, i);
     }
 }
 
@@ -183,20 +124,22 @@ fn set_partner(table: &mut [Joined], i: usize, j: usize)
     table[i].partner = j;
 }
 
-// The partner that entry i of n has or takes: the first later free one that it can be joined with; i if there is none.
+// The partner that entry i of n has or takes: the first later free one that it can be joined with; i if there is none,
+// which is how the table says so.
 fn mate(table: &[Joined], i: usize, n: usize) -> usize
     requires { Seekable table.now i n }
     ensures { result ≡ mate_of table.now n i }
 {
     let a = table[i];
-    let mut found = limit(a, i, n);
-    let mut j = i + 1;
-    while j < found {
-        let b = table[j];
-        found = nearer(a, b, j, found);
-        j += 1;
+    if a.partner != i {
+        return a.partner;
     }
-    settle(a, i, n, found)
+    for j in i + 1..n {
+        if takes(a, table[j], j) {
+            return j;
+        }
+    }
+    i
 }
 
 // Pairs the first n entries, in order, and tells how many pairs there are.
@@ -205,25 +148,22 @@ fn pair(table: &mut [Joined], n: usize) -> usize
     ensures { (result ≡ pairs_to table.old n n) × (table.new ≡ paired table.old n n) }
 {
     let mut pairs = 0;
-    let mut i = 0;
-    while i < n {
+    for i in 0..n {
         let j = mate(table, i, n);
         set_partner(table, i, j);
         set_partner(table, j, i);
         pairs = count(pairs, i, j);
-        i += 1;
     }
     pairs
 }
 
-// Joins the shots of a list in the front of the table and tells how many flashes they take; or 21, 14. A refused call joins no shots,
-// and so leaves the table as it is.
-pub fn join(list: &[u16], table: &mut [Joined]) -> Pairing
+// Joins the shots of a list in the front of the table and tells how many flashes they take, one for each shot less one for each pair; or
+// 21, 14. A refused call leaves the table as it is.
+pub fn join(list: &[u16], table: &mut [Joined]) -> Result<usize, Refusal>
     ensures settled { Promise list.now table.old (join_told result table.new) }
 {
-    let found = check(list, table.len());
-    let n = to_join(found);
+    let n = check(list, table.len())?;
     fill(list, table, n);
     let pairs = pair(table, n);
-    tell(found, pairs)
+    Ok(n - pairs)
 }

@@ -36,8 +36,8 @@ use Rattle.table.proofs.Entry.{entry-below, count_most}
 use Rattle.table.proofs.Run.{lowest-more}
 use Rattle.verdict.specs.declared.Plan.{Plan}
 use Rattle.verdict.specs.Memory.{Known}
-use Rattle.verdict.specs.Search.{Within, AllInside, across, Weighable}
-use Rattle.verdict.proofs.Judged.{cuts-x, cuts-y, part-x, part-y}
+use Rattle.verdict.specs.Search.{Within, AllInside, cuts-x, cuts-y, across, Weighable}
+use Rattle.verdict.proofs.Judged.{part-x, part-y}
 use Rattle.demands.proofs.Few.{Few, few-cost}
 use Rattle.lowering.specs.Lowering.{Between, Begun, Raised, LeastTurn, Priced}
 

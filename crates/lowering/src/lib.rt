@@ -18,7 +18,6 @@ ghost use Rattle.lowering.specs.Lowering.{Lowering, Standing, AtPiece, Priced, L
 use outline::Line;
 use piece::Piece;
 use table::numbering::pair_number;
-use table::runs::lesser;
 use verdict::{Cuts, Numbered, Plan, all_inside};
 use weighing::weigh;
 
@@ -34,15 +33,14 @@ fn least_cut(table: &[u32], cuts: Cuts, start: u32) -> u32
     let high = cuts.high.0;
     let entry = cuts.entry;
     let stride = cuts.stride;
+    let first = low + 1;
     let mut least = start;
-    let mut j = low + 1;
-    let mut lower = entry - stride * (high - j);
-    let mut upper = entry + stride * (last - j);
-    while j < high {
-        least = lesser(least, table[lower] + table[upper]);
-        j += 1;
+    let mut lower = entry - stride * (high - first);
+    let mut upper = entry + stride * (last - first);
+    for j in first..high {
+        least = least.min(table[lower] + table[upper]);
         lower += stride;
-        upper += stride * (last - j);
+        upper += stride * (last - (j + 1));
     }
     least
 }
@@ -60,32 +58,8 @@ fn lower_piece(table: &mut [u32], cells: &[u8], plan: Plan, p: Numbered, wheel: 
     if all_inside(cells, piece) {
         return;
     }
-    let a = piece.a;
-    let c = piece.c;
-    let upright = least_cut(
-        table,
-        Cuts {
-            last: plan.columns,
-            low: a,
-            high: c,
-            entry,
-            stride: plan.pairs,
-        },
-        wheel,
-    );
-    let b = piece.b;
-    let d = piece.d;
-    let level = least_cut(
-        table,
-        Cuts {
-            last: plan.rows,
-            low: b,
-            high: d,
-            entry,
-            stride: 1,
-        },
-        upright,
-    );
+    let upright = least_cut(table, p.upright(plan), wheel);
+    let level = least_cut(table, p.level(plan), upright);
     table[entry] = level;
 }
 
@@ -108,14 +82,12 @@ fn lower_pieces(
     let pairs = plan.pairs;
     let low = b.0;
     let strip = pairs * pair_number(columns, a, c);
-    let mut d = low + 3;
-    while d <= rows {
+    for d in low + 3..rows + 1 {
         let high = Line(d);
         let number = pair_number(rows, b, high);
         let piece = Piece { a, c, b, d: high };
         let entry = strip + number;
         lower_piece(table, cells, plan, Numbered { piece, entry }, best[number]);
-        d += 1;
     }
 }
 
@@ -126,9 +98,7 @@ fn lower_weighed(table: &mut [u32], cells: &[u8], best: &[u32; 16], plan: Plan, 
     ensures beyond { Beyond (entry_count plan.columns plan.rows) table.old table.new }
 {
     let rows = plan.rows;
-    let mut b = rows - 2;
-    while 0 < b {
-        b -= 1;
+    for b in (0..rows - 2).rev() {
         lower_pieces(table, cells, best, plan, a, c, Line(b));
     }
 }
@@ -155,10 +125,8 @@ fn lower_strips(table: &mut [u32], cells: &[u8], plan: Plan, a: Line)
 {
     let columns = plan.columns;
     let low = a.0;
-    let mut c = low + 3;
-    while c <= columns {
+    for c in low + 3..columns + 1 {
         lower_strip(table, cells, plan, a, Line(c));
-        c += 1;
     }
 }
 
@@ -170,9 +138,7 @@ pub fn lower(table: &mut [u32], cells: &[u8], plan: Plan)
     ensures beyond { Beyond (entry_count plan.columns plan.rows) table.old table.new }
 {
     let columns = plan.columns;
-    let mut a = columns - 2;
-    while 0 < a {
-        a -= 1;
+    for a in (0..columns - 2).rev() {
         lower_strips(table, cells, plan, Line(a));
     }
 }

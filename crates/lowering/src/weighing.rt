@@ -10,7 +10,6 @@ ghost use Rattle.lowering.specs.Lowered.{Lines, Addable, weight_in, Placed, Lowe
 
 use outline::Line;
 use table::numbering::pair_number;
-use table::runs::lesser;
 
 // Where the entries begin of the strips that a pinwheel with the x lines j < l takes out of the strip between a and c.
 #[derive(Clone, Copy)]
@@ -48,7 +47,7 @@ fn cheaper(table: &[u32], rows: usize, s: Strips, b: usize, k: usize, m: usize, 
     let first = four(table, s.left + bk, s.end + bm, s.start + kd, s.right + md);
     let second = four(table, s.start + bm, s.right + bk, s.left + md, s.end + kd);
     let inner = table[s.middle + km];
-    lesser(first, second) + inner
+    first.min(second) + inner
 }
 
 // The piece from b to d is lowered by the pinwheels with the y lines k and m.
@@ -67,7 +66,7 @@ fn take(
 {
     let at = pair_number(rows, Line(b), Line(d));
     let least = cheaper(table, rows, s, b, k, m, d);
-    best[at] = lesser(best[at], least);
+    best[at] = best[at].min(least);
 }
 
 // The pieces from b on: those of three rows, of up to four, and of up to five.
@@ -136,8 +135,7 @@ fn weigh_line(
     let high = c.0;
     let start = pair_number(columns, a, j) * pairs;
     let right = pair_number(columns, j, c) * pairs;
-    let mut l = j.0 + 1;
-    while l < high {
+    for l in j.0 + 1..high {
         let left = pair_number(columns, a, Line(l)) * pairs;
         let end = pair_number(columns, Line(l), c) * pairs;
         let middle = pair_number(columns, j, Line(l)) * pairs;
@@ -149,7 +147,6 @@ fn weigh_line(
             right,
         };
         weigh_rows(best, table, rows, s);
-        l += 1;
     }
 }
 
@@ -170,9 +167,7 @@ pub fn weigh(
     ensures best_len { length best.new ≡ 16 }
 {
     let high = c.0;
-    let mut j = a.0 + 1;
-    while j < high {
+    for j in a.0 + 1..high {
         weigh_line(best, table, columns, rows, pairs, a, c, Line(j));
-        j += 1;
     }
 }

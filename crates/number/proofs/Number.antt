@@ -18,6 +18,8 @@
 --   none_faulty      == a sound number stands there exactly when no condition holds
 --   number-zero      == a number that is 0 is a byte 0
 --   apart            == a value is no fault
+--   passed           == what an answer tells where `?` has handed an error on
+--   fault_one        == two faults that tell the same are the same
 --   read_one         == two answers of the reader that tell the same are the same
 use Prim.Native.Nat.{ℕ, zero, suc, ◌+◌, ◌-◌, ◌*◌, ◌<◌, ◌≤◌}
 use mathlib.Core.Path.{◌≡◌, ◌∙◌, refl, sym, subst, ap, ap₂}
@@ -27,13 +29,15 @@ use mathlib.Core.Bool.{Bool, true, false, cond}
 use native.Mathlib.Nat.{add-zero, not-suc-le-zero}
 use native.Mathlib.Omega.{arith}
 use lib.Dec.{ltb, leb, eqb}
+use Rattle.std.specs.Prelude.{Result, Ok, Err, IsErrAnd}
+use Rattle.std.proofs.lemmas.Result.{err_from_is_err_and}
 use lib.ListN.{length, get_or}
 use borrow.Author.Tests.{ltb-true, ltb-false, leb-true, leb-false, eqb-true, eqb-false, le-ltb, lt-ltb, le-leb, lt-leb, eq-eqb, ne_eqb}
 use Rattle.refusal.specs.declared.Refusal.{Refusal}
 use Rattle.refusal.specs.declared.Refusal.TheVariants as because
 use Rattle.refusal.specs.declared.Refusal.TheVariants.{Ends, Padded, Range}
+use Rattle.refusal.specs.declared.Fault.{Fault}
 use Rattle.number.specs.declared.Read.{Read}
-use Rattle.number.specs.declared.Read.TheVariants as answer
 use Rattle.number.specs.Reading.{Reading, read, fault}
 use Rattle.number.specs.Number.{number, read_told}
 use Rattle.number.specs.Faults.{GoesOn, Faulty, worth, Sound, Told}
@@ -369,15 +373,24 @@ module _ (s : List ℕ) where
   pub number-zero : (at : ℕ) {next : ℕ} → number s at ≡ read 0 next → (at < length s) × (get_or s at 0 ≡ 0)
   number-zero at {next} e = let k = (sound_exactly s at 0 next).0 e in zero-by at k.before k.there k.fewest k.value
 
+-- what an answer tells where `?` has handed an error on: that error
+pub passed : {A E B : Type 0} (tell : Result A E → B) {e : E} {r : Result A E} {b : B} → IsErrAnd r (λ d. d ≡ e) → tell (Err e) ≡ b
+    → tell r ≡ b
+passed tell {e} {r} h told = let p = err_from_is_err_and r h in ap tell (p.1 ∙ ap Err p.2) ∙ told
+
+-- two faults that tell the same are the same
+pub fault_one : {A : Type 0} (d e : Fault) → ◌≡◌ {A = Reading A} (fault d.why d.at) (fault e.why e.at) → d ≡ e
+fault_one d e same =
+    let a : d.why ≡ e.why = cc in
+    let b : d.at ≡ e.at = cc in
+    ap₂ (λ (r : Refusal) (p : ℕ). record { why = r; at = p }) a b
+
 -- two answers of the reader that tell the same are the same
-pub read_one : (u v : Read) → read_told u ≡ read_told v → u ≡ v
-read_one (answer.Number n c) (answer.Number m d) e =
-    let p : n ≡ m = cc in
-    let q : c.at ≡ d.at = cc in
-    ap₂ (λ k (a : ℕ). answer.Number k (record { at = a })) p q
-read_one (answer.Number n c) (answer.Fault r p) e = absurd (apart e)
-read_one (answer.Fault r p) (answer.Number n c) e = absurd (apart (sym e))
-read_one (answer.Fault r p) (answer.Fault t q) e =
-    let k : r ≡ t = cc in
-    let m : p ≡ q = cc in
-    ap₂ answer.Fault k m
+pub read_one : (u v : Result Read Fault) → read_told u ≡ read_told v → u ≡ v
+read_one (Ok r) (Ok t) e =
+    let p : r.value ≡ t.value = cc in
+    let q : r.next.at ≡ t.next.at = cc in
+    ap₂ (λ (k a : ℕ). Ok (record { value = k; next = record { at = a } })) p q
+read_one (Ok r) (Err d) e = absurd (apart e)
+read_one (Err d) (Ok r) e = absurd (apart (sym e))
+read_one (Err d) (Err d') e = ap Err (fault_one d d' e)

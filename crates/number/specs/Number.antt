@@ -5,10 +5,10 @@
 --   number_bytes n    == the bytes of the number n: the fewest groups that hold it
 --   number s at      == what reading a number of the bytes s at a place finds, by its first byte, its second and its third
 --   read_told         == what each case of the reader's answer tells
-use Rattle.std.specs.Prelude.{ℕ, ◌+◌, ◌-◌, ◌*◌, ◌/◌, ◌%◌, List, [], ◌∷◌, cond, length, get_or, ltb, leb, eqb}
+use Rattle.std.specs.Prelude.{ℕ, ◌+◌, ◌-◌, ◌*◌, ◌/◌, ◌%◌, List, [], ◌∷◌, cond, length, get_or, ltb, leb, eqb, Result, Ok, Err}
 use Rattle.refusal.specs.declared.Refusal.TheVariants.{Ends, Padded, Range}
+use Rattle.refusal.specs.declared.Fault.{Fault}
 use Rattle.number.specs.declared.Read.{Read}
-use Rattle.number.specs.declared.Read.TheVariants as answer
 use Rattle.number.specs.Reading.{Reading, read, fault}
 
 abbrev pub most : ℕ
@@ -34,6 +34,6 @@ number s at =
     (cond (eqb (get_or s (at + 2) 0) 0) (fault Padded (at + 2))
     (read ((get_or s at 0 - 128) + 128 * (get_or s (at + 1) 0 - 128) + 16384 * get_or s (at + 2) 0) (at + 3)))))))))
 
-abbrev pub read_told : Read → Reading ℕ
-read_told (answer.Number v c) = read v c.at
-read_told (answer.Fault r at) = fault r at
+abbrev pub read_told : Result Read Fault → Reading ℕ
+read_told (Ok r) = read r.value r.next.at
+read_told (Err e) = fault e.why e.at

@@ -1,23 +1,32 @@
 // Numbers of a job: groups of seven bits, lowest group first, one to a byte; the top bit is set on every byte but the last.
 #![tactic(auto)]
 
-ghost use Rattle.std.specs.Prelude.{◌≡◌, ◌≤◌, ◌+◌, ◌-◌, ◌*◌};
+ghost use Rattle.std.specs.Prelude.{◌≡◌, ◌≤◌, ◌<◌, ◌+◌, ◌-◌, ◌*◌, length, get_or, IfOk, IfErr};
+ghost use Rattle.refusal.specs.declared.Refusal.TheVariants.{Ends};
 ghost use Rattle.number.specs.Faults.{AllBytes};
 ghost use Rattle.number.specs.Number.{number, read_told};
 
-use refusal::Refusal;
+use refusal::{Fault, Refusal};
 
 // A place in the bytes of a job.
-#[derive(Clone, Copy)]
+#[derive(Clone, Copy, PartialEq, Eq)]
 pub struct Cursor {
     pub at: usize,
 }
 
-// A number with the cursor past it, or a refusal with the offset of the byte at fault: where the bytes end, or the last byte read.
-#[derive(Clone, Copy)]
-pub enum Read {
-    Number(u32, Cursor),
-    Fault(Refusal, usize),
+// A number, with the place past its last byte.
+#[derive(Clone, Copy, PartialEq, Eq)]
+pub struct Read {
+    pub value: u32,
+    pub next: Cursor,
+}
+
+// The byte at a place, or the fault that the bytes end, shown by their end.
+fn byte(s: &[u8], at: usize) -> Result<u8, Fault>
+    ensures there { IfOk result (λ b. (at < length s.now) × (b ≡ get_or s.now at 0)) }
+    ensures ends { IfErr result (λ e. (length s.now ≤ at) × (e ≡ record { why = Ends; at = length s.now })) }
+{
+    s.get(at).copied().ok_or(Refusal::Ends.at(s.len()))
 }
 
 // The value of two groups.
@@ -25,7 +34,7 @@ fn two(a: u8, b: u8) -> u32
     requires { 128 ≤ a }
     ensures { result ≡ (a - 128) + 128 * b }
 {
-    (a as u32 - 128) + 128 * (b as u32)
+    (u32::from(a) - 128) + 128 * u32::from(b)
 }
 
 // The value of three groups.
@@ -33,45 +42,46 @@ fn three(a: u8, b: u8, d: u8) -> u32
     requires { (128 ≤ a) × (128 ≤ b) }
     ensures { result ≡ (a - 128) + 128 * (b - 128) + 16384 * d }
 {
-    (a as u32 - 128) + 128 * (b as u32 - 128) + 16384 * (d as u32)
+    (u32::from(a) - 128) + 128 * (u32::from(b) - 128) + 16384 * u32::from(d)
 }
 
 impl Cursor {
-    // The number at the cursor, and the cursor moved past it. A value is held to no range here: that is for whoever wanted it.
-    pub fn number(self, s: &[u8]) -> Read
+    // The number at the cursor, or the byte at fault: where the bytes end, or the last byte read. A value is held to no range here:
+    // that is for whoever wanted it.
+    pub fn number(self, s: &[u8]) -> Result<Read, Fault>
         ensures settled { read_told result ≡ number s.now self.at }
         ensures bytes { AllBytes s.now }
     {
         let at = self.at;
-        if s.len() <= at {
-            return Read::Fault(Refusal::Ends, s.len());
-        }
-        let a = s[at];
+        let a = byte(s, at)?;
         if a < 128 {
-            return Read::Number(a as u32, Cursor { at: at + 1 });
+            return Ok(Read {
+                value: u32::from(a),
+                next: Cursor { at: at + 1 },
+            });
         }
         let at1 = at + 1;
-        if s.len() <= at1 {
-            return Read::Fault(Refusal::Ends, s.len());
-        }
-        let b = s[at1];
+        let b = byte(s, at1)?;
         if b == 0 {
-            return Read::Fault(Refusal::Padded, at1);
+            return Err(Refusal::Padded.at(at1));
         }
         if b < 128 {
-            return Read::Number(two(a, b), Cursor { at: at + 2 });
+            return Ok(Read {
+                value: two(a, b),
+                next: Cursor { at: at + 2 },
+            });
         }
         let at2 = at + 2;
-        if s.len() <= at2 {
-            return Read::Fault(Refusal::Ends, s.len());
-        }
-        let d = s[at2];
+        let d = byte(s, at2)?;
         if 128 <= d {
-            return Read::Fault(Refusal::Range, at2);
+            return Err(Refusal::Range.at(at2));
         }
         if d == 0 {
-            return Read::Fault(Refusal::Padded, at2);
+            return Err(Refusal::Padded.at(at2));
         }
-        Read::Number(three(a, b, d), Cursor { at: at + 3 })
+        Ok(Read {
+            value: three(a, b, d),
+            next: Cursor { at: at + 3 },
+        })
     }
 }

@@ -13,6 +13,7 @@
 --   right-sound                  == the grid of a figure that passes 2 to 4 is sound
 --   promise_refused, promise_empty, promise_accepted   == each way a drawing ends keeps the promise
 --   promise_unique               == any two drawings that keep the promise are equal, and so is what they leave in the lent lists
+use Rattle.std.specs.Prelude.{Result, Ok, Err, ⊤}
 use Prim.Native.Nat.{ℕ, zero, suc, ◌+◌, ◌*◌, ◌-◌, ◌/◌, ◌%◌, ◌≤◌, ◌<◌}
 use mathlib.Core.Path.{◌≡◌, refl, sym, ◌∙◌, ap, ap₂, subst}
 use mathlib.Core.Bool.{Bool, true, false, not, cond, ◌||◌, true≢false}
@@ -27,8 +28,6 @@ use Rattle.sum.specs.Sum.{only, over, All}
 use Rattle.sum.proofs.Sum.{le-or, over_zero, over_term}
 use Rattle.figure.specs.declared.Axis.{Axis}
 use Rattle.figure.specs.declared.Axis.TheVariants.{X, Y}
-use Rattle.outline.specs.declared.Answer.{Answer}
-use Rattle.outline.specs.declared.Answer.TheVariants.{Accepted, Refused}
 use Rattle.outline.specs.declared.Drawing.{Drawing}
 use Rattle.refusal.specs.declared.Refusal.{Refusal}
 use Rattle.refusal.specs.declared.Refusal.TheVariants as because
@@ -38,7 +37,7 @@ use Rattle.figure.specs.Corners.{corners, coordinate, edges, odd, any, slanted, 
 use Rattle.figure.specs.Figure.{Figure, figure, rings, corners_of, edges_of, bad_figure, fault}
 use Rattle.figure.specs.Inside.{walls, count}
 use Rattle.figure.specs.Steps.{Right}
-use Rattle.figure.proofs.Fault.{fault_0}
+use Rattle.figure.proofs.Fault.{fault_0, shape_one}
 use Rattle.figure.proofs.Sharing.{corners-whole, one-ring-fault}
 use Rattle.outline.specs.Lines.{lines, place}
 use Rattle.outline.specs.Grid.{Grid, Sound, Memory, memory}
@@ -121,11 +120,11 @@ gathered-laid a f ls n after right z h =
 -- lines and cells together
 pub sheet-whole : (f : Figure) (xs ys cells : List ℕ) → Right f → Clear xs ys cells → (m n : ℕ) (xs' ys' cells' : List ℕ)
     → Gathered X f.numbers xs m xs' → Gathered Y f.numbers ys n ys' → cells' ≡ (laid (grid f)).cells
-    → sheet (record { answer = Accepted; columns = m - 1; rows = n - 1 }) xs' ys' cells' ≡ sheet_of (grid f)
+    → sheet (Ok (record { columns = m - 1; rows = n - 1 })) xs' ys' cells' ≡ sheet_of (grid f)
 unfolding sheet sheet_of laid grid grid_of
 sheet-whole f xs ys cells right clear m n xs' ys' cells' hx hy shaded i =
     record {
-      answer = Accepted;
+      answer = Ok tt;
       grid =
           memory (across X m xs xs' hx i) (across Y n ys ys' hy i)
           (gathered-laid X f xs m xs' right clear.xs_clear hx i)
@@ -138,10 +137,10 @@ sheet-whole f xs ys cells right clear m n xs' ys' cells' hx hy shaded i =
 
 -- all cleared
 pub sheet-without : (why : Refusal) (xs ys cells : List ℕ) → Clear xs ys cells
-    → sheet (record { answer = Refused why; columns = 0; rows = 0 }) xs ys cells ≡ without why
+    → sheet (Err why) xs ys cells ≡ without why
 unfolding sheet without blank
 sheet-without why xs ys cells clear i =
-    record { answer = Refused why; grid = memory 0 0 (clear.xs_clear i) (clear.ys_clear i) (clear.cells_clear i) }
+    record { answer = Err why; grid = memory 0 0 (clear.xs_clear i) (clear.ys_clear i) (clear.cells_clear i) }
 
 -- cells, column after column
 pub cells-laid : (g : Grid) (cells : List ℕ) → length cells ≡ 256
@@ -379,24 +378,25 @@ answer-first f s p =
     subst (FirstOf (bad_figure f) (any slanted (rings f)) (any unturned (rings f)) (empty (grid f))) (sym p.told) (refusal-first f)
 
 -- Any two drawings that keep the promise are equal: numbers tell the answers apart
-pub answer-one : (a b : Answer) → answer_no a ≡ answer_no b → a ≡ b
-answer-one Accepted Accepted e = refl
-answer-one Accepted (Refused v) e = absurd (omega (arith, refusal-some v))
-answer-one (Refused u) Accepted e = absurd (omega (arith, refusal-some u))
-answer-one (Refused u) (Refused v) e = ap Refused (refusal-one u v e)
+pub answer-one : (a b : Result ⊤ Refusal) → answer_no a ≡ answer_no b → a ≡ b
+answer-one a b e = shape_one a b e
 
-pub promise_unique : (f : Figure) (r s : Drawing) (xs ys cells xs' ys' cells' : List ℕ)
+pub promise_unique : (f : Figure) (r s : Result Drawing Refusal) (xs ys cells xs' ys' cells' : List ℕ)
     → Promise f (sheet r xs ys cells) → Promise f (sheet s xs' ys' cells')
     → (r ≡ s) × (xs ≡ xs') × (ys ≡ ys') × (cells ≡ cells')
 unfolding sheet
-promise_unique f r s xs ys cells xs' ys' cells' p q =
-    let e = p.drawn ∙ sym q.drawn in (
-      (λ i.
-          record {
-            answer = answer-one r.answer s.answer (p.told ∙ sym q.told) i;
-            columns = (e i).columns;
-            rows = (e i).rows;
-          }),
+promise_unique f (Ok r) (Ok s) xs ys cells xs' ys' cells' p q =
+    let e : memory r.columns r.rows xs ys cells ≡ memory s.columns s.rows xs' ys' cells' = p.drawn ∙ sym q.drawn in (
+      ap Ok (λ i. record { columns = (e i).columns; rows = (e i).rows }),
+      ap (λ (m : Memory). m.xs) e,
+      ap (λ (m : Memory). m.ys) e,
+      ap (λ (m : Memory). m.cells) e,
+    )
+promise_unique f (Ok r) (Err v) xs ys cells xs' ys' cells' p q = absurd (omega (arith, p.told, q.told, refusal-some v))
+promise_unique f (Err u) (Ok s) xs ys cells xs' ys' cells' p q = absurd (omega (arith, p.told, q.told, refusal-some u))
+promise_unique f (Err u) (Err v) xs ys cells xs' ys' cells' p q =
+    let e : memory 0 0 xs ys cells ≡ memory 0 0 xs' ys' cells' = p.drawn ∙ sym q.drawn in (
+      ap Err (refusal-one u v (p.told ∙ sym q.told)),
       ap (λ (m : Memory). m.xs) e,
       ap (λ (m : Memory). m.ys) e,
       ap (λ (m : Memory). m.cells) e,

@@ -28,12 +28,11 @@
 -- The drawing
 --   Clear xs ys cells                == the lists of a drawing are all zeros
 --   sheet_of g, without why           == the sheet of an accepted figure with the grid g; the sheet of the refusal
-use Rattle.std.specs.Prelude.{ℕ, zero, suc, ◌+◌, ◌*◌, ◌-◌, ◌/◌, ◌%◌, ◌≤◌, ◌<◌, ◌≡◌, Bool, true, false, not, ◌&&◌, leb, ltb, eqb, length, get_or, take, drop, replicate}
+use Rattle.std.specs.Prelude.{ℕ, zero, suc, ◌+◌, ◌*◌, ◌-◌, ◌/◌, ◌%◌, ◌≤◌, ◌<◌, ◌≡◌, Bool, true, false, not, ◌&&◌, leb, ltb, eqb, length, get_or, take, drop, replicate, Ok, Err}
 use mathlib.Core.List.{List, [], ◌∷◌, ◌++◌, Memᴰ as Member}
 use Rattle.sum.specs.Sum.{All}
 use Rattle.figure.specs.declared.Axis.{Axis}
 use Rattle.figure.specs.declared.Axis.TheVariants.{X, Y}
-use Rattle.outline.specs.declared.Answer.TheVariants.{Accepted, Refused}
 use Rattle.refusal.specs.declared.Refusal.{Refusal}
 use Rattle.figure.specs.Corners.{corners, coordinate, changes, odd}
 use Rattle.figure.specs.Figure.{Figure, corners_of}
@@ -149,7 +148,7 @@ pub record Clear (xs ys cells : List ℕ) : Type 0 where
   pub cells_clear : cells ≡ replicate 256 0
 
 unfoldable pub sheet_of : Grid → Sheet
-sheet_of g = record { answer = Accepted; grid = laid g }
+sheet_of g = record { answer = Ok tt; grid = laid g }
 
 unfoldable pub without : Refusal → Sheet
-without why = record { answer = Refused why; grid = blank }
+without why = record { answer = Err why; grid = blank }

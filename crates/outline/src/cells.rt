@@ -9,7 +9,7 @@ ghost use Rattle.outline.specs.Steps as step;
 ghost use Rattle.outline.specs.Promise as promise;
 
 use crate::{Line, MOST_LINES, rising};
-use figure::{Axis, Place, edges, rings};
+use figure::{Axis, Place, edges};
 
 // Whether a span from low to high covers a row of cells, by the row's bottom: high is a line, so a row that begins below it ends there
 // or below.
@@ -58,8 +58,8 @@ fn mark(corners: &[u16], b: usize, k: usize, xs: &[u16], ys: &[u16], cells: &mut
         cells,
         line,
         ys,
-        rising::lower(start, end),
-        rising::higher(start, end),
+        Place(start.0.min(end.0)),
+        Place(start.0.max(end.0)),
     );
 }
 
@@ -72,10 +72,8 @@ fn mark_from(corners: &[u16], first: usize, xs: &[u16], ys: &[u16], cells: &mut 
     ensures { step.Marked xs.now ys.now (inside.walls (drop first (corner.edges (corner.corners corners.now)))) cells.old cells.new }
 {
     let count = corners.len() / 2;
-    let mut edge = first;
-    while edge < count {
+    for edge in (first..count).step_by(2) {
         mark(corners, edge - 1, edge, xs, ys, cells);
-        edge += 2;
     }
 }
 
@@ -100,14 +98,14 @@ fn mark_walls(corners: &[u16], lengths: &[u16], xs: &[u16], ys: &[u16], cells: &
     ensures { step.Marked xs.now ys.now (inside.walls (edges_of (figure corners.now lengths.now))) cells.old cells.new }
 {
     let mut from: usize = 0;
-    for k in 0..lengths.len() {
-        let to = from + 2 * rings::wide(lengths[k]);
+    for &length in lengths {
+        let to = from + 2 * usize::from(length);
         mark_ring(&corners[from..to], xs, ys, cells);
         from = to;
     }
 }
 
-// Lets the marks of the column before column i reach into it.
+// Lets the marks of the column before column i reach into it. Over numbers: a cell is read with the one a column before.
 fn sweep_column(cells: &mut [u8], i: usize)
     requires marks { step.Marks cells.old }
     requires le_i { (1 ≤ i) × (i < 16) }
@@ -146,10 +144,5 @@ pub fn shade(corners: &[u16], lengths: &[u16], xs: &[u16], ys: &[u16], cells: &m
 pub fn any_inside(cells: &[u8]) -> bool
     ensures { result ≡ corner.any step.lit cells.now }
 {
-    for k in 0..cells.len() {
-        if cells[k] != 0 {
-            return true;
-        }
-    }
-    false
+    cells.iter().any(|&cell| cell != 0)
 }

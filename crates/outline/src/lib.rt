@@ -1,14 +1,14 @@
 // From the corners of a figure to its grid.
 #![tactic(auto)]
 
-ghost use Rattle.std.specs.Prelude.{◌≡◌, ◌<◌, length, get_or};
+ghost use Rattle.std.specs.Prelude.{◌≡◌, ◌<◌, Ok, length, get_or};
 ghost use Rattle.figure.specs.Figure.{figure};
 ghost use Rattle.figure.specs.Steps.{Right};
 ghost use Rattle.outline.specs.Inside.{grid};
 ghost use Rattle.outline.specs.Steps as step;
 ghost use Rattle.outline.specs.Promise as promise;
 
-use figure::{Axis, Place, Shape, shape_of};
+use figure::{Axis, Place, shape_of};
 use refusal::Refusal;
 
 mod cells;
@@ -24,17 +24,9 @@ pub const MOST_LINES: usize = 16;
 // Room for the cells between so many lines, and a column and a row beyond them: the cell (i, j) is at MOST_LINES * i + j.
 pub const MOST_CELLS: usize = 256;
 
-// What a figure is answered with: its grid is good, or the first of 2, 3, 4, 5 whose condition holds.
-#[derive(Clone, Copy)]
-pub enum Answer {
-    Accepted,
-    Refused(Refusal),
-}
-
-// The answer, and the columns and rows of the grid: 0 by 0 beside a refusal.
-#[derive(Clone, Copy)]
+// The columns and rows of the grid of a figure.
+#[derive(Clone, Copy, PartialEq, Eq)]
 pub struct Drawing {
-    pub answer: Answer,
     pub columns: usize,
     pub rows: usize,
 }
@@ -57,23 +49,6 @@ fn clear(xs: &mut [u16; MOST_LINES], ys: &mut [u16; MOST_LINES], cells: &mut [u8
     *cells = [0u8; MOST_CELLS];
 }
 
-// A refusal: the lent arrays are all zeros beside it.
-fn refused(
-    why: Refusal,
-    xs: &mut [u16; MOST_LINES],
-    ys: &mut [u16; MOST_LINES],
-    cells: &mut [u8; MOST_CELLS],
-) -> Drawing
-    ensures { promise.sheet result xs.new ys.new cells.new ≡ step.without why }
-{
-    clear(xs, ys, cells);
-    Drawing {
-        answer: Answer::Refused(why),
-        columns: 0,
-        rows: 0,
-    }
-}
-
 // Draws the lines and the cells of a figure that passes 2, 3 and 4 into lists that are all zeros; 5 is not asked yet.
 fn trace(
     corners: &[u16],
@@ -84,53 +59,36 @@ fn trace(
 ) -> Drawing
     requires right { Right (figure corners.now lengths.now) }
     requires clear { step.Clear xs.old ys.old cells.old }
-    ensures { promise.sheet result xs.new ys.new cells.new ≡ step.sheet_of (grid (figure corners.now lengths.now)) }
+    ensures { promise.sheet (Ok result) xs.new ys.new cells.new ≡ step.sheet_of (grid (figure corners.now lengths.now)) }
 {
     let across_x = rising::gather(corners, Axis::X, xs);
     let across_y = rising::gather(corners, Axis::Y, ys);
     cells::shade(corners, lengths, &xs[..across_x], &ys[..across_y], cells);
     Drawing {
-        answer: Answer::Accepted,
         columns: across_x - 1,
         rows: across_y - 1,
     }
 }
 
-// The drawing of a figure that passes 2, 3 and 4.
-fn plot(
-    corners: &[u16],
-    lengths: &[u16],
-    xs: &mut [u16; MOST_LINES],
-    ys: &mut [u16; MOST_LINES],
-    cells: &mut [u8; MOST_CELLS],
-) -> Drawing
-    requires { Right (figure corners.now lengths.now) }
-    ensures { promise.Promise (figure corners.now lengths.now) (promise.sheet result xs.new ys.new cells.new) }
-{
-    clear(xs, ys, cells);
-    let drawing = trace(corners, lengths, xs, ys, cells);
-    if !cells::any_inside(cells) {
-        return refused(Refusal::Empty, xs, ys, cells);
-    }
-    drawing
-}
-
-// Not a call for users: beside a refusal it clears what it is lent.
 // The grid of a figure, from the list x, y, x, y, .. of its corners, ring after ring, and the number of corners of each ring; or
 // the first of 2, 3, 4, 5 whose condition holds. It is drawn into the lent arrays, whatever was in them: the places of the columns
 // + 1 x lines and of the rows + 1 y lines, and at 16 * i + j a 1 where the cell (i, j) is inside. All else is 0, and beside a
-// refusal all of it.
+// refusal all of it. Not a call for users: beside a refusal it clears what it is lent.
 pub fn draw(
     corners: &[u16],
     lengths: &[u16],
     xs: &mut [u16; MOST_LINES],
     ys: &mut [u16; MOST_LINES],
     cells: &mut [u8; MOST_CELLS],
-) -> Drawing
+) -> Result<Drawing, Refusal>
     ensures { promise.Promise (figure corners.now lengths.now) (promise.sheet result xs.new ys.new cells.new) }
 {
-    match shape_of(corners, lengths) {
-        Shape::Right => plot(corners, lengths, xs, ys, cells),
-        Shape::Refused(why) => refused(why, xs, ys, cells),
+    clear(xs, ys, cells);
+    shape_of(corners, lengths)?;
+    let drawing = trace(corners, lengths, xs, ys, cells);
+    if cells::any_inside(cells) {
+        return Ok(drawing);
     }
+    clear(xs, ys, cells);
+    Err(Refusal::Empty)
 }

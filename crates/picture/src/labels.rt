@@ -1,13 +1,13 @@
 // The numbers of the shots: in the middle of each, as large as it allows; beside a shot that is too small for that, with a line that leads
 // to it. And those of the cuts, on their lines.
-use crate::cuts::kept_line;
-use crate::sheet::{
-    HEAD, SHEET, Shot, View, digits, from_one, greater, less, lesser, middle, plus,
-    print_thousandths, share, shot_at, x_on_sheet, y_on_sheet,
-};
-use crate::shots::is_sliver;
-use crate::spots::{OF_CUTS, OF_SHOTS, Spot, is_free, no_spot, overlap, spot_at, take_spot};
-use terminal::output::{Output, print, print_number};
+ghost use Rattle.std.specs.Prelude.{◌<◌};
+
+use crate::cuts::Made;
+use crate::sheet::{HEAD, SHEET, Shot, Thousandths, View, digits, share};
+use crate::spots::{Spot, Spots, take};
+use std::fmt;
+use std::fmt::Write;
+use terminal::output::Output;
 
 // Numbers are no larger and no smaller in a shot than this; beside one they have a size of their own.
 const LARGEST: u64 = 40000;
@@ -29,39 +29,52 @@ const RIM: u64 = 2000;
 // So many spots beside a shot are tried outside the figure, and then on it.
 const TRIES: usize = 160;
 
-const ALL_TRIES: usize = 320;
+// A step from a place: back, none, or on.
+#[derive(Clone, Copy)]
+enum Step {
+    Back,
+    Stay,
+    On,
+}
 
-// The eight ways: right, left, up and down, and between them. 0 is back, 1 is neither, 2 is on.
-const RIGHT: [u64; 8] = [2, 0, 1, 1, 2, 2, 0, 0];
-
-const DOWN: [u64; 8] = [1, 1, 0, 2, 0, 2, 0, 2];
+// The eight ways, across and down: right, left, up and down, and between them.
+const WAYS: [(Step, Step); 8] = [
+    (Step::On, Step::Stay),
+    (Step::Back, Step::Stay),
+    (Step::Stay, Step::Back),
+    (Step::Stay, Step::On),
+    (Step::On, Step::Back),
+    (Step::On, Step::On),
+    (Step::Back, Step::Back),
+    (Step::Back, Step::On),
+];
 
 // Where along its line the number of a cut is tried, in sixteenths.
 const ALONG: [u64; 15] = [8, 5, 11, 3, 13, 6, 10, 2, 14, 7, 9, 4, 12, 1, 15];
 
 // What a shot covers on the sheet.
 fn body_of(view: View, shot: Shot) -> Spot {
-    let left = x_on_sheet(view, shot.left);
-    let right = x_on_sheet(view, shot.right);
-    let top = y_on_sheet(view, shot.top);
-    let bottom = y_on_sheet(view, shot.bottom);
+    let left = view.x(shot.left);
+    let right = view.x(shot.right);
+    let top = view.y(shot.top);
+    let bottom = view.y(shot.bottom);
     Spot {
-        x: middle(left, right),
-        y: middle(top, bottom),
-        aside: less(right, left) / 2,
-        above: less(bottom, top) / 2,
+        x: left.saturating_add(right) / 2,
+        y: top.saturating_add(bottom) / 2,
+        aside: right.saturating_sub(left) / 2,
+        above: bottom.saturating_sub(top) / 2,
     }
 }
 
-// The size of a number that fits into a spot; 0 where it would be too small to read.
-fn size_within(body: Spot, number: u64) -> u64 {
+// The size of a number that fits into a spot; none where it would be too small to read.
+fn size_within(body: Spot, number: u64) -> Option<u64> {
     let by_height = share(body.above, 14, 10);
     let by_width = share(body.aside, 24, 10 * digits(number));
-    let size = lesser(LARGEST, lesser(by_height, by_width));
+    let size = LARGEST.min(by_height).min(by_width);
     if size < SMALLEST {
-        return 0;
+        return None;
     }
-    size
+    Some(size)
 }
 
 // The spot of a number of this size.
@@ -69,322 +82,240 @@ pub fn spot_of(x: u64, y: u64, number: u64, size: u64) -> Spot {
     Spot {
         x,
         y,
-        aside: plus(share(size, 32 * digits(number), 100), 2000),
+        aside: share(size, 32 * digits(number), 100).saturating_add(2000),
         above: size / 2,
     }
 }
 
-// Places the number of shot n, where it fits into it.
-fn set_within(view: View, list: &[u16], spots: &mut [u64], n: usize) {
-    if n < 225 {
-        let body = body_of(view, shot_at(list, n));
-        let number = from_one(n);
-        let size = size_within(body, number);
-        if 0 < size {
-            take_spot(spots, OF_SHOTS + n, spot_of(body.x, body.y, number, size));
-        }
-    }
+// The number of shot or cut n, which is counted from 0.
+fn from_one(n: usize) -> u64 {
+    (n as u64).saturating_add(1)
 }
 
 // Places the numbers that fit into their shots.
-fn place_within(view: View, list: &[u16], shots: usize, spots: &mut [u64]) {
-    let mut n = 0;
-    while n < shots {
-        set_within(view, list, spots, n);
-        n += 1;
+fn place_within(view: View, shots: &[[u16; 4]], spots: &mut Spots) {
+    for (n, shot) in shots.iter().enumerate() {
+        let body = body_of(view, Shot::from(*shot));
+        let number = from_one(n);
+        if let Some(size) = size_within(body, number) {
+            let spot = spot_of(body.x, body.y, number, size);
+            take(&mut spots.shots, n, Some(spot));
+        }
     }
 }
 
 // Whether a spot lies on a shot, so on the figure.
-fn on_figure(view: View, list: &[u16], shots: usize, spot: Spot) -> bool {
-    let mut n = 0;
-    while n < shots {
-        if overlap(body_of(view, shot_at(list, n)), spot) {
-            return true;
-        }
-        n += 1;
-    }
-    false
+fn on_figure(view: View, shots: &[[u16; 4]], spot: Spot) -> bool {
+    shots
+        .iter()
+        .any(|shot| body_of(view, Shot::from(*shot)).overlaps(spot))
 }
 
 // Whether a spot lies in the room of the figure and on the sheet.
 fn on_sheet(view: View, spot: Spot) -> bool {
-    plus(spot.aside, 4000) < spot.x
-        && plus(plus(spot.x, spot.aside), 4000) < SHEET
-        && HEAD < plus(less(spot.y, spot.above), 35000)
-        && plus(spot.y, spot.above) < plus(view.bottom, 40000)
+    spot.aside.saturating_add(4000) < spot.x
+        && spot.right().saturating_add(4000) < SHEET
+        && HEAD < spot.top().saturating_add(35000)
+        && spot.bottom() < view.bottom.saturating_add(40000)
 }
 
-// A place moved by so much: back, not at all, or on.
-fn moved(at: u64, by: u64, way: u64) -> u64 {
-    if way == 0 {
-        return less(at, by);
+// A place moved by so much.
+fn moved(at: u64, by: u64, step: Step) -> u64 {
+    match step {
+        Step::Back => at.saturating_sub(by),
+        Step::Stay => at,
+        Step::On => at.saturating_add(by),
     }
-    if way == 1 {
-        return at;
-    }
-    plus(at, by)
 }
 
 // Which way spot number k lies: first across the longer sides of a body, then past its ends, then at its corners.
-fn way_of(k: usize, flat: bool) -> usize {
+fn way_of(k: usize, flat: bool) -> usize
+    ensures { result < 8 }
+{
     let way = k % 8;
-    if flat {
-        if way < 4 {
-            return (way + 2) % 4;
-        }
+    if flat && way < 4 {
+        return (way + 2) % 4;
     }
     way
 }
 
 // Spot number k beside a body, for a number that reaches so far: eight ways, and then farther away.
 fn spot_beside(body: Spot, label: Spot, k: usize) -> Spot {
-    let farther = plus(share((k / 8 % 32) as u64, 18000, 1), 9000);
-    let across = plus(plus(body.aside, label.aside), farther);
-    let along = plus(plus(body.above, label.above), farther);
-    let way = way_of(k, body.above < body.aside) % 8;
+    let farther = (k as u64 / 8 % 32) * 18000 + 9000;
+    let across = body
+        .aside
+        .saturating_add(label.aside)
+        .saturating_add(farther);
+    let along = body
+        .above
+        .saturating_add(label.above)
+        .saturating_add(farther);
+    let (right, down) = WAYS[way_of(k, body.above < body.aside)];
     Spot {
-        x: moved(body.x, across, RIGHT[way]),
-        y: moved(body.y, along, DOWN[way]),
-        aside: label.aside,
-        above: label.above,
+        x: moved(body.x, across, right),
+        y: moved(body.y, along, down),
+        ..label
     }
 }
 
 // Whether a spot will do: on the sheet and free; of the first tries, outside the figure.
-fn will_do(
-    view: View,
-    list: &[u16],
-    shots: usize,
-    spots: &[u64],
-    spot: Spot,
-    outside: bool,
-) -> bool {
-    if !on_sheet(view, spot) {
-        return false;
-    }
-    if !is_free(spots, spot) {
-        return false;
-    }
-    if outside {
-        return !on_figure(view, list, shots, spot);
-    }
-    true
+fn will_do(view: View, shots: &[[u16; 4]], spots: &Spots, spot: Spot, outside: bool) -> bool {
+    on_sheet(view, spot) && spots.is_free(spot) && !(outside && on_figure(view, shots, spot))
 }
 
-// Try number k of a spot beside a body; none where it will not do.
-fn try_beside(
+// The first spot beside a body that will do for a number.
+fn first_beside(
     view: View,
-    list: &[u16],
-    shots: usize,
-    spots: &[u64],
+    shots: &[[u16; 4]],
+    spots: &Spots,
     body: Spot,
     label: Spot,
-    k: usize,
-) -> Spot {
-    let spot = spot_beside(body, label, k % TRIES);
-    if will_do(view, list, shots, spots, spot, k < TRIES) {
-        return spot;
-    }
-    no_spot()
+    outside: bool,
+) -> Option<Spot> {
+    (0..TRIES)
+        .map(|k| spot_beside(body, label, k))
+        .find(|spot| will_do(view, shots, spots, *spot, outside))
 }
 
 // A spot for a number beside a body; none where every one is taken.
 fn found_beside(
     view: View,
-    list: &[u16],
-    shots: usize,
-    spots: &[u64],
+    shots: &[[u16; 4]],
+    spots: &Spots,
     body: Spot,
     label: Spot,
-) -> Spot {
-    let mut k = 0;
-    while k < ALL_TRIES {
-        let spot = try_beside(view, list, shots, spots, body, label, k);
-        if spot.aside != 0 {
-            return spot;
-        }
-        k += 1;
-    }
-    no_spot()
-}
-
-// Places the number of shot n, where it does not fit into it.
-fn set_beside(view: View, list: &[u16], shots: usize, spots: &mut [u64], n: usize) {
-    if n < 225 {
-        let body = body_of(view, shot_at(list, n));
-        let number = from_one(n);
-        if size_within(body, number) == 0 {
-            let label = spot_of(0, 0, number, BESIDE);
-            let spot = found_beside(view, list, shots, spots, body, label);
-            take_spot(spots, OF_SHOTS + n, spot);
-        }
-    }
+) -> Option<Spot> {
+    first_beside(view, shots, spots, body, label, true).or_else(|| first_beside(
+        view, shots, spots, body, label, false,
+    ))
 }
 
 // Places the numbers that do not fit into their shots.
-fn place_beside(view: View, list: &[u16], shots: usize, spots: &mut [u64]) {
-    let mut n = 0;
-    while n < shots {
-        set_beside(view, list, shots, spots, n);
-        n += 1;
+fn place_beside(view: View, shots: &[[u16; 4]], spots: &mut Spots) {
+    for (n, shot) in shots.iter().enumerate() {
+        let body = body_of(view, Shot::from(*shot));
+        let number = from_one(n);
+        if size_within(body, number).is_none() {
+            let label = spot_of(0, 0, number, BESIDE);
+            let spot = found_beside(view, shots, spots, body, label);
+            take(&mut spots.shots, n, spot);
+        }
     }
 }
 
 // Places the numbers of the shots.
-pub fn place_numbers(view: View, list: &[u16], shots: usize, spots: &mut [u64]) {
-    place_within(view, list, shots, spots);
-    place_beside(view, list, shots, spots);
+pub fn place_numbers(view: View, shots: &[[u16; 4]], spots: &mut Spots) {
+    place_within(view, shots, spots);
+    place_beside(view, shots, spots);
 }
 
 // A number of this size in the middle of a spot.
-pub fn print_number_at(out: Output, spot: Spot, size: u64, number: u64) -> Output {
-    let x = print_thousandths(out, b"<text x=\"", spot.x);
-    let y = print_thousandths(x, b"\" y=\"", spot.y);
-    let written = print_thousandths(y, b"\" font-size=\"", size);
-    print(
-        print_number(written, b"\" dy=\".35em\">", number),
-        b"</text>\n",
+pub fn print_number_at(out: &mut Output, spot: Spot, size: u64, number: u64) -> fmt::Result {
+    let x = Thousandths(spot.x);
+    let y = Thousandths(spot.y);
+    let high = Thousandths(size);
+    write!(
+        out,
+        "<text x=\"{x}\" y=\"{y}\" font-size=\"{high}\" dy=\".35em\">{number}</text>\n",
     )
 }
 
+// The place nearest to another between two ends.
+fn nearest(at: u64, low: u64, high: u64) -> u64 {
+    at.max(low).min(high)
+}
+
 // A line from the middle of a body to the nearest place of a spot.
-fn print_leader(out: Output, body: Spot, spot: Spot) -> Output {
-    let to_x = lesser(
-        greater(body.x, less(spot.x, spot.aside)),
-        plus(spot.x, spot.aside),
-    );
-    let to_y = lesser(
-        greater(body.y, less(spot.y, spot.above)),
-        plus(spot.y, spot.above),
-    );
-    let x = print_thousandths(out, b"<path stroke=\"#14263d\" d=\"M", body.x);
-    let y = print_thousandths(x, b" ", body.y);
-    let end = print_thousandths(y, b"L", to_x);
-    let line = print_thousandths(end, b" ", to_y);
-    let dot = print_thousandths(line, b"\"/><circle r=\"2.5\" cx=\"", body.x);
-    print(print_thousandths(dot, b"\" cy=\"", body.y), b"\"/>\n")
+fn print_leader(out: &mut Output, body: Spot, spot: Spot) -> fmt::Result {
+    let x = Thousandths(body.x);
+    let y = Thousandths(body.y);
+    let to_x = Thousandths(nearest(body.x, spot.left(), spot.right()));
+    let to_y = Thousandths(nearest(body.y, spot.top(), spot.bottom()));
+    write!(
+        out,
+        "<path stroke=\"#14263d\" d=\"M{x} {y}L{to_x} {to_y}\"/><circle r=\"2.5\" cx=\"{x}\" cy=\"{y}\"/>\n",
+    )
 }
 
 // A white ground for a number that may stand on something.
-fn print_ground(out: Output, spot: Spot) -> Output {
-    let x = print_thousandths(
+fn print_ground(out: &mut Output, spot: Spot) -> fmt::Result {
+    let x = Thousandths(spot.left());
+    let y = Thousandths(spot.top());
+    let width = Thousandths(spot.aside.saturating_add(spot.aside));
+    let height = Thousandths(spot.above.saturating_add(spot.above));
+    write!(
         out,
-        b"<rect rx=\"3\" fill=\"#fff\" fill-opacity=\".85\" x=\"",
-        less(spot.x, spot.aside),
-    );
-    let y = print_thousandths(x, b"\" y=\"", less(spot.y, spot.above));
-    let width = print_thousandths(y, b"\" width=\"", plus(spot.aside, spot.aside));
-    let height = print_thousandths(width, b"\" height=\"", plus(spot.above, spot.above));
-    print(height, b"\"/>\n")
+        "<rect rx=\"3\" fill=\"#fff\" fill-opacity=\".85\" x=\"{x}\" y=\"{y}\" width=\"{width}\" height=\"{height}\"/>\n",
+    )
 }
 
-// The number of shot n, with a line that leads to it where it stands beside.
-fn print_label(out: Output, view: View, list: &[u16], spots: &[u64], n: usize) -> Output {
-    if 225 <= n {
-        return out;
-    }
-    let body = body_of(view, shot_at(list, n));
-    let spot = spot_at(spots, OF_SHOTS + n);
-    let number = from_one(n);
-    if spot.aside == 0 {
-        return out;
-    }
-    let size = size_within(body, number);
-    if 0 < size {
+// The number of a shot at its spot, with a line that leads to it where it stands beside.
+fn print_label(out: &mut Output, body: Spot, spot: Spot, number: u64) -> fmt::Result {
+    if let Some(size) = size_within(body, number) {
         return print_number_at(out, spot, size, number);
     }
-    let led = print_ground(print_leader(out, body, spot), spot);
-    print_number_at(led, spot, BESIDE, number)
+    print_leader(out, body, spot)?;
+    print_ground(out, spot)?;
+    print_number_at(out, spot, BESIDE, number)
 }
 
-// The same in the colour of what it is: a sliver's number is red.
+// The same where there is a spot, in the colour of what it is: a sliver's number is red.
 fn print_coloured(
-    out: Output,
+    out: &mut Output,
     view: View,
-    list: &[u16],
-    spots: &[u64],
-    n: usize,
-    threshold: u64,
-) -> Output {
-    if is_sliver(shot_at(list, n), threshold) {
-        let red = print(out, b"<g fill=\"#b01e12\">");
-        return print(print_label(red, view, list, spots, n), b"</g>\n");
+    shot: Shot,
+    spot: Option<Spot>,
+    number: u64,
+    threshold: u32,
+) -> fmt::Result {
+    let red = shot.is_sliver(threshold);
+    if red {
+        out.write_str("<g fill=\"#b01e12\">")?;
     }
-    print_label(out, view, list, spots, n)
-}
-
-// Each of so many numbers of shots.
-fn each_label(
-    out: Output,
-    view: View,
-    list: &[u16],
-    shots: usize,
-    spots: &[u64],
-    threshold: u64,
-) -> Output {
-    let mut next = out;
-    let mut n = 0;
-    while n < shots {
-        next = print_coloured(next, view, list, spots, n, threshold);
-        n += 1;
+    if let Some(spot) = spot {
+        print_label(out, body_of(view, shot), spot, number)?;
     }
-    next
+    if red {
+        out.write_str("</g>\n")?;
+    }
+    Ok(())
 }
 
 // The numbers of the shots.
 pub fn print_labels(
-    out: Output,
+    out: &mut Output,
     view: View,
-    list: &[u16],
-    shots: usize,
-    spots: &[u64],
-    threshold: u64,
-) -> Output {
-    let group = print(
-        out,
-        b"<g fill=\"#14263d\" font-weight=\"600\" text-anchor=\"middle\">\n",
-    );
-    print(
-        each_label(group, view, list, shots, spots, threshold),
-        b"</g>\n",
-    )
+    shots: &[[u16; 4]],
+    spots: &Spots,
+    threshold: u32,
+) -> fmt::Result {
+    out.write_str("<g fill=\"#14263d\" font-weight=\"600\" text-anchor=\"middle\">\n")?;
+    for (n, (shot, spot)) in shots.iter().zip(spots.shots.iter()).enumerate() {
+        print_coloured(out, view, Shot::from(*shot), *spot, from_one(n), threshold)?;
+    }
+    out.write_str("</g>\n")
 }
 
 // The spot on the line of a cut, so many sixteenths along it.
 fn spot_along(view: View, line: Shot, sixteenths: u64, room: u64) -> Spot {
-    let left = x_on_sheet(view, line.left);
-    let right = x_on_sheet(view, line.right);
-    let top = y_on_sheet(view, line.top);
-    let bottom = y_on_sheet(view, line.bottom);
+    let left = view.x(line.left);
+    let top = view.y(line.top);
+    let width = view.x(line.right).saturating_sub(left);
+    let height = view.y(line.bottom).saturating_sub(top);
     Spot {
-        x: plus(left, share(less(right, left), sixteenths, 16)),
-        y: plus(top, share(less(bottom, top), sixteenths, 16)),
+        x: left.saturating_add(share(width, sixteenths, 16)),
+        y: top.saturating_add(share(height, sixteenths, 16)),
         aside: room,
         above: room,
     }
 }
 
-// Try number k of a spot on the line of a cut; none where it is taken.
-fn try_along(view: View, spots: &[u64], line: Shot, room: u64, k: usize) -> Spot {
-    let spot = spot_along(view, line, ALONG[k % 15], room);
-    if is_free(spots, spot) {
-        return spot;
-    }
-    no_spot()
-}
-
 // A free spot on the line of a cut; none where every one is taken.
-fn found_along(view: View, spots: &[u64], line: Shot, room: u64) -> Spot {
-    let mut k = 0;
-    while k < 15 {
-        let spot = try_along(view, spots, line, room, k);
-        if spot.aside != 0 {
-            return spot;
-        }
-        k += 1;
-    }
-    no_spot()
+fn found_along(view: View, spots: &Spots, line: Shot, room: u64) -> Option<Spot> {
+    ALONG
+        .iter()
+        .map(|sixteenths| spot_along(view, line, *sixteenths, room))
+        .find(|spot| spots.is_free(*spot))
 }
 
 // Half of the room of a number, by how many cuts there are.
@@ -395,69 +326,43 @@ fn room_of(cuts: usize) -> u64 {
     SMALL_DISC
 }
 
-// Places the number of cut n of so many, where its line is long enough.
-fn set_along(view: View, kept: &[u16], cuts: usize, spots: &mut [u64], n: usize) {
-    if n < 224 {
-        let line = kept_line(kept, n);
-        let body = body_of(view, line);
-        let room = room_of(cuts);
-        if room <= plus(body.aside, body.above) {
-            take_spot(spots, OF_CUTS + n, found_along(view, spots, line, room));
+// Places the numbers of the cuts whose lines are long enough.
+pub fn place_cuts(view: View, cuts: &[Made], spots: &mut Spots) {
+    let room = room_of(cuts.len());
+    for (n, cut) in cuts.iter().enumerate() {
+        let body = body_of(view, cut.line);
+        if room <= body.aside.saturating_add(body.above) {
+            let spot = found_along(view, spots, cut.line, room);
+            take(&mut spots.cuts, n, spot);
         }
     }
 }
 
-// Places the numbers of the cuts, so many.
-pub fn place_cuts(view: View, kept: &[u16], cuts: usize, spots: &mut [u64]) {
-    let mut n = 0;
-    while n < cuts {
-        set_along(view, kept, cuts, spots, n);
-        n += 1;
-    }
-}
-
 // A disc with the number of a cut.
-fn print_disc(out: Output, spot: Spot, number: u64) -> Output {
-    let half = less(spot.aside, RIM);
-    let mut size = share(half, 13, 10);
-    if 99 < number {
-        size = half;
-    }
-    let x = print_thousandths(out, b"<circle cx=\"", spot.x);
-    let y = print_thousandths(x, b"\" cy=\"", spot.y);
-    let disc = print_thousandths(y, b"\" r=\"", half);
-    let ring = print(
-        disc,
-        b"\" fill=\"#fff\" stroke=\"#2f7ed8\" stroke-width=\"1.5\"/>",
-    );
-    print_number_at(ring, spot, size, number)
+fn print_disc(out: &mut Output, spot: Spot, number: u64) -> fmt::Result {
+    let half = spot.aside.saturating_sub(RIM);
+    let size = if 99 < number {
+        half
+    } else {
+        share(half, 13, 10)
+    };
+    let x = Thousandths(spot.x);
+    let y = Thousandths(spot.y);
+    let r = Thousandths(half);
+    write!(
+        out,
+        "<circle cx=\"{x}\" cy=\"{y}\" r=\"{r}\" fill=\"#fff\" stroke=\"#2f7ed8\" stroke-width=\"1.5\"/>",
+    )?;
+    print_number_at(out, spot, size, number)
 }
 
-// The number of cut n, where it has a spot.
-fn print_cut_label(out: Output, spots: &[u64], n: usize) -> Output {
-    if 224 <= n {
-        return out;
+// The numbers of so many cuts, where they have a spot.
+pub fn print_cut_labels(out: &mut Output, cuts: usize, spots: &Spots) -> fmt::Result {
+    out.write_str("<g fill=\"#1d5fb0\" text-anchor=\"middle\">\n")?;
+    for (n, spot) in spots.cuts.iter().enumerate().take(cuts) {
+        if let Some(spot) = spot {
+            print_disc(out, *spot, from_one(n))?;
+        }
     }
-    let spot = spot_at(spots, OF_CUTS + n);
-    if spot.aside == 0 {
-        return out;
-    }
-    print_disc(out, spot, from_one(n))
-}
-
-// Each of so many numbers of cuts.
-fn each_cut_label(out: Output, cuts: usize, spots: &[u64]) -> Output {
-    let mut next = out;
-    let mut n = 0;
-    while n < cuts {
-        next = print_cut_label(next, spots, n);
-        n += 1;
-    }
-    next
-}
-
-// The numbers of the cuts.
-pub fn print_cut_labels(out: Output, cuts: usize, spots: &[u64]) -> Output {
-    let group = print(out, b"<g fill=\"#1d5fb0\" text-anchor=\"middle\">\n");
-    print(each_cut_label(group, cuts, spots), b"</g>\n")
+    out.write_str("</g>\n")
 }

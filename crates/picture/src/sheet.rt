@@ -2,31 +2,35 @@
 // measures. What is within the figure is drawn in nm, from its left and top end, and scaled.
 ghost use Rattle.std.specs.Prelude.{◌≤◌};
 
-use outline::MOST_LINES;
-use terminal::output::{Output, print, print_number};
+use cutting::lines::place;
+use cutting::{Cut, Piece};
+use outline::{MOST_CELLS, MOST_LINES};
+use std::fmt;
+use std::fmt::Write;
+use terminal::output::Output;
 
 // The width of the sheet, and of the longer side of the frame on it.
 pub const SHEET: u64 = 1000000;
 
-const LONGER: u64 = 800000;
+pub const LONGER: u64 = 800000;
 
 // Where the room of the figure begins below the head, and how high that is at least.
 pub const HEAD: u64 = 165000;
 
 const LEAST_ROOM: u64 = 200000;
 
-// Beyond any place on a sheet.
-const FAR: u64 = 100000000;
-
-// How many columns and rows of cells there are.
+// The grid of the figure: so many columns and rows of cells, the places of its lines, and which cells are inside.
 #[derive(Clone, Copy)]
-pub struct Grid {
+pub struct Grid<'a> {
     pub columns: usize,
     pub rows: usize,
+    pub xs: &'a [u16; MOST_LINES],
+    pub ys: &'a [u16; MOST_LINES],
+    pub cells: &'a [u8; MOST_CELLS],
 }
 
-// Four numbers of a shot, or the ends of a line.
-#[derive(Clone, Copy)]
+// A shot by its four numbers, or the ends of a line.
+#[derive(Clone, Copy, PartialEq, Eq)]
 pub struct Shot {
     pub left: u16,
     pub bottom: u16,
@@ -47,220 +51,177 @@ pub struct View {
     pub bottom: u64,
 }
 
-// A place or an extent as a number to reckon with.
-pub fn wide(n: u16) -> u64
-    ensures { result ≤ 65535 }
-{
-    n as u64
-}
+// A number of thousandths, as a decimal fraction.
+#[derive(Clone, Copy)]
+pub struct Thousandths(pub u64);
 
-// A sum; what is beyond any sheet stays there.
-pub fn plus(a: u64, b: u64) -> u64 {
-    if FAR < a {
-        return FAR;
+impl fmt::Display for Thousandths {
+    fn fmt<W: fmt::Write>(&self, f: &mut fmt::Formatter<W>) -> fmt::Result {
+        write!(f, "{}.{:03}", self.0 / 1000, self.0 % 1000)
     }
-    if FAR < b {
-        return FAR;
+}
+
+// A number of millionths.
+#[derive(Clone, Copy)]
+pub struct Millionths(pub u64);
+
+impl fmt::Display for Millionths {
+    fn fmt<W: fmt::Write>(&self, f: &mut fmt::Formatter<W>) -> fmt::Result {
+        write!(f, "{}.{:06}", self.0 / 1000000, self.0 % 1000000)
     }
-    a + b
 }
 
-// A difference; 0 where nothing is left.
-pub fn less(a: u64, b: u64) -> u64 {
-    if a < b {
-        return 0;
-    }
-    a - b
-}
-
-// The place halfway between two others.
-pub fn middle(a: u64, b: u64) -> u64 {
-    plus(a, b) / 2
-}
-
-// The product of two numbers that are no farther than any sheet.
-fn product(a: u64, b: u64) -> u64
-    requires { (a ≤ 100000000) × (b ≤ 100000000) }
-{
-    a * b
-}
-
-// So many parts of a number, of a whole.
+// So many parts of a number, of a whole; nothing of no whole.
 pub fn share(n: u64, parts: u64, whole: u64) -> u64 {
-    if FAR < n {
-        return FAR;
-    }
-    if FAR < parts {
-        return FAR;
-    }
     if whole == 0 {
         return 0;
     }
-    product(n, parts) / whole
-}
-
-// The lesser of two numbers.
-pub fn lesser(a: u64, b: u64) -> u64 {
-    if a < b {
-        return a;
-    }
-    b
-}
-
-// The greater of them.
-pub fn greater(a: u64, b: u64) -> u64 {
-    if a < b {
-        return b;
-    }
-    a
-}
-
-// How far it is from a place up to another.
-pub fn gap(low: u16, high: u16) -> u16 {
-    if low < high {
-        return high - low;
-    }
-    0
-}
-
-// The greater of two extents.
-fn longer(a: u16, b: u16) -> u16 {
-    if a < b {
-        return b;
-    }
-    a
-}
-
-// The place of a line.
-pub fn place(lines: &[u16; MOST_LINES], line: usize) -> u16 {
-    if line < MOST_LINES {
-        return lines[line];
-    }
-    0
-}
-
-// Number i of a list, 0 past its end.
-fn number(list: &[u16], i: usize) -> u16 {
-    if i < list.len() {
-        return list[i];
-    }
-    0
-}
-
-// Shot n of a list, counted from 0.
-pub fn shot_at(list: &[u16], n: usize) -> Shot {
-    if 1000 < n {
-        return Shot {
-            left: 0,
-            bottom: 0,
-            right: 0,
-            top: 0,
-        };
-    }
-    let at = 4 * n;
-    Shot {
-        left: number(list, at),
-        bottom: number(list, at + 1),
-        right: number(list, at + 2),
-        top: number(list, at + 3),
-    }
-}
-
-// The number of shot or cut n, which is counted from 0.
-pub fn from_one(n: usize) -> u64 {
-    if n < 1000 {
-        return (n + 1) as u64;
-    }
-    0
+    n.saturating_mul(parts) / whole
 }
 
 // How many digits a number has, a place in nm at most.
 pub fn digits(n: u64) -> u64
     ensures { result ≤ 5 }
 {
-    if n < 10 {
-        return 1;
+    match n {
+        0..=9 => 1,
+        10..=99 => 2,
+        100..=999 => 3,
+        1000..=9999 => 4,
+        _ => 5,
     }
-    if n < 100 {
-        return 2;
-    }
-    if n < 1000 {
-        return 3;
-    }
-    if n < 10000 {
-        return 4;
-    }
-    5
 }
 
-// How long an extent is on the sheet.
+impl From<[u16; 4]> for Shot {
+    fn from(numbers: [u16; 4]) -> Shot {
+        let [left, bottom, right, top] = numbers;
+        Shot {
+            left,
+            bottom,
+            right,
+            top,
+        }
+    }
+}
+
+impl Shot {
+    pub fn width(self) -> u16 {
+        self.right.saturating_sub(self.left)
+    }
+
+    pub fn height(self) -> u16 {
+        self.top.saturating_sub(self.bottom)
+    }
+
+    // Whether it is a sliver by a threshold: its shorter side is below it.
+    pub fn is_sliver(self, threshold: u32) -> bool {
+        u32::from(self.width().min(self.height())) < threshold
+    }
+}
+
+impl Grid<'_> {
+    // A piece between four lines, as the shot that it may be.
+    pub fn shot_of(self, p: Piece) -> [u16; 4] {
+        [
+            place(self.xs, p.a),
+            place(self.ys, p.b),
+            place(self.xs, p.c),
+            place(self.ys, p.d),
+        ]
+    }
+
+    // The line of a cut: right across its piece.
+    pub fn line_of(self, p: Piece, cut: Cut) -> Shot {
+        let whole = Shot::from(self.shot_of(p));
+        match cut {
+            Cut::Upright(line) => {
+                let x = place(self.xs, line);
+                Shot {
+                    left: x,
+                    right: x,
+                    ..whole
+                }
+            }
+            Cut::Level(line) => {
+                let y = place(self.ys, line);
+                Shot {
+                    bottom: y,
+                    top: y,
+                    ..whole
+                }
+            }
+        }
+    }
+}
+
+// How long an extent is on the sheet, by the longer side of the frame.
 fn drawn(extent: u16, side: u16) -> u64 {
-    share(wide(extent), LONGER, wide(side))
+    share(u64::from(extent), LONGER, u64::from(side))
 }
 
-// Where a figure between these lines lies on the sheet: in the middle of its room.
-pub fn view_of(xs: &[u16; MOST_LINES], ys: &[u16; MOST_LINES], grid: Grid) -> View {
-    let left = place(xs, 0);
-    let top = place(ys, grid.rows);
-    let width = gap(left, place(xs, grid.columns));
-    let height = gap(place(ys, 0), top);
-    let side = longer(width, height);
-    let high = drawn(height, side);
-    let room = greater(high, LEAST_ROOM);
-    View {
-        left,
-        top,
-        width,
-        height,
-        side,
-        across: less(SHEET, drawn(width, side)) / 2,
-        down: plus(HEAD, less(room, high) / 2),
-        bottom: plus(HEAD, room),
+impl View {
+    // Where the figure lies on the sheet: in the middle of its room.
+    pub fn of(grid: Grid<'_>) -> View {
+        let left = place(grid.xs, 0);
+        let top = place(grid.ys, grid.rows);
+        let width = place(grid.xs, grid.columns).saturating_sub(left);
+        let height = top.saturating_sub(place(grid.ys, 0));
+        let side = width.max(height);
+        let high = drawn(height, side);
+        let room = high.max(LEAST_ROOM);
+        View {
+            left,
+            top,
+            width,
+            height,
+            side,
+            across: SHEET.saturating_sub(drawn(width, side)) / 2,
+            down: HEAD.saturating_add(room.saturating_sub(high) / 2),
+            bottom: HEAD.saturating_add(room),
+        }
     }
-}
 
-// Where x lies on the sheet.
-pub fn x_on_sheet(view: View, x: u16) -> u64 {
-    plus(view.across, drawn(gap(view.left, x), view.side))
-}
+    // How far x lies from the left end of the frame, in nm.
+    pub fn from_left(self, x: u16) -> u16 {
+        x.saturating_sub(self.left)
+    }
 
-// Where y lies on it: up in the figure is down in a list of lines.
-pub fn y_on_sheet(view: View, y: u16) -> u64 {
-    plus(view.down, drawn(gap(y, view.top), view.side))
-}
+    // How far y lies from its top end: up in the figure is down in a picture.
+    pub fn from_top(self, y: u16) -> u16 {
+        self.top.saturating_sub(y)
+    }
 
-// Three digits.
-fn print_three(out: Output, n: u64) -> Output {
-    let hundreds = print_number(out, b"", n / 100 % 10);
-    let tens = print_number(hundreds, b"", n / 10 % 10);
-    print_number(tens, b"", n % 10)
-}
+    // Where x lies on the sheet.
+    pub fn x(self, x: u16) -> u64 {
+        self.across
+            .saturating_add(drawn(self.from_left(x), self.side))
+    }
 
-// Some words, and a number of thousandths as a decimal fraction.
-pub fn print_thousandths(out: Output, words: &[u8], n: u64) -> Output {
-    let whole = print_number(out, words, n / 1000);
-    print_three(print(whole, b"."), n)
-}
+    // Where y lies on it.
+    pub fn y(self, y: u16) -> u64 {
+        self.down.saturating_add(drawn(self.from_top(y), self.side))
+    }
 
-// Some words, and a number of millionths.
-fn print_millionths(out: Output, words: &[u8], n: u64) -> Output {
-    print_three(print_thousandths(out, words, n / 1000), n)
-}
+    // Where the frame ends below.
+    pub fn foot(self) -> u64 {
+        self.down.saturating_add(drawn(self.height, self.side))
+    }
 
-// Some words, and how many nm so many tenths of a unit are.
-pub fn print_stroke(out: Output, words: &[u8], view: View, tenths: u64) -> Output {
-    print_millionths(out, words, share(wide(view.side), share(tenths, 125, 1), 1))
-}
+    // How many nm a stroke of so many tenths of a unit has.
+    pub fn stroke(self, tenths: u64) -> Millionths {
+        Millionths(u64::from(self.side).saturating_mul(tenths.saturating_mul(125)))
+    }
 
-// The start of what is drawn in nm: from the left and top end of the frame.
-pub fn print_scaled(out: Output, view: View) -> Output {
-    let across = print_thousandths(out, b"<g transform=\"translate(", view.across);
-    let down = print_thousandths(across, b" ", view.down);
-    let scale = share(LONGER, 1000000, wide(view.side));
-    let parts = print_number(down, b") scale(", scale / 1000000000);
-    let more = print_three(print(parts, b"."), scale / 1000000);
-    print(
-        print_three(print_three(more, scale / 1000), scale),
-        b")\">\n",
-    )
+    // The start of what is drawn in nm: from the left and top end of the frame.
+    pub fn print_scaled(self, out: &mut Output) -> fmt::Result {
+        let scale = share(LONGER, 1000000, u64::from(self.side));
+        let across = Thousandths(self.across);
+        let down = Thousandths(self.down);
+        write!(
+            out,
+            "<g transform=\"translate({across} {down}) scale({}.{:09})\">\n",
+            scale / 1000000000,
+            scale % 1000000000,
+        )
+    }
 }

@@ -1,309 +1,178 @@
 // What is charged, in red: of a shot that is a sliver the exposed stretches of its two longer sides; of a square, those of the pair that
 // is exposed more (docs/SCOPE.md, "Pieces, slivers, cost").
 use crate::cuts::print_line;
-use crate::sheet::{Shot, View, gap, place, plus, print_stroke, shot_at, wide};
-use crate::shots::is_sliver;
-use edge::{Walked, edge_shots};
-use outline::{MOST_CELLS, MOST_LINES};
-use terminal::output::{Output, print};
+use crate::scene::Scene;
+use crate::sheet::{Grid, Shot};
+use cutting::lines::{cell, line_at, place};
+use cutting::sides::Side;
+use edge::edge_shots;
+use outline::MOST_LINES;
+use std::fmt;
+use std::fmt::Write;
+use terminal::output::Output;
 
 // An edge of a fractured figure has no more runs: 15, of four numbers each.
 const MOST_RUNS: usize = 60;
 
-// Whether the cell (i, j) is inside; none is beyond the grid.
-fn cell(cells: &[u8; MOST_CELLS], i: usize, j: usize) -> bool {
-    if i < 16 {
-        if j < 16 {
-            return cells[16 * i + j] == 1;
-        }
-    }
-    false
+// A stretch of an edge that lies on a side of a shot, from a place along it to another.
+#[derive(Clone, Copy)]
+struct Run {
+    shot: Shot,
+    side: Side,
+    from: u16,
+    to: u16,
 }
 
-// The number of the line at a place: the first that is not below it.
-fn line_at(lines: &[u16; MOST_LINES], at: u16) -> usize {
-    let mut line = 0;
-    while line < 16 {
-        if at <= lines[line] {
-            return line;
-        }
-        line += 1;
-    }
-    line
-}
-
-// How much of a side is exposed between lines n and n + 1: all of it, or nothing where the cell beyond it is inside.
-fn exposed_part(
-    cells: &[u8; MOST_CELLS],
-    along: &[u16; MOST_LINES],
+// Two opposite sides of a shot: upright ones, or level ones; the lines of the grid across them and along them, the places of the two, and
+// from where to where they go.
+#[derive(Clone, Copy)]
+struct Pair<'a> {
     upright: bool,
-    beyond: usize,
-    n: usize,
-) -> u64 {
-    if 15 < n {
-        return 0;
-    }
-    let mut inside = cell(cells, n, beyond);
-    if upright {
-        inside = cell(cells, beyond, n);
-    }
-    if inside {
-        return 0;
-    }
-    wide(gap(place(along, n), place(along, n + 1)))
-}
-
-// The exposed length of a side, beyond which there is this column or row.
-fn exposed(
-    cells: &[u8; MOST_CELLS],
-    along: &[u16; MOST_LINES],
-    upright: bool,
-    beyond: usize,
-    from: usize,
-    to: usize,
-) -> u64 {
-    let mut length = 0;
-    let mut n = from;
-    while n < to {
-        length = plus(length, exposed_part(cells, along, upright, beyond, n));
-        n += 1;
-    }
-    length
-}
-
-// The column or row before a line; one where no cell is inside before the first.
-fn before(line: usize) -> usize {
-    if 0 < line {
-        return line - 1;
-    }
-    16
-}
-
-// The exposed length of both sides on two lines, between lines of the other direction.
-fn exposed_pair(
-    cells: &[u8; MOST_CELLS],
-    across: &[u16; MOST_LINES],
-    along: &[u16; MOST_LINES],
-    upright: bool,
+    across: &'a [u16; MOST_LINES],
+    along: &'a [u16; MOST_LINES],
     low: u16,
     high: u16,
     from: u16,
     to: u16,
-) -> u64 {
-    let start = line_at(along, from);
-    let end = line_at(along, to);
-    let first = before(line_at(across, low));
-    let last = line_at(across, high);
-    plus(
-        exposed(cells, along, upright, first, start, end),
-        exposed(cells, along, upright, last, start, end),
-    )
+}
+
+impl<'a> Pair<'a> {
+    // Left and right.
+    fn upright(grid: Grid<'a>, shot: Shot) -> Pair<'a> {
+        Pair {
+            upright: true,
+            across: grid.xs,
+            along: grid.ys,
+            low: shot.left,
+            high: shot.right,
+            from: shot.bottom,
+            to: shot.top,
+        }
+    }
+
+    // Bottom and top.
+    fn level(grid: Grid<'a>, shot: Shot) -> Pair<'a> {
+        Pair {
+            upright: false,
+            across: grid.ys,
+            along: grid.xs,
+            low: shot.bottom,
+            high: shot.top,
+            from: shot.left,
+            to: shot.right,
+        }
+    }
+
+    // Whether the cell in this column or row beyond a side is inside, between lines n and n + 1 along it; beyond the frame none is.
+    fn is_covered(self, grid: Grid<'_>, beyond: Option<usize>, n: usize) -> bool {
+        beyond.is_some_and(|beyond| {
+            if self.upright {
+                cell(grid.cells, beyond, n)
+            } else {
+                cell(grid.cells, n, beyond)
+            }
+        })
+    }
+
+    // The exposed length of a side, beyond which there is this column or row.
+    fn exposed_side(self, grid: Grid<'_>, beyond: Option<usize>) -> u64 {
+        let mut length = 0u64;
+        for n in line_at(self.along, self.from)..line_at(self.along, self.to) {
+            if !self.is_covered(grid, beyond, n) {
+                let end = place(self.along, n.saturating_add(1));
+                let stretch = end.saturating_sub(place(self.along, n));
+                length = length.saturating_add(u64::from(stretch));
+            }
+        }
+        length
+    }
+
+    // That of both.
+    fn exposed(self, grid: Grid<'_>) -> u64 {
+        let before = line_at(self.across, self.low).checked_sub(1);
+        let behind = line_at(self.across, self.high);
+        self.exposed_side(grid, before)
+            .saturating_add(self.exposed_side(grid, Some(behind)))
+    }
 }
 
 // Whether left and right are the sides of a shot that count: they are longer, or as long as bottom and top and exposed more.
-fn upright_counts(
-    cells: &[u8; MOST_CELLS],
-    xs: &[u16; MOST_LINES],
-    ys: &[u16; MOST_LINES],
-    shot: Shot,
-) -> bool {
-    let left = shot.left;
-    let bottom = shot.bottom;
-    let right = shot.right;
-    let top = shot.top;
-    let width = gap(left, right);
-    let height = gap(bottom, top);
-    if width < height {
-        return true;
+fn upright_counts(grid: Grid<'_>, shot: Shot) -> bool {
+    let width = shot.width();
+    let height = shot.height();
+    if width == height {
+        return Pair::level(grid, shot).exposed(grid) < Pair::upright(grid, shot).exposed(grid);
     }
-    if height < width {
-        return false;
-    }
-    exposed_pair(cells, ys, xs, false, bottom, top, left, right)
-        < exposed_pair(cells, xs, ys, true, left, right, bottom, top)
+    width < height
 }
 
-// Whether a stretch on this side of a shot is charged. Sides are 1 left, 2 right, 3 bottom, 4 top.
-fn is_charged(
-    cells: &[u8; MOST_CELLS],
-    xs: &[u16; MOST_LINES],
-    ys: &[u16; MOST_LINES],
-    shot: Shot,
-    side: usize,
-    threshold: u64,
-) -> bool {
-    if side == 0 {
-        return false;
+impl Run {
+    // Whether it is charged.
+    fn is_charged(self, grid: Grid<'_>, threshold: u32) -> bool {
+        self.shot.is_sliver(threshold) && upright_counts(grid, self.shot) == self.side.is_upright()
     }
-    if !is_sliver(shot, threshold) {
-        return false;
-    }
-    upright_counts(cells, xs, ys, shot) == (side < 3)
-}
 
-// A number of a run as a place.
-fn narrow(n: usize) -> u16 {
-    if n < 65536 {
-        return n as u16;
-    }
-    0
-}
-
-// The line of a run on this side of a shot.
-fn line_of(shot: Shot, side: usize, from: u16, to: u16) -> Shot {
-    if side < 3 {
-        let mut x = shot.left;
-        if side == 2 {
-            x = shot.right;
-        }
-        return Shot {
+    // Its line, on the side of the shot.
+    fn line(self) -> Shot {
+        let upright = |x: u16| Shot {
             left: x,
-            bottom: from,
+            bottom: self.from,
             right: x,
-            top: to,
+            top: self.to,
         };
-    }
-    let mut y = shot.bottom;
-    if side == 4 {
-        y = shot.top;
-    }
-    Shot {
-        left: from,
-        bottom: y,
-        right: to,
-        top: y,
-    }
-}
-
-// Number i of the runs, 0 past their end.
-fn run_number(runs: &[usize], i: usize) -> usize {
-    if i < runs.len() {
-        return runs[i];
-    }
-    0
-}
-
-// The shot of a run, which numbers it from 1.
-fn run_shot(list: &[u16], number: usize) -> Shot {
-    if number == 0 {
-        return shot_at(list, 1001);
-    }
-    shot_at(list, number - 1)
-}
-
-// Run n of an edge, where it is charged.
-fn print_run(
-    out: Output,
-    view: View,
-    list: &[u16],
-    cells: &[u8; MOST_CELLS],
-    xs: &[u16; MOST_LINES],
-    ys: &[u16; MOST_LINES],
-    threshold: u64,
-    runs: &[usize],
-    n: usize,
-) -> Output {
-    if 15 < n {
-        return out;
-    }
-    let at = 4 * n;
-    let shot = run_shot(list, run_number(runs, at + 2));
-    let side = run_number(runs, at + 3);
-    if !is_charged(cells, xs, ys, shot, side, threshold) {
-        return out;
-    }
-    let from = narrow(run_number(runs, at));
-    let to = narrow(run_number(runs, at + 1));
-    print(
-        print_line(out, view, line_of(shot, side, from, to)),
-        b"/>\n",
-    )
-}
-
-// The first so many runs of an edge.
-fn print_runs(
-    out: Output,
-    view: View,
-    list: &[u16],
-    cells: &[u8; MOST_CELLS],
-    xs: &[u16; MOST_LINES],
-    ys: &[u16; MOST_LINES],
-    threshold: u64,
-    runs: &[usize],
-    count: usize,
-) -> Output {
-    let mut next = out;
-    let mut n = 0;
-    while n < count {
-        next = print_run(next, view, list, cells, xs, ys, threshold, runs, n);
-        n += 1;
-    }
-    next
-}
-
-// One edge of the figure, by the runs that it falls into on the shots.
-fn print_edge(
-    out: Output,
-    view: View,
-    corners: &[u16],
-    lengths: &[u16],
-    number: usize,
-    list: &[u16],
-    cells: &[u8; MOST_CELLS],
-    xs: &[u16; MOST_LINES],
-    ys: &[u16; MOST_LINES],
-    threshold: u64,
-) -> Output {
-    let mut runs = [0usize; MOST_RUNS];
-    match edge_shots(corners, lengths, number, list, &mut runs) {
-        Walked::Runs(count) => {
-            print_runs(out, view, list, cells, xs, ys, threshold, &runs, count)
+        let level = |y: u16| Shot {
+            left: self.from,
+            bottom: y,
+            right: self.to,
+            top: y,
+        };
+        match self.side {
+            Side::Left => upright(self.shot.left),
+            Side::Right => upright(self.shot.right),
+            Side::Bottom => level(self.shot.bottom),
+            Side::Top => level(self.shot.top),
         }
-        Walked::Refused(_) => out,
     }
 }
 
-// Each of so many edges.
-fn each_edge(
-    out: Output,
-    view: View,
-    corners: &[u16],
-    lengths: &[u16],
-    edges: usize,
-    list: &[u16],
-    cells: &[u8; MOST_CELLS],
-    xs: &[u16; MOST_LINES],
-    ys: &[u16; MOST_LINES],
-    threshold: u64,
-) -> Output {
-    let mut next = out;
-    let mut n = 0;
-    while n < edges {
-        next = print_edge(
-            next, view, corners, lengths, n, list, cells, xs, ys, threshold,
-        );
-        n += 1;
-    }
-    next
+// A run by its four numbers: from where to where, the number of the shot from 1, and that of its side; none where no shot lies there.
+fn run_of(shots: &[[u16; 4]], numbers: [usize; 4]) -> Option<Run> {
+    let [from, to, number, side] = numbers;
+    let side = Side::numbered(side)?;
+    let shot = shots.get(number.checked_sub(1)?)?;
+    Some(Run {
+        shot: Shot::from(*shot),
+        side,
+        from: u16::try_from(from).ok()?,
+        to: u16::try_from(to).ok()?,
+    })
 }
 
-// Every edge of the figure, where it is charged. The list has the shots and nothing behind them.
-pub fn print_slivers(
-    out: Output,
-    view: View,
-    corners: &[u16],
-    lengths: &[u16],
-    list: &[u16],
-    cells: &[u8; MOST_CELLS],
-    xs: &[u16; MOST_LINES],
-    ys: &[u16; MOST_LINES],
-    threshold: u64,
-) -> Output {
-    let stroke = print_stroke(out, b"<g stroke=\"#d62718\" stroke-width=\"", view, 70);
-    let group = print(stroke, b"\">\n");
-    let edges = corners.len() / 2;
-    let red = each_edge(
-        group, view, corners, lengths, edges, list, cells, xs, ys, threshold,
-    );
-    print(red, b"</g>\n")
+// One edge of the figure, by the runs that it falls into on the shots: those that are charged.
+fn print_edge(out: &mut Output, scene: Scene<'_>, runs: &[[usize; 4]]) -> fmt::Result {
+    for numbers in runs {
+        if let Some(run) = run_of(scene.shots(), *numbers) {
+            if run.is_charged(scene.grid, scene.manner.threshold) {
+                print_line(out, scene.view, run.line())?;
+                out.write_str("/>\n")?;
+            }
+        }
+    }
+    Ok(())
+}
+
+// Every edge of the figure, where it is charged.
+pub fn print_slivers(out: &mut Output, scene: Scene<'_>) -> fmt::Result {
+    let corners = scene.figure.corners;
+    let lengths = scene.figure.lengths;
+    let stroke = scene.view.stroke(70);
+    write!(out, "<g stroke=\"#d62718\" stroke-width=\"{stroke}\">\n")?;
+    for edge in 0..corners.len() / 2 {
+        let mut runs = [0usize; MOST_RUNS];
+        if let Ok(count) = edge_shots(corners, lengths, edge, scene.list, &mut runs) {
+            let runs = runs.as_chunks::<4>().0;
+            print_edge(out, scene, &runs[..count.min(runs.len())])?;
+        }
+    }
+    out.write_str("</g>\n")
 }

@@ -1,17 +1,6 @@
 // What lies where on the sheet, so that no number covers another: every number has a spot.
-use crate::sheet::plus;
 
-// The spots of the numbers beside the lines: 16 each way; then those of the shots; then those of the cuts.
-pub const OF_SHOTS: usize = 32;
-
-pub const OF_CUTS: usize = 257;
-
-const MOST_SPOTS: usize = 481;
-
-// Four numbers for each spot.
-pub const MOST_NUMBERS: usize = 1924;
-
-// The middle of a spot, and how far it reaches from there to the side, and up and down. One that reaches nowhere is free.
+// The middle of a spot, and how far it reaches from there to the side, and up and down.
 #[derive(Clone, Copy)]
 pub struct Spot {
     pub x: u64,
@@ -20,78 +9,66 @@ pub struct Spot {
     pub above: u64,
 }
 
-// Nothing there.
-pub fn no_spot() -> Spot {
-    Spot {
-        x: 0,
-        y: 0,
-        aside: 0,
-        above: 0,
+impl Spot {
+    // Its left and right ends.
+    pub fn left(self) -> u64 {
+        self.x.saturating_sub(self.aside)
+    }
+
+    pub fn right(self) -> u64 {
+        self.x.saturating_add(self.aside)
+    }
+
+    // Its upper and lower ends.
+    pub fn top(self) -> u64 {
+        self.y.saturating_sub(self.above)
+    }
+
+    pub fn bottom(self) -> u64 {
+        self.y.saturating_add(self.above)
+    }
+
+    // Whether two spots lie on each other.
+    pub fn overlaps(self, other: Spot) -> bool {
+        self.x.abs_diff(other.x) < self.aside.saturating_add(other.aside)
+            && self.y.abs_diff(other.y) < self.above.saturating_add(other.above)
     }
 }
 
-// Number i of a list, 0 past its end.
-fn number(spots: &[u64], i: usize) -> u64 {
-    if i < spots.len() {
-        return spots[i];
-    }
-    0
+// The spots that are taken: by the places of lines, 16 each way; by the numbers of the shots; by those of the cuts.
+#[derive(Clone, Copy)]
+pub struct Spots {
+    pub lines: [Option<Spot>; 32],
+    pub shots: [Option<Spot>; 225],
+    pub cuts: [Option<Spot>; 224],
 }
 
-// Spot n.
-pub fn spot_at(spots: &[u64], n: usize) -> Spot {
-    if MOST_SPOTS <= n {
-        return no_spot();
-    }
-    let at = 4 * n;
-    Spot {
-        x: number(spots, at),
-        y: number(spots, at + 1),
-        aside: number(spots, at + 2),
-        above: number(spots, at + 3),
-    }
+// Whether one of these lies on a spot.
+fn covers(taken: &[Option<Spot>], spot: Spot) -> bool {
+    taken
+        .iter()
+        .any(|other| other.is_some_and(|other| spot.overlaps(other)))
 }
 
-// Writes a number, if there is room.
-fn put(spots: &mut [u64], i: usize, n: u64) {
-    if i < spots.len() {
-        spots[i] = n;
+// Puts a spot at a place of a list, where there is one.
+pub fn take(taken: &mut [Option<Spot>], n: usize, spot: Option<Spot>) {
+    if let Some(place) = taken.get_mut(n) {
+        *place = spot;
     }
 }
 
-// Takes spot n.
-pub fn take_spot(spots: &mut [u64], n: usize, spot: Spot) {
-    if n < MOST_SPOTS {
-        let at = 4 * n;
-        put(spots, at, spot.x);
-        put(spots, at + 1, spot.y);
-        put(spots, at + 2, spot.aside);
-        put(spots, at + 3, spot.above);
-    }
-}
-
-// How far two places are apart.
-fn apart(a: u64, b: u64) -> u64 {
-    if a < b {
-        return b - a;
-    }
-    a - b
-}
-
-// Whether two spots lie on each other.
-pub fn overlap(one: Spot, other: Spot) -> bool {
-    apart(one.x, other.x) < plus(one.aside, other.aside)
-        && apart(one.y, other.y) < plus(one.above, other.above)
-}
-
-// Whether nothing that is taken lies on a spot.
-pub fn is_free(spots: &[u64], spot: Spot) -> bool {
-    let mut n = 0;
-    while n < MOST_SPOTS {
-        if overlap(spot, spot_at(spots, n)) {
-            return false;
+impl Spots {
+    // Nothing taken.
+    pub fn free() -> Spots {
+        Spots {
+            lines: [None; 32],
+            shots: [None; 225],
+            cuts: [None; 224],
         }
-        n += 1;
     }
-    true
+
+    // Whether nothing that is taken lies on a spot.
+    pub fn is_free(&self, spot: Spot) -> bool {
+        !covers(&self.lines, spot) && !covers(&self.shots, spot) && !covers(&self.cuts, spot)
+    }
 }

@@ -2,6 +2,7 @@
 --
 --   Accepted s h         == the job s is read, h is what it says before its outlines, and its rule is in range
 --   sound-accepted       == a job that passes its check is accepted
+--   ok_unless            == an answer that is no error is a good one
 --   taken-whole          == taking an outline of an accepted job is not refused
 --   refused_never        == nor is unpacking what is handed back
 --   unpacked_fronts      == what unpacking an outline of an accepted job leaves in the two lists
@@ -14,7 +15,10 @@ use native.Mathlib.Omega.{arith}
 use lib.ListN.{length, take, drop, get_or, length-append}
 use lib.Seq.{take_at}
 use borrow.Author.Tests.{le-leb}
-use Rattle.refusal.specs.declared.Refusal.{Refusal}
+use Rattle.std.specs.Prelude.{Result, Ok, Err}
+use Rattle.std.specs.Result.{IsOk}
+use Rattle.std.specs.Borrow.{Bor}
+use Rattle.refusal.specs.declared.Fault.{Fault}
 use Rattle.refusal.specs.Refusals.{refusal_no}
 use Rattle.refusal.proofs.Refusals.{refusal-some}
 use Rattle.number.specs.Reading.{Reading, read, fault}
@@ -24,14 +28,17 @@ use Rattle.rule.specs.Rules.{limit, in_range}
 use Rattle.figure.specs.Figure.{Figure, total}
 use Rattle.figure.proofs.Fault.{rings-good}
 use Rattle.job.specs.declared.unpack.Unpacked.{Unpacked}
-use Rattle.job.specs.declared.unpack.Unpacked.TheVariants as unpack
 use Rattle.job.specs.Job.{most_outlines, Job, Header as Head, value, header, figure_of, job}
-use Rattle.job.specs.Calls.{CheckSaid, no_part, job_said, checked, TakeSaid, told, taken, UnpackSaid, filled_by, unpacked, unpack_told}
+use Rattle.job.specs.Calls.{CheckSaid, no_part, job_said, checked, TakeSaid, told, taken, UnpackSaid, filled_by, unpacked, unpack_told, take_told}
 use Rattle.job.proofs.Job.{value_read, counted, weighed, heard, job-whole}
 use Rattle.job.proofs.RoundTrip.{Drawable, said-taken, said-unpacked}
 use Rattle.demands.specs.Demands.{Words}
-use Rattle.preparation.specs.declared.outlines.Header.{Header}
+use Rattle.job.specs.declared.read.Job.{Job as Header}
 use Rattle.preparation.specs.Outlines.{Sound, parts_of, said, Fronts}
+
+pub ok_unless : {T E : Type 0} (r : Result T E) → ((e : E) → r ≡ Err e → ⊥) → IsOk r
+ok_unless (Ok x) never = refl
+ok_unless (Err e) never = absurd (never e refl)
 
 -- the two numbers of a rule that is read are in range
 
@@ -112,13 +119,15 @@ module _ (s : List ℕ) (h : Header) (sound : Sound s h) (bytes : AllBytes s) (k
   pub figure_words : Words (said s k)
   figure_words = drawable.each
 
-  pub taken-whole : {n at : ℕ} {p : List ℕ} → told n at p ≡ taken s k → told 0 0 p ≡ taken s k
-  taken-whole {n} {at} {p} e =
+  pub taken-whole : (r : Result (Bor (List ℕ)) Fault) → take_told r ≡ taken s k → IsOk r
+  taken-whole (Ok part) told = refl
+  taken-whole (Err e) told =
       let t = (said-taken s bytes accepted.reads k below_parts).0 in
-      ap (λ (u : TakeSaid). told 0 0 u.part) (e ∙ t) ∙ sym t
+      let z : refusal_no e.why ≡ 0 = ap (λ (u : TakeSaid). u.number) (told ∙ t) in
+      absurd (omega (arith, refusal-some e.why))
 
   -- what unpacking the part tells, where the two lists have room for every figure
-  module _ {n at : ℕ} {p : List ℕ} (taking : told n at p ≡ taken s k) (u : Unpacked) (l' ns' l ns : List ℕ)
+  module _ {n at : ℕ} {p : List ℕ} (taking : told n at p ≡ taken s k) (u : Result Unpacked Fault) (l' ns' l ns : List ℕ)
       (unpacking : unpack_told u l' ns' ≡ unpacked p l ns) (room : 64 ≤ length l) (rings : 8 ≤ length ns) where
     fits : length (said s k).numbers ≤ length l
     fits = let g = rings-good (said s k) drawable.good in omega (arith, g.numbers, g.most)
@@ -134,23 +143,25 @@ module _ (s : List ℕ) (h : Header) (sound : Sound s h) (bytes : AllBytes s) (k
         ∙ ap (λ (f : Figure). filled_by f l ns) said-is
         ∙ filled-full (said s k) l ns fits holds
 
-    pub refused_never : {why : Refusal} {place : ℕ} → u ≡ unpack.Refused why place → ⊥
+    pub refused_never : (e : Fault) → u ≡ Err e → ⊥
     unfolding full
-    refused_never {why} {place} e =
-        let z : refusal_no why ≡ 0 =
-        ap (λ (v : UnpackSaid). v.number) (ap (λ (v : Unpacked). unpack_told v l' ns') (sym e) ∙ unpacked-full)
+    refused_never e is =
+        let z : refusal_no e.why ≡ 0 =
+        ap (λ (v : UnpackSaid). v.number) (ap (λ (v : Result Unpacked Fault). unpack_told v l' ns') (sym is) ∙ unpacked-full)
         in
-        omega (arith, refusal-some why)
+        omega (arith, refusal-some e.why)
 
-    pub unpacked_fronts : {v r : ℕ} → u ≡ unpack.Figure v r → Fronts (said s k) v r l' ns'
+    pub unpacked_fronts : (w : Unpacked) → u ≡ Ok w → Fronts (said s k) w.corners w.rings l' ns'
     unfolding full
-    unpacked_fronts {v} {r} e =
+    unpacked_fronts w is =
+        let v = w.corners in
+        let r = w.rings in
         let f : Figure = said s k in
-        let q = ap (λ (w : Unpacked). unpack_told w l' ns') (sym e) ∙ unpacked-full in
-        let a : v ≡ total f = ap (λ (w : UnpackSaid). w.corners) q in
-        let b : r ≡ length f.lengths = ap (λ (w : UnpackSaid). w.rings) q in
-        let x : l' ≡ f.numbers ++ drop (length f.numbers) l = ap (λ (w : UnpackSaid). w.list) q in
-        let y : ns' ≡ f.lengths ++ drop (length f.lengths) ns = ap (λ (w : UnpackSaid). w.lengths) q in
+        let q = ap (λ (o : Result Unpacked Fault). unpack_told o l' ns') (sym is) ∙ unpacked-full in
+        let a : v ≡ total f = ap (λ (o : UnpackSaid). o.corners) q in
+        let b : r ≡ length f.lengths = ap (λ (o : UnpackSaid). o.rings) q in
+        let x : l' ≡ f.numbers ++ drop (length f.numbers) l = ap (λ (o : UnpackSaid). o.list) q in
+        let y : ns' ≡ f.lengths ++ drop (length f.lengths) ns = ap (λ (o : UnpackSaid). o.lengths) q in
         let g = rings-good f drawable.good in
         let n : length f.numbers ≡ 2 * v = omega (arith, g.numbers, a) in
         record {

@@ -17,7 +17,7 @@ use Rattle.refusal.specs.declared.Refusal.{Refusal}
 use Rattle.refusal.specs.Refusals.{refusal_no}
 use Rattle.refusal.proofs.Refusals.{refusal-some}
 use Rattle.job.specs.Calls.{CheckSaid, checked}
-use Rattle.preparation.specs.declared.outlines.Header.{Header}
+use Rattle.job.specs.declared.read.Job.{Job as Header}
 use Rattle.terminal.specs.declared.output.Output.{Output}
 use Rattle.preparation.specs.Outlines.{Sound, is_refused, any_refused}
 use Rattle.preparation.specs.Status.{status, Ends}

@@ -9,25 +9,24 @@
 --   Indexed a s index    == beside a job that is accepted stands its true index
 --   Admitted s index h   == the job s is accepted, h is what it says before its outlines, and beside it stands its true index
 --   Fronts f v r l ns    == the figure f stands at the front of two lists: 2v numbers of the one, and r of the other
-use Rattle.std.specs.Prelude.{ℕ, zero, suc, ◌*◌, ◌≤◌, ◌≡◌, Bool, false, not, ◌||◌, List, [], eqb, length, take, get_or}
+use Rattle.std.specs.Prelude.{ℕ, zero, suc, ◌*◌, ◌≤◌, ◌≡◌, Bool, false, not, ◌||◌, List, [], eqb, length, take, get_or, Result, Ok, Err}
 use Rattle.number.specs.Reading.{Reading, read, fault}
 use Rattle.figure.specs.Figure.{Figure}
 use Rattle.outline.specs.Promise.{refusal}
 use Rattle.job.specs.Job.{Part, Job, figure_of, job}
 use Rattle.job.specs.Calls.{no_part, checked}
-use Rattle.job.specs.declared.read.Checked.{Checked}
-use Rattle.job.specs.declared.read.Checked.TheVariants as check
+use Rattle.refusal.specs.declared.Fault.{Fault}
+use Rattle.job.specs.declared.read.Job.{Job as Header}
 use Rattle.index.specs.Index.{TrueIndex}
-use Rattle.preparation.specs.declared.outlines.Header.{Header}
 
 abbrev pub Sound : List ℕ → Header → Type 0
 Sound s h =
     checked s
     ≡ record { number = 0; threshold = h.threshold; weight = h.weight; outlines = h.outlines; offset = 0 }
 
-abbrev pub Indexed : Checked → List ℕ → List ℕ → Type 0
-Indexed (check.Job t w k) s index = TrueIndex s index k
-Indexed (check.Refused r at) s index = Unit {0}
+abbrev pub Indexed : Result Header Fault → List ℕ → List ℕ → Type 0
+Indexed (Ok h) s index = TrueIndex s index h.outlines
+Indexed (Err e) s index = Unit {0}
 
 pub record Admitted (s index : List ℕ) (h : Header) : Type 0 where
   pub sound : Sound s h

@@ -1,93 +1,89 @@
 // The lines that the job program prints (docs/SCOPE.md, docs/JOB.md), and its help.
-ghost use Rattle.std.specs.Prelude.{length, ◌+◌, ◌*◌, ◌≤◌};
 ghost use Rattle.terminal.specs.Output.{Remembers};
-ghost use Rattle.preparation.specs.Lines.{Listed};
 
-use fracture::Fractured;
-use refusal::{Refusal, refusal_no};
+use fracture::{Denial, Fractured};
+use refusal::{Fault, Refusal};
 use terminal::output::{Output, print, print_number};
 
-// A place as a number to print.
-fn wide(place: u16) -> u64 {
-    place as u64
+// The scope's number of a refusal, to print.
+fn number_of(why: Refusal) -> u64 {
+    u64::from(u32::from(why))
 }
 
 // The line of a job that is sound: how many outlines it has.
 pub fn print_job(out: Output, outlines: u32) -> Output
     ensures { Remembers out result }
 {
-    let counted = print_number(out, b"job ", outlines as u64);
+    let counted = print_number(out, b"job ", u64::from(outlines));
     print(counted, b"\n")
 }
 
 // The one line of a refused job.
-pub fn print_refused(out: Output, why: Refusal, at: usize) -> Output
+pub fn print_refused(out: Output, fault: Fault) -> Output
     ensures { Remembers out result }
 {
-    let refused = print_number(out, b"job refused ", refusal_no(why) as u64);
-    let placed = print_number(refused, b" at ", at as u64);
+    let refused = print_number(out, b"job refused ", number_of(fault.why));
+    let placed = print_number(refused, b" at ", fault.at as u64);
     print(placed, b"\n")
 }
 
-// The line of a shot.
-fn print_shot(out: Output, list: &[u16], at: usize) -> Output
-    requires { at + 4 ≤ length list.now }
+// The line of a shot, by its four numbers.
+fn print_shot(out: Output, shot: &[u16]) -> Output
     ensures { Remembers out result }
 {
-    let left = print_number(out, b"", wide(list[at]));
-    let low = print_number(left, b" ", wide(list[at + 1]));
-    let right = print_number(low, b" ", wide(list[at + 2]));
-    let high = print_number(right, b" ", wide(list[at + 3]));
+    let [x_low, y_low, x_high, y_high] = shot else {
+        return out;
+    };
+    let left = print_number(out, b"", u64::from(*x_low));
+    let low = print_number(left, b" ", u64::from(*y_low));
+    let right = print_number(low, b" ", u64::from(*x_high));
+    let high = print_number(right, b" ", u64::from(*y_high));
     print(high, b"\n")
 }
 
-// The lines of so many shots.
+// The lines of so many shots of a list.
 fn print_shots(out: Output, list: &[u16], shots: u32) -> Output
-    requires { 4 * shots ≤ length list.now }
     ensures { Remembers out result }
 {
     let mut next = out;
-    for i in 0..shots {
-        let at = 4 * (i as usize);
-        next = print_shot(next, list, at);
+    for shot in list.chunks_exact(4).take(shots as usize) {
+        next = print_shot(next, shot);
     }
     next
 }
 
 // The rest of the lines of an outline that was fractured.
-pub fn print_done(out: Output, shots: u32, cost: u32, sliver: u32, list: &[u16]) -> Output
-    requires { 4 * shots ≤ length list.now }
+pub fn print_done(out: Output, done: Fractured, list: &[u16]) -> Output
     ensures { Remembers out result }
 {
-    let counted = print_number(out, b" shots ", shots as u64);
-    let priced = print_number(counted, b" cost ", cost as u64);
-    let measured = print_number(priced, b" sliver ", sliver as u64);
+    let counted = print_number(out, b" shots ", u64::from(done.shots));
+    let priced = print_number(counted, b" cost ", u64::from(done.cost));
+    let measured = print_number(priced, b" sliver ", u64::from(done.sliver));
     let ended = print(measured, b"\n");
-    print_shots(ended, list, shots)
+    print_shots(ended, list, done.shots)
 }
 
 // The rest of the line of an outline that was refused.
 fn print_reason(out: Output, why: Refusal) -> Output
     ensures { Remembers out result }
 {
-    let told = print_number(out, b" refused ", refusal_no(why) as u64);
+    let told = print_number(out, b" refused ", number_of(why));
     print(told, b"\n")
 }
 
 // The lines of outline k.
-pub fn print_outline(out: Output, k: usize, answer: Fractured, list: &[u16]) -> Output
-    requires { Listed answer (length list.now) }
+pub fn print_outline(
+    out: Output,
+    k: usize,
+    answer: Result<Fractured, Denial>,
+    list: &[u16],
+) -> Output
     ensures { Remembers out result }
 {
     let named = print_number(out, b"outline ", k as u64);
     match answer {
-        Fractured::Refused(why, _) => print_reason(named, why),
-        Fractured::Done {
-            shots,
-            cost,
-            sliver,
-            cuts: _,
-        } => print_done(named, shots, cost, sliver, list),
+        Ok(done) => print_done(named, done, list),
+        Err(denial) => print_reason(named, denial.why),
     }
 }
 

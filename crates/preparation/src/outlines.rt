@@ -1,39 +1,24 @@
 // The outlines of a job that was accepted: the job is opened once, each outline is picked out of its bytes by the index, fractured by the
 // job's rule, and printed.
 ghost use Rattle.std.specs.Prelude.{length, take as List·take, ◌⊎◌, true, ◌||◌, ◌≡◌, ◌≤◌, ◌<◌};
-ghost use Rattle.job.specs.Calls.{checked, check_told, taken, told as handed};
+ghost use Rattle.job.specs.Calls.{checked, check_told};
 ghost use Rattle.piece.specs.declared.Mode.TheVariants.{Straight};
 ghost use Rattle.demands.specs.Promise.{outcome};
 ghost use Rattle.fracture.specs.Told.{told};
-ghost use Rattle.preparation.specs.Lines.{refused_by};
 ghost use Rattle.terminal.specs.Output.{Remembers};
 ghost use Rattle.preparation.specs.Outlines.{Indexed, Admitted, said, is_refused, any_refused, Fronts};
 
 use crate::lines::print_outline;
 use explanation::figures;
 use figure::{MOST_CORNERS, MOST_RINGS};
-use fracture::{Fractured, fracture};
-use index::opening::{Opened, open};
+use fracture::{Denial, Fractured, fracture};
+use index::opening::open;
 use index::picking::pick;
-use job::read::{Checked, Head, header};
+use job::read::{Job, header};
 use job::unpack::{Unpacked, unpack};
+use refusal::Fault;
 use std::rt::Stderr;
 use terminal::output::Output;
-
-// What a job says before its outlines: its rule, and how many there are.
-#[derive(Clone, Copy)]
-pub struct Header {
-    pub threshold: u32,
-    pub weight: u32,
-    pub outlines: u32,
-}
-
-// What was unpacked of a figure: how many corners and rings it has.
-#[derive(Clone, Copy)]
-struct Shape {
-    corners: usize,
-    rings: usize,
-}
 
 // What became of one outline or of several: the output after their lines, and whether one was refused.
 #[derive(Clone, Copy)]
@@ -51,80 +36,37 @@ fn front(list: &[u16], n: usize) -> &[u16]
 }
 
 // What the job says before its outlines, or why it is refused and where, with an index beside it: the job is read once.
-pub fn begin(job: &[u8], index: &mut [u16]) -> Checked
+pub fn begin(job: &[u8], index: &mut [u16]) -> Result<Job, Fault>
     requires { 255 ≤ length index.old }
     ensures { (check_told result ≡ checked job.now) × Indexed result job.now index.new }
 {
-    match open(job, index) {
-        Opened::Refused(why, at) => Checked::Refused(why, at),
-        Opened::Outlines(outlines) => match header(job) {
-            Head::Fault(fault, place) => Checked::Refused(fault, place),
-            Head::Header {
-                threshold,
-                weight,
-                outlines: _,
-                next: _,
-            } => Checked::Job {
-                threshold,
-                weight,
-                outlines,
-            },
-        },
-    }
+    let outlines = open(job, index)?;
+    let said = header(job)?;
+    Ok(Job {
+        threshold: said.threshold,
+        weight: said.weight,
+        outlines,
+    })
 }
 
-// The bytes of outline k of a job that was accepted. Picking them is not refused: the two numbers that are lent for that stay 0.
-fn part_of<'a>(job: &'a [u8], index: &[u16], k: usize, header: Header) -> &'a [u8]
-    requires admitted { Admitted job.now index.now header }
-    requires k_lt_outlines { k < header.outlines }
-    ensures { handed 0 0 result.now ≡ taken job.now k }
-{
-    let mut refusal: u32 = 0;
-    let mut offset: usize = 0;
-    let count = header.outlines as usize;
-    pick(job, index, count, k, &mut refusal, &mut offset)
-}
-
-// Unpacks outline k to the front of two lists. Where both have room, unpacking does not refuse an outline of a job that was accepted.
+// Unpacks outline k of a job that was accepted to the front of two lists. Picking its bytes is not refused, nor, where both lists have
+// room, is unpacking them.
 fn unpack_outline(
     job: &[u8],
     index: &[u16],
     k: usize,
-    header: Header,
+    header: Job,
     corners: &mut [u16],
     lengths: &mut [u16],
-) -> Shape
+) -> Unpacked
     requires admitted { Admitted job.now index.now header }
     requires k_lt_outlines { k < header.outlines }
     requires in_bounds { (64 ≤ length corners.old) × (8 ≤ length lengths.old) }
     ensures { Fronts (said job.now k) result.corners result.rings corners.new lengths.new }
 {
-    match unpack(part_of(job, index, k, header), corners, lengths) {
-        Unpacked::Refused(_, _) => Shape {
-            corners: 0,
-            rings: 0,
-        },
-        Unpacked::Figure {
-            corners: v,
-            rings: r,
-        } => Shape {
-            corners: v as usize,
-            rings: r as usize,
-        },
-    }
-}
-
-// Says in words, on standard error, why a fracture was refused.
-fn explain_refused(err: Stderr, k: usize, answer: Fractured, outline: &[u16], rings: &[u16]) {
-    match answer {
-        Fractured::Done {
-            shots: _,
-            cost: _,
-            sliver: _,
-            cuts: _,
-        } => {}
-        Fractured::Refused(why, _) => figures::explain(err, k, why, outline, rings),
-    }
+    let count = header.outlines as usize;
+    let part = pick(job, index, count, k).unwrap();
+    unpack(part, corners, lengths).unwrap()
 }
 
 // The fracture of outline k, as the job says it; a refusal is explained at once.
@@ -133,37 +75,24 @@ fn fracture_outline(
     job: &[u8],
     index: &[u16],
     k: usize,
-    header: Header,
+    header: Job,
     table: &mut [u32],
     list: &mut [u16],
-) -> Fractured
+) -> Result<Fractured, Denial>
     requires admitted { Admitted job.now index.now header }
     requires k_lt_outlines { k < header.outlines }
     ensures { told result table.new list.new ≡ outcome (record { mode = Straight; figure = said job.now k; threshold = header.threshold; weight = header.weight; table = table.old; list = list.old }) }
 {
     let mut corners = [0u16; 2 * MOST_CORNERS];
     let mut lengths = [0u16; MOST_RINGS];
-    let shape = unpack_outline(job, index, k, header, &mut corners, &mut lengths);
-    let outline = front(&corners, 2 * shape.corners);
-    let rings = front(&lengths, shape.rings);
+    let unpacked = unpack_outline(job, index, k, header, &mut corners, &mut lengths);
+    let outline = front(&corners, 2 * (unpacked.corners as usize));
+    let rings = front(&lengths, unpacked.rings as usize);
     let answer = fracture(outline, rings, header.threshold, header.weight, table, list);
-    explain_refused(err, k, answer, outline, rings);
-    answer
-}
-
-// Whether a fracture was refused.
-fn is_refused(answer: Fractured) -> bool
-    ensures { result ≡ refused_by answer }
-{
-    match answer {
-        Fractured::Done {
-            shots: _,
-            cost: _,
-            sliver: _,
-            cuts: _,
-        } => false,
-        Fractured::Refused(_, _) => true,
+    if let Err(denial) = answer {
+        figures::explain(err, k, denial.why, outline, rings);
     }
+    answer
 }
 
 // Outline k, fractured and printed.
@@ -171,7 +100,7 @@ fn run_outline(
     job: &[u8],
     index: &[u16],
     k: usize,
-    header: Header,
+    header: Job,
     table: &mut [u32],
     list: &mut [u16],
     out: Output,
@@ -183,15 +112,13 @@ fn run_outline(
     ensures remembers { Remembers out result.out }
 {
     let answer = fracture_outline(out.console.err, job, index, k, header, table, list);
-    let refused = is_refused(answer);
-    let printed = print_outline(out, k, answer, list);
     Ran {
-        out: printed,
-        refused,
+        out: print_outline(out, k, answer, list),
+        refused: answer.is_err(),
     }
 }
 
-// Whether one or the other was refused.
+// Whether one or the other was refused. A call of its own: the proof of the loop takes its value by its promise.
 fn either(one: bool, other: bool) -> bool
     ensures { result ≡ (one || other) }
 {
@@ -202,7 +129,7 @@ fn either(one: bool, other: bool) -> bool
 pub fn run_outlines(
     job: &[u8],
     index: &[u16],
-    header: Header,
+    header: Job,
     table: &mut [u32],
     list: &mut [u16],
     out: Output,
@@ -219,8 +146,7 @@ pub fn run_outlines(
         let ran = run_outline(job, index, k as usize, header, table, list, next);
         next = ran.out;
         refused = either(refused, ran.refused);
-        let failed = next.failed;
-        if failed {
+        if next.failed {
             break;
         }
     }

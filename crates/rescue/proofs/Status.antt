@@ -13,11 +13,11 @@ use mathlib.Core.List.{List}
 use native.Mathlib.Omega.{arith}
 use lib.Dec.{eqb}
 use borrow.Author.Tests.{eq-eqb, ne_eqb}
-use Rattle.refusal.specs.declared.Refusal.{Refusal}
+use Rattle.std.specs.Prelude.{Result, Ok, Err}
+use Rattle.refusal.specs.declared.Fault.{Fault}
 use Rattle.refusal.specs.Refusals.{refusal_no}
 use Rattle.refusal.proofs.Refusals.{refusal-some}
 use Rattle.saving.specs.declared.Saved.{Saved}
-use Rattle.saving.specs.declared.Saved.TheVariants as save
 use Rattle.saving.specs.Salvage.{SaveSaid, saved, save_told}
 use Rattle.rescue.specs.Status.{nothing_lost, status}
 
@@ -27,23 +27,22 @@ whole-both lost dropped e = sym (ap (λ (t : Bool). t && eqb dropped 0) (eq-eqb 
 pub whole-not : (lost dropped : ℕ) → (lost ≡ 0 → ⊥) → eqb lost 0 ≡ (eqb lost 0 && eqb dropped 0)
 whole-not lost dropped e = ne_eqb lost 0 e ∙ sym (ap (λ (t : Bool). t && eqb dropped 0) (ne_eqb lost 0 e))
 
-module _ (s room after : List ℕ) (u : Saved) (saving : save_told u after ≡ saved s room) where
-  pub status-refused : {why : Refusal} {at : ℕ} → u ≡ save.Refused why at → 1 ≡ status s room
+module _ (s room after : List ℕ) (u : Result Saved Fault) (saving : save_told u after ≡ saved s room) where
+  pub status-refused : (why : Fault) → u ≡ Err why → 1 ≡ status s room
   unfolding status
-  status-refused {why} {at} e =
-      let some = refusal-some why in
-      let told : SaveSaid = save_told (save.Refused why at) after in
-      let no = ne_eqb (refusal_no why) 0 (λ z. omega arith) in
+  status-refused why e =
+      let some = refusal-some why.why in
+      let told : SaveSaid = save_told (Err why) after in
+      let no = ne_eqb (refusal_no why.why) 0 (λ z. omega arith) in
       sym (ap (λ (b : Bool). cond (b && (eqb told.lost 0 && eqb told.dropped 0)) 0 1) no)
-      ∙ ap (λ (w : SaveSaid). cond (nothing_lost w) 0 1) (ap (λ (v : Saved). save_told v after) (sym e) ∙ saving)
+      ∙ ap (λ (w : SaveSaid). cond (nothing_lost w) 0 1) (ap (λ (v : Result Saved Fault). save_told v after) (sym e) ∙ saving)
 
-  pub status-saved : {bytes kept lost dropped : ℕ} → u ≡ save.Job bytes kept lost dropped → {b : Bool} → b ≡ (eqb lost 0 && eqb dropped 0)
-      → cond b 0 1 ≡ status s room
+  pub status-saved : {v : Saved} → u ≡ Ok v → {b : Bool} → b ≡ (eqb v.lost 0 && eqb v.dropped 0) → cond b 0 1 ≡ status s room
   unfolding status
   status-saved e f =
       ap (λ (c : Bool). cond c 0 1) f
-      ∙ ap (λ (w : SaveSaid). cond (nothing_lost w) 0 1) (ap (λ (v : Saved). save_told v after) (sym e) ∙ saving)
+      ∙ ap (λ (w : SaveSaid). cond (nothing_lost w) 0 1) (ap (λ (v : Result Saved Fault). save_told v after) (sym e) ∙ saving)
 
-  pub ends-saved : {bytes kept lost dropped : ℕ} → u ≡ save.Job bytes kept lost dropped → {b : Bool} → b ≡ (eqb lost 0 && eqb dropped 0)
-      → {n : ℕ} → (n ≡ 2) ⊎ (n ≡ cond b 0 1) → (n ≡ 2) ⊎ (n ≡ status s room)
+  pub ends-saved : {v : Saved} → u ≡ Ok v → {b : Bool} → b ≡ (eqb v.lost 0 && eqb v.dropped 0) → {n : ℕ}
+      → (n ≡ 2) ⊎ (n ≡ cond b 0 1) → (n ≡ 2) ⊎ (n ≡ status s room)
   ends-saved e f ends = ⊎_elim inl (λ g. inr (g ∙ status-saved e f)) ends

@@ -4,11 +4,12 @@
 #![tactic(auto)]
 
 ghost use Rattle.std.specs.Prelude.{eqb, ◌&&◌, cond, ◌⊎◌, ◌≡◌};
+ghost use Rattle.terminal.specs.Status.{status_no};
 ghost use Rattle.rescue.specs.Status.{status};
 
 use explanation::jobs::{explain, say_if_drawing};
 use job::MOST_BYTES;
-use refusal::Refusal;
+use refusal::Fault;
 use saving::{Saved, save};
 use std::rt::Stderr;
 use terminal::arguments::{is_argument, read_only};
@@ -16,26 +17,26 @@ use terminal::console::Console;
 use terminal::errors::{complain, say, say_number};
 use terminal::host::Host;
 use terminal::output::{Output, finish, nothing_yet, print};
-use terminal::{DONE, FAILED, REFUSED};
+use terminal::status::Status;
 
 // The line of a job that was saved; of a text drawing, of which nothing is, one more.
-fn report(err: Stderr, job: &[u8], kept: u32, lost: u32, dropped: usize) {
-    say_number(err, b"kept ", kept as u64);
-    say_number(err, b" lost ", lost as u64);
-    say_number(err, b" dropped ", dropped as u64);
+fn report(err: Stderr, job: &[u8], saved: Saved) {
+    say_number(err, b"kept ", u64::from(saved.kept));
+    say_number(err, b" lost ", u64::from(saved.lost));
+    say_number(err, b" dropped ", saved.dropped as u64);
     say(err, b"\n");
-    if kept == 0 {
+    if saved.kept == 0 {
         say_if_drawing(err, job);
     }
 }
 
 // The line of a job that cannot be saved, in words.
-fn refuse(err: Stderr, job: &[u8], why: Refusal, at: usize) -> u32
-    ensures { result ≡ 1 }
+fn refuse(err: Stderr, job: &[u8], fault: Fault) -> Status
+    ensures { status_no result ≡ 1 }
 {
     say(err, b"job ");
-    explain(err, job, why, at);
-    REFUSED
+    explain(err, job, fault);
+    Status::Refused
 }
 
 // Whether all of the job was kept: no outline lost, no byte dropped.
@@ -45,44 +46,38 @@ fn is_whole(lost: u32, dropped: usize) -> bool
     lost == 0 && dropped == 0
 }
 
-// Writes the last of the output, and gives the status: 1 where something was lost.
-fn ended(out: Output, whole: bool) -> u32
-    ensures { (result ≡ 2) ⊎ (result ≡ cond whole 0 1) }
+// Writes the last of the output, and gives the status: refused where something was lost.
+fn ended(out: Output, whole: bool) -> Status
+    ensures { (status_no result ≡ 2) ⊎ (status_no result ≡ cond whole 0 1) }
 {
     if !finish(out) {
-        complain(out.console.err, b"salvage: writing failed\n");
-        return FAILED;
+        return complain(out.console.err, b"salvage: writing failed\n");
     }
     if whole {
-        return DONE;
+        return Status::Done;
     }
-    REFUSED
+    Status::Refused
 }
 
 // A job: saved, with a report where all of it was written; or refused in one line.
-pub fn run(console: Console, job: &[u8], room: &mut [u8]) -> u32
-    ensures { (result ≡ 2) ⊎ (result ≡ status job.now room.old) }
+pub fn run(console: Console, job: &[u8], room: &mut [u8]) -> Status
+    ensures { (status_no result ≡ 2) ⊎ (status_no result ≡ status job.now room.old) }
 {
     match save(job, room) {
-        Saved::Refused(why, at) => refuse(console.err, job, why, at),
-        Saved::Job {
-            bytes,
-            kept,
-            lost,
-            dropped,
-        } => {
-            let written = print(nothing_yet(console), &room[..bytes]);
-            let ends = ended(written, is_whole(lost, dropped));
-            if ends != FAILED {
-                report(console.err, job, kept, lost, dropped);
+        Ok(saved) => {
+            let written = print(nothing_yet(console), &room[..saved.bytes]);
+            let ends = ended(written, is_whole(saved.lost, saved.dropped));
+            if ends != Status::Failed {
+                report(console.err, job, saved);
             }
             ends
         }
+        Err(fault) => refuse(console.err, job, fault),
     }
 }
 
 // The help: what the words mean, and the status.
-fn help(console: Console) -> u32 {
+fn help(console: Console) -> Status {
     let named = print(
         nothing_yet(console),
         b"salvage [FILE] > SOUND: keeps the outlines of a broken job before its first fault, as a sound job\n",
@@ -100,20 +95,17 @@ fn help(console: Console) -> u32 {
 }
 
 // The run of the job that the one word names, or of standard input. One byte more than the longest job is read, so that a longer one shows.
-fn read_and_run<H: Host>(host: &H) -> u32 {
+fn read_and_run<H: Host>(host: &H) -> Status {
     let mut job = [0u8; MOST_BYTES + 1];
     let mut room = [0u8; MOST_BYTES];
-    let got = read_only(host, b"salvage", &mut job);
-    let failed = got.failed;
-    if failed {
-        return FAILED;
-    }
-    let n = got.bytes;
+    let Some(n) = read_only(host, b"salvage", &mut job) else {
+        return Status::Failed;
+    };
     run(host.console(), &job[..n], &mut room)
 }
 
 // The whole run, with its status.
-pub fn pw_salvage_run<H: Host>(host: &H) -> u32 {
+pub fn pw_salvage_run<H: Host>(host: &H) -> Status {
     let console = host.console();
     if 2 < host.word_count() {
         return complain(

@@ -1,5 +1,5 @@
 // The drawings of the scope's table and the worked figures with several rings, and what is said of each.
-use super::guarded::sum;
+use super::second::{Answer, Asked};
 
 // Rows 0 to 19 are the scope's; those from 20 on have rings, or ring lengths that are refused.
 pub const WINDOWS: usize = 20;
@@ -7,10 +7,22 @@ pub const WINDOWS: usize = 20;
 // How many rows there are.
 pub const COUNT: usize = 33;
 
-// A row: outline and how many numbers it has; threshold, weight, entries and list lent; then the number, shots, cost and sliver
-// length to be answered, and the shot list; at last the ring lengths and how many there are. Outline, shots and ring lengths are
-// numbers of lists.
-const ROWS: [[usize; 13]; COUNT] = [
+// A row: outline and how many numbers it has; what is asked; what is to be answered, and the shot list; at last the ring lengths and how
+// many there are. Outline, shots and ring lengths are numbers of lists.
+#[derive(Clone, Copy)]
+pub struct Row {
+    pub outline: usize,
+    pub numbers: usize,
+    pub asked: Asked,
+    pub answer: Answer,
+    pub shots: usize,
+    pub lengths: usize,
+    pub rings: usize,
+}
+
+// The rows, a number in each column: outline, numbers; threshold, weight, entries and list lent; number, shots, cost and sliver length,
+// shot list; ring lengths, rings.
+const ROWS: [[u32; 13]; COUNT] = [
     [0, 12, 25, 40, 14400, 900, 0, 2, 5200, 80, 13, 44, 1],
     [0, 12, 20, 40, 14400, 900, 0, 2, 2000, 0, 13, 44, 1],
     [2, 16, 25, 40, 14400, 900, 0, 3, 3000, 0, 14, 45, 1],
@@ -51,7 +63,7 @@ const ROWS: [[usize; 13]; COUNT] = [
 
 // The lists, eight numbers to a line: a ring of four corners, or two shots. What is longer goes on in the next line, and ends where
 // its numbers are counted out.
-const LISTS: [[usize; 8]; 51] = [
+const LISTS: [[u16; 8]; 51] = [
     // Outlines: 0 L, 2 B, 4 the bar of 24, 5 the square of 10, 6 two squares at a corner, 8 the unit square twice over, 10 the
     // slanted one, 11 the one with a corner on a straight edge.
     [0, 0, 100, 0, 100, 20, 60, 20],
@@ -114,12 +126,45 @@ const LISTS: [[usize; 8]; 51] = [
     [4, 3, 0, 0, 0, 0, 0, 0],
 ];
 
-// A number of a row, by its column.
-pub fn row(k: usize, column: usize) -> usize {
-    ROWS[k % COUNT][column % 13]
+// A row by its number.
+pub fn row_of(k: usize) -> Row {
+    let [
+        outline,
+        numbers,
+        threshold,
+        weight,
+        entries,
+        room,
+        number,
+        shots,
+        cost,
+        sliver,
+        listed,
+        lengths,
+        rings,
+    ] = ROWS[k % COUNT];
+    Row {
+        outline: outline as usize,
+        numbers: numbers as usize,
+        asked: Asked {
+            threshold,
+            weight,
+            entries: entries as usize,
+            room: room as usize,
+        },
+        answer: Answer {
+            number,
+            shots,
+            cost,
+            sliver,
+        },
+        shots: listed as usize,
+        lengths: lengths as usize,
+        rings: rings as usize,
+    }
 }
 
 // A number of a list.
-pub fn list(n: usize, i: usize) -> usize {
-    LISTS[sum(n, i / 8) % 51][i % 8]
+pub fn list(n: usize, i: usize) -> u16 {
+    LISTS[n.wrapping_add(i / 8) % 51][i % 8]
 }

@@ -1,6 +1,4 @@
-// Figures that are made up from seeds. Of one ring: walks (sorts 1 to 3), combs (4) and staircases (5). Of two to eight rings:
-// windows in windows (8), squares that touch (9), rings of several lengths that cross (10) and rings that come again (11).
-use super::guarded::{gap, pick, product, sum};
+// Figures that are made up from seeds: of one ring, which is a walk, a comb or a staircase; and of two to eight rings.
 
 // A number from a seed and a turn.
 pub fn drawn(seed: usize, turn: usize) -> usize {
@@ -11,16 +9,46 @@ pub fn drawn(seed: usize, turn: usize) -> usize {
     d / 1024
 }
 
+// The shape of a ring: a walk that crosses itself, one on few lines, which touches itself, one along 16 by 16 lines; a comb; a
+// staircase; and the squares of figures of several rings, that lie in one another or touch.
+#[derive(Clone, Copy)]
+pub enum Shape {
+    CrossingWalk,
+    TouchingWalk,
+    GridWalk,
+    Comb,
+    Staircase,
+    Window,
+    Square,
+}
+
+// How several rings lie: windows in windows, squares that touch, rings of several lengths that cross, and rings that come again.
+#[derive(Clone, Copy)]
+pub enum Rings {
+    Nested,
+    Touching,
+    Crossing,
+    Repeated,
+}
+
+// A figure of one ring or of several.
+#[derive(Clone, Copy)]
+pub enum Figure {
+    One(Shape),
+    Several(Rings),
+}
+
 // How many numbers a figure has: four to a turn of a walk and to a step, eight to a tooth of a comb and to a square.
-pub fn size(sort: usize, k: usize) -> usize {
-    match sort {
-        1 => drawn(k, 900) % 14 * 4 + 8,
-        2 => drawn(k, 900) % 7 * 8 + 8,
-        3 => 64,
-        4 => drawn(k, 920) % 7 * 8 + 16,
-        5 => drawn(k, 940) % 14 * 4 + 12,
-        10 => 64,
-        _ => drawn(k, 980) % 7 * 8 + 16,
+pub fn size(figure: Figure, k: usize) -> usize {
+    match figure {
+        Figure::One(Shape::CrossingWalk) => drawn(k, 900) % 14 * 4 + 8,
+        Figure::One(Shape::TouchingWalk) => drawn(k, 900) % 7 * 8 + 8,
+        Figure::One(Shape::GridWalk) => 64,
+        Figure::One(Shape::Comb) => drawn(k, 920) % 7 * 8 + 16,
+        Figure::One(Shape::Staircase) => drawn(k, 940) % 14 * 4 + 12,
+        Figure::One(Shape::Window | Shape::Square) => 8,
+        Figure::Several(Rings::Crossing) => 64,
+        Figure::Several(_) => drawn(k, 980) % 7 * 8 + 16,
     }
 }
 
@@ -31,38 +59,55 @@ pub fn size(sort: usize, k: usize) -> usize {
 fn depth(seed: usize) -> usize {
     let figure = seed / 8;
     let odd = drawn(figure, 992) % 4 * 2 + 1;
-    sum(product(seed % 8, odd), drawn(figure, 993)) % 8
+    (seed % 8)
+        .wrapping_mul(odd)
+        .wrapping_add(drawn(figure, 993))
+        % 8
 }
 
 // The line that a walk goes along at a turn, of the x (way 0) or the y (way 1). Neighbours differ in being odd. A square is a walk
 // of two turns.
-fn walk_line(sort: usize, seed: usize, way: usize, turn: usize) -> usize {
+fn walk_line(shape: Shape, seed: usize, way: usize, turn: usize) -> usize {
     let t = turn % 32;
     let w = way % 2;
     let any = drawn(seed, t * 2 + w) % 8;
     let odd = drawn(seed, 901 + w) % 8 * 2 + 1;
-    match sort {
-        1 => any * 2 + t % 2,
-        2 => any % 2 * 2 + t % 2,
-        8 => pick(t % 2 == 0, depth(seed), gap(depth(seed), 15)),
-        9 => drawn(seed, 990 + w) % 4 + t % 2,
-        _ => sum(product(t, odd), drawn(seed, 903 + w)) % 16,
+    match shape {
+        Shape::CrossingWalk => any * 2 + t % 2,
+        Shape::TouchingWalk => any % 2 * 2 + t % 2,
+        Shape::Window if t % 2 == 0 => depth(seed),
+        Shape::Window => 15usize.saturating_sub(depth(seed)),
+        Shape::Square => drawn(seed, 990 + w) % 4 + t % 2,
+        _ => t.wrapping_mul(odd).wrapping_add(drawn(seed, 903 + w)) % 16,
     }
 }
 
-// The line of number i of a ring of so many. A corner's x is the next turn's, and its y is this turn's. A comb has teeth of any
-// height on a back.
-fn line(sort: usize, seed: usize, i: usize, numbers: usize) -> usize {
+// The y of a comb's corner: teeth of any height on a back.
+fn comb_line(seed: usize, next: usize, tooth: usize) -> usize {
+    match next {
+        0 => 0,
+        _ if next % 2 == 1 => drawn(seed, tooth % 16 + 930) % 12 + 2,
+        _ => 1,
+    }
+}
+
+// The line of number i of a ring of so many. A corner's x is the next turn's, and its y is this turn's.
+fn line(shape: Shape, seed: usize, i: usize, numbers: usize) -> usize {
     let v = i % 128 / 2;
     let here = v / 2;
-    let next = pick(v * 2 + 2 < numbers, (v + 1) / 2, 0);
-    let top = drawn(seed, 930 + v / 4) % 12 + 2;
-    match sort % 16 * 2 + i % 2 {
-        8 => here,
-        9 => pick(next % 2 == 1, top, pick(next == 0, 0, 1)),
-        10 => pick(next == 0, 0, gap(next, numbers / 4)),
-        11 => here,
-        _ => walk_line(sort, seed, i % 2, pick(i % 2 == 0, next, here)),
+    let next = if v * 2 + 2 < numbers {
+        v.div_ceil(2)
+    } else {
+        0
+    };
+    match (shape, i % 2) {
+        (Shape::Comb, 0) => here,
+        (Shape::Comb, _) => comb_line(seed, next, v / 4),
+        (Shape::Staircase, 0) if next == 0 => 0,
+        (Shape::Staircase, 0) => (numbers / 4).saturating_sub(next),
+        (Shape::Staircase, _) => here,
+        (_, 0) => walk_line(shape, seed, 0, next),
+        _ => walk_line(shape, seed, 1, here),
     }
 }
 
@@ -81,66 +126,99 @@ const SHARES: [[usize; 8]; 7] = [
 ];
 
 // How many rings a figure has.
-pub fn rings(sort: usize, k: usize) -> usize {
-    pick(sort < 8, 1, drawn(k, 980) % 7 + 2)
+pub fn ring_count(figure: Figure, k: usize) -> usize {
+    match figure {
+        Figure::One(_) => 1,
+        Figure::Several(_) => drawn(k, 980) % 7 + 2,
+    }
 }
 
-// How many corners a ring of a figure of several has.
-pub fn ring_length(sort: usize, k: usize, ring: usize) -> usize {
-    SHARES[pick(sort == 10, drawn(k, 980), 6) % 7][ring % 8]
+// How many corners the rings of a figure of several have.
+pub fn shares(rings: Rings, k: usize) -> [usize; 8] {
+    match rings {
+        Rings::Crossing => SHARES[drawn(k, 980) % 7],
+        _ => [4; 8],
+    }
 }
 
-// A ring of a figure, and the corners before its own.
+// A ring of a figure, how many corners lie before its own, and how many it has.
 #[derive(Clone, Copy)]
 struct Ring {
     number: usize,
     before: usize,
+    length: usize,
 }
 
 // The ring that has corner v of a figure.
-fn ring_of(sort: usize, k: usize, v: usize) -> Ring {
-    let mut number: usize = 0;
+fn ring_of(rings: Rings, k: usize, v: usize) -> Ring {
+    let mut ring = Ring {
+        number: 0,
+        before: 0,
+        length: 0,
+    };
     let mut before: usize = 0;
-    let mut next: usize = 0;
-    for r in 0..8 {
-        number = pick(next <= v, r, number);
-        before = pick(next <= v, next, before);
-        next = sum(next, ring_length(sort, k, r));
+    for (number, length) in shares(rings, k).iter().enumerate() {
+        if before <= v {
+            ring = Ring {
+                number,
+                before,
+                length: *length,
+            };
+        }
+        before = before.wrapping_add(*length);
     }
-    Ring { number, before }
+    ring
 }
 
 // The corner that stands for corner v of a ring, since rings begin at any corner and go round either way.
 fn turned(seed: usize, v: usize, length: usize) -> usize {
     let back = drawn(seed, 995) % 2 == 1;
-    let along = pick(back, gap(sum(v, 1), length), v);
-    let on = sum(along, drawn(seed, 996) % 4);
-    pick(on < length, on, gap(length, on))
+    let along = if back {
+        length.saturating_sub(v.wrapping_add(1))
+    } else {
+        v
+    };
+    let on = along.wrapping_add(drawn(seed, 996) % 4);
+    if on < length { on } else { on - length }
 }
 
 // The seed of a ring: that of its figure and its number, or one of three where rings come again.
-fn ring_seed(sort: usize, k: usize, ring: usize) -> usize {
-    let again = drawn(k, 981 + ring % 8) % 3;
-    sum(product(k, 8), pick(sort == 11, again, ring))
+fn ring_seed(rings: Rings, k: usize, ring: usize) -> usize {
+    let number = match rings {
+        Rings::Repeated => drawn(k, ring % 8 + 981) % 3,
+        _ => ring,
+    };
+    k.wrapping_mul(8).wrapping_add(number)
 }
 
-// Rings that cross are walks, combs and staircases; rings that come again are walks.
-const CROSSING: [usize; 3] = [1, 4, 5];
+// Rings that cross are walks, combs and staircases.
+const CROSSING: [Shape; 3] = [Shape::CrossingWalk, Shape::Comb, Shape::Staircase];
 
-fn ring_shape(sort: usize, seed: usize) -> usize {
-    let crossing = CROSSING[drawn(seed, 994) % 3];
-    pick(sort == 10, crossing, pick(sort == 11, 1, sort))
+// The shape of a ring of several.
+fn ring_shape(rings: Rings, seed: usize) -> Shape {
+    match rings {
+        Rings::Nested => Shape::Window,
+        Rings::Touching => Shape::Square,
+        Rings::Crossing => CROSSING[drawn(seed, 994) % 3],
+        Rings::Repeated => Shape::CrossingWalk,
+    }
 }
 
 // The line of number i of a figure of several rings.
-fn ring_line(sort: usize, k: usize, i: usize) -> usize {
-    let ring = ring_of(sort, k, i / 2);
-    let own = gap(ring.before, i / 2);
-    let length = ring_length(sort, k, ring.number);
-    let seed = ring_seed(sort, k, ring.number);
-    let shape = ring_shape(sort, seed);
-    let v = turned(sum(product(k, 8), ring.number), own, length);
-    line(shape, seed, sum(product(v, 2), i % 2), product(length, 2))
+fn ring_line(rings: Rings, k: usize, i: usize) -> usize {
+    let ring = ring_of(rings, k, i / 2);
+    let seed = ring_seed(rings, k, ring.number);
+    let v = turned(
+        k.wrapping_mul(8).wrapping_add(ring.number),
+        (i / 2).saturating_sub(ring.before),
+        ring.length,
+    );
+    line(
+        ring_shape(rings, seed),
+        seed,
+        v.wrapping_mul(2).wrapping_add(i % 2),
+        ring.length.wrapping_mul(2),
+    )
 }
 
 // ---- numbers
@@ -149,10 +227,13 @@ fn ring_line(sort: usize, k: usize, i: usize) -> usize {
 const STEPS: [usize; 6] = [1, 5, 24, 25, 100, 4000];
 
 // Number i of a figure of so many: even steps, from an offset.
-pub fn number(sort: usize, k: usize, i: usize, numbers: usize) -> usize {
+pub fn number(figure: Figure, k: usize, i: usize, numbers: usize) -> usize {
     let way = i % 2;
     let step = STEPS[drawn(k, 910 + way) % 6];
     let offset = drawn(k, 912 + way) % 50;
-    let line = pick(sort < 8, line(sort, k, i, numbers), ring_line(sort, k, i));
-    sum(product(line, step), offset)
+    let line = match figure {
+        Figure::One(shape) => line(shape, k, i, numbers),
+        Figure::Several(rings) => ring_line(rings, k, i),
+    };
+    line.wrapping_mul(step).wrapping_add(offset)
 }

@@ -4,14 +4,13 @@
 
 mod document;
 mod drawings;
-mod guarded;
 mod made;
 mod second;
 
-use fracture::Fractured;
-use guarded::{gap, pick, sum};
-use refusal::refusal_no;
-use second::{Answer, Asked, Memory};
+use document::Row;
+use drawings::{Drawing, SORTS, Sort};
+use fracture::{Denial, ENTRIES, Fractured, NUMBERS};
+use second::{Answer, Asked, Pieces, Solved};
 
 // What the library answered, and whether all of it was the same as the second's and the scope's.
 #[derive(Clone, Copy)]
@@ -22,22 +21,17 @@ struct Compared {
 
 // ---- the library's answer
 
-fn answered(by: Fractured) -> Answer {
+fn answered(by: Result<Fractured, Denial>) -> Answer {
     match by {
-        Fractured::Done {
-            shots,
-            cost,
-            sliver,
-            cuts: _,
-        } => Answer {
+        Ok(done) => Answer {
             number: 0,
-            shots: shots as usize,
-            cost: cost as usize,
-            sliver: sliver as usize,
+            shots: done.shots,
+            cost: done.cost,
+            sliver: done.sliver,
         },
-        Fractured::Refused(why, shots) => Answer {
-            number: refusal_no(why) as usize,
-            shots: shots as usize,
+        Err(denial) => Answer {
+            number: u32::from(denial.why),
+            shots: denial.needed,
             cost: 0,
             sliver: 0,
         },
@@ -46,175 +40,120 @@ fn answered(by: Fractured) -> Answer {
 
 // ---- comparison
 
-fn same_answer(a: Answer, b: Answer) -> bool {
-    (a.number == b.number) & (a.shots == b.shots) & (a.cost == b.cost) & (a.sliver == b.sliver)
-}
-
-// Whether an answer is what the scope says of a row; of a figure that is no row it says nothing.
-fn as_document(row: usize, told: Answer) -> bool {
-    let said = Answer {
-        number: document::row(row, 6),
-        shots: document::row(row, 7),
-        cost: document::row(row, 8),
-        sliver: document::row(row, 9),
-    };
-    (document::COUNT <= row) | same_answer(told, said)
-}
-
 // Whether the library's list is the second's and, of a row, the scope's.
-fn same_list(list: &[u16; 900], own: &Memory, row: usize, shots: usize) -> bool {
-    let numbers = shots % 256 * 4;
-    let mut same = true;
-    for i in 0..numbers {
-        let v = guarded::place(list, i);
-        let said = (document::COUNT <= row) | (v == document::list(document::row(row, 10), i));
-        same = same & said & (v == second::listed(own, i));
+fn same_list(list: &[u16], own: &Solved, pieces: &Pieces, row: Option<Row>, shots: u32) -> bool {
+    for (i, number) in list.iter().enumerate().take(shots as usize % 256 * 4) {
+        if second::listed(own, pieces, i) != Some(u32::from(*number)) {
+            return false;
+        }
+        if let Some(row) = row
+            && document::list(row.shots, i) != *number
+        {
+            return false;
+        }
     }
-    same
+    true
 }
 
 // Whether the library's table has the second's costs, which stand in the same order with gaps.
-fn same_costs(table: &[u32; 14400], own: &Memory) -> bool {
-    let mut entry: usize = 0;
-    let mut same = true;
+fn same_costs(table: &[u32], pieces: &Pieces) -> bool {
+    let mut entries = table.iter();
     for p in 0..65536 {
-        let cost = second::get(own, second::BILL, p) / second::COST;
-        let gap = 4294967295 < cost;
-        same = same & (gap | ((cost % 4294967296) as u32 == table[entry % 14400]));
-        entry = pick(gap, entry, sum(entry, 1));
+        if let Some(cost) = second::cost(pieces, p)
+            && entries.next() != Some(&cost)
+        {
+            return false;
+        }
     }
-    same
+    true
 }
 
-// Whether the second answers the same, with the same list and costs if there are any; and so does the scope of a row.
-fn agrees(
-    corners: &[u16],
-    lengths: &[u16],
-    asked: Asked,
-    row: usize,
-    told: Answer,
-    table: &[u32; 14400],
-    list: &[u16; 900],
-) -> bool {
-    let mut own = [second::UNSETTLED; 132096];
-    let other = second::fracture(corners, lengths, asked, &mut own);
-    let filled = same_list(list, &own, row, told.shots) & same_costs(table, &own);
-    same_answer(told, other) & as_document(row, told) & (filled | (told.number != 0))
+// Whether the second answers the same, with the same list and costs if there are any; and so does the scope of a row. Of a figure
+// that is no row it says nothing.
+fn agrees(drawing: &Drawing, told: Answer, table: &[u32], list: &[u16]) -> bool {
+    let mut pieces: Pieces = [None; 65536];
+    let row = drawing.row;
+    let other = second::fracture(
+        drawing.outline(),
+        drawing.ring_lengths(),
+        drawing.asked,
+        &mut pieces,
+    );
+    if told != second::told(&other) || row.is_some_and(|row| row.answer != told) {
+        return false;
+    }
+    match other {
+        Ok(own) => { same_list(list, &own, &pieces, row, told.shots) && same_costs(table, &pieces) }
+        Err(_) => true,
+    }
 }
 
 // Fractures a figure by the library, and compares.
-fn compare(corners: &[u16], lengths: &[u16], asked: Asked, row: usize) -> Compared {
-    let mut table = [0u32; 14400];
-    let mut list = [0u16; 900];
-    let entries = asked.entries % 14401;
-    let room = asked.room % 901;
-    let threshold = (asked.threshold % 65536) as u32;
-    let weight = (asked.weight % 65536) as u32;
+fn compare(drawing: &Drawing) -> Compared {
+    let asked = drawing.asked;
+    let mut table = [0u32; ENTRIES];
+    let mut list = [0u16; NUMBERS];
+    let entries = asked.entries.min(ENTRIES);
+    let room = asked.room.min(NUMBERS);
     let told = answered(fracture::fracture(
-        corners,
-        lengths,
-        threshold,
-        weight,
+        drawing.outline(),
+        drawing.ring_lengths(),
+        asked.threshold,
+        asked.weight,
         &mut table[..entries],
         &mut list[..room],
     ));
-    let same = agrees(corners, lengths, asked, row, told, &table, &list);
+    let same = agrees(drawing, told, &table, &list);
     Compared { told, same }
-}
-
-// ---- printing
-
-// The forms of what is printed, a line each; a number goes where # stands.
-fn form(i: usize) -> u8 {
-    let forms = b"row # rule # #: number # shots # cost # sliver #, DIFFERENT\n\
-        row # rule # #: number # shots # cost # sliver #, the same\n\
-        the scope: # outlines, # fractured, # shots, # different\n\
-        crossing walks: # outlines, # fractured, # shots, # different\n\
-        touching walks: # outlines, # fractured, # shots, # different\n\
-        16 by 16 lines: # outlines, # fractured, # shots, # different\n\
-        combs: # outlines, # fractured, # shots, # different\n\
-        staircases: # outlines, # fractured, # shots, # different\n\
-        spoilt walks: # outlines, # fractured, # shots, # different\n\
-        windows: # outlines, # fractured, # shots, # different\n\
-        nested rings: # outlines, # fractured, # shots, # different\n\
-        touching rings: # outlines, # fractured, # shots, # different\n\
-        crossing rings: # outlines, # fractured, # shots, # different\n\
-        repeated rings: # outlines, # fractured, # shots, # different\n\
-        spoilt rings: # outlines, # fractured, # shots, # different\n";
-    if i < forms.len() { forms[i] } else { 0 }
-}
-
-// Prints a byte of a form, or a number instead of a #; gives how many numbers that was.
-fn print_byte(byte: u8, number: usize) -> usize {
-    if byte == b'#' {
-        io::print_decimal(1, number as u64);
-        return 1;
-    }
-    io::write_all(1, &[byte; 1]);
-    0
-}
-
-// Prints a line by its form.
-fn print(line: usize, numbers: [usize; 7]) {
-    let mut here: usize = 0;
-    let mut next: usize = 0;
-    for i in 0..1000 {
-        let byte = form(i);
-        if here == line {
-            next = sum(next, print_byte(byte, numbers[next % 7]));
-        }
-        here = sum(here, (byte == b'\n') as usize);
-    }
 }
 
 // ---- figures of all sorts
 
+// Prints what came of a row.
+fn print_row<R: Print>(rt: &R, k: usize, asked: Asked, compared: Compared) {
+    let told = compared.told;
+    let judged = if compared.same {
+        "the same"
+    } else {
+        "DIFFERENT"
+    };
+    let _told = println!(rt;
+        "row {k} rule {} {}: number {} shots {} cost {} sliver {}, {judged}",
+        asked.threshold, asked.weight, told.number, told.shots, told.cost, told.sliver
+    );
+}
+
 // Runs a figure, and prints what came of it if it is a row.
-fn run(sort: usize, k: usize) -> Compared {
-    let mut corners = [0u16; 128];
-    let mut lengths = [0u16; 9];
-    let count = drawings::draw(&mut corners, sort, k) % 129;
-    let rings = drawings::share(&mut lengths, sort, k, count) % 10;
-    let asked = drawings::asked(sort, k);
-    let is_row = drawings::is_row(sort);
-    let row = pick(is_row, k, document::COUNT);
-    let compared = compare(&corners[..count], &lengths[..rings], asked, row);
-    if is_row {
-        let told = compared.told;
-        let numbers = [
-            k,
-            asked.threshold,
-            asked.weight,
-            told.number,
-            told.shots,
-            told.cost,
-            told.sliver,
-        ];
-        print(compared.same as usize, numbers);
+fn run<R: Print>(rt: &R, sort: Sort, k: usize) -> Compared {
+    let drawing = drawings::draw(sort, k);
+    let compared = compare(&drawing);
+    if drawing.row.is_some() {
+        print_row(rt, k, drawing.asked, compared);
     }
     compared
 }
 
 // Runs the figures of a sort, and prints what came of them.
-fn report(sort: usize) {
-    let first = drawings::first(sort);
-    let past = drawings::past(sort);
+fn report<R: Print>(rt: &R, sort: Sort) {
+    let figures = sort.figures();
+    let name = sort.name();
+    let count = figures.end.saturating_sub(figures.start);
     let mut fractured: usize = 0;
-    let mut shots: usize = 0;
+    let mut shots: u32 = 0;
     let mut different: usize = 0;
-    for k in first..past {
-        let compared = run(sort, k);
-        let told = compared.told;
-        fractured = sum(fractured, (told.number == 0) as usize);
-        shots = sum(shots, told.shots);
-        different = sum(different, !compared.same as usize);
+    for k in figures {
+        let compared = run(rt, sort, k);
+        fractured = fractured.wrapping_add(usize::from(compared.told.is_fracture()));
+        shots = shots.wrapping_add(compared.told.shots);
+        different = different.wrapping_add(usize::from(!compared.same));
     }
-    let count = gap(first, past);
-    print(sum(sort, 2), [count, fractured, shots, different, 0, 0, 0]);
+    let _told = println!(rt;
+        "{name}: {count} outlines, {fractured} fractured, {shots} shots, {different} different"
+    );
 }
 
-fn main() {
-    for sort in 0..13 {
-        report(sort);
+fn main(rt: HostRuntime) {
+    for sort in SORTS {
+        report(&rt, sort);
     }
 }

@@ -7,7 +7,8 @@
 --   preset_numbers   == the four rows of the scope as numbers
 --   default_numbers  == the default's threshold is 10 nm, its weight 100
 --   preset_product   == weight times threshold is 1,000 in every row, by one test computed over the table
---   made_one, row_one == two answers that tell the same are the same
+--   made_one         == two answers that tell the same are the same
+use Rattle.std.specs.Prelude.{Result, Ok, Err}
 use Prim.Native.Nat.{ℕ, zero, suc, ◌*◌, ◌<◌, ◌≤◌}
 use mathlib.Core.Path.{◌≡◌, refl, sym, ap}
 use mathlib.Core.List.{List, [], ◌∷◌}
@@ -21,11 +22,7 @@ use Rattle.refusal.specs.declared.Refusal.{Refusal}
 use Rattle.refusal.specs.Refusals.{refusal_no}
 use Rattle.refusal.proofs.Refusals.{refusal-one, refusal-some}
 use Rattle.rule.specs.declared.Rule.{Rule}
-use Rattle.rule.specs.declared.Made.{Made}
-use Rattle.rule.specs.declared.Made.TheVariants as made
-use Rattle.rule.specs.declared.Preset.{Preset}
-use Rattle.rule.specs.declared.Preset.TheVariants as preset
-use Rattle.rule.specs.Rules.{limit, in_range, Told, given, refused, rule_told, presets, row, preset_told, default_preset, made_told, row_told}
+use Rattle.rule.specs.Rules.{limit, in_range, Told, given, refused, rule_told, presets, row, preset_told, default_preset, made_told}
 
 same-rule : {r s : Rule} → given r ≡ given s → r ≡ s
 same-rule {r} {s} e =
@@ -137,14 +134,8 @@ given-not r why e =
     let z : ◌≡◌ {A = ℕ} 0 (refusal_no why) = ap (λ (t : Told). t.number) e in
     omega (arith, refusal-some why)
 
-pub made_one : (u v : Made) → made_told u ≡ made_told v → u ≡ v
-made_one (made.Rule r) (made.Rule s) e = ap made.Rule (same-rule e)
-made_one (made.Rule r) (made.Refused v) e = absurd (given-not r v e)
-made_one (made.Refused u) (made.Rule s) e = absurd (given-not s u (sym e))
-made_one (made.Refused u) (made.Refused v) e = ap made.Refused (refusal-one u v (ap (λ (t : Told). t.number) e))
-
-pub row_one : (u v : Preset) → row_told u ≡ row_told v → u ≡ v
-row_one (preset.Row r) (preset.Row s) e = ap preset.Row (same-rule e)
-row_one (preset.Row r) (preset.Refused v) e = absurd (given-not r v e)
-row_one (preset.Refused u) (preset.Row s) e = absurd (given-not s u (sym e))
-row_one (preset.Refused u) (preset.Refused v) e = ap preset.Refused (refusal-one u v (ap (λ (t : Told). t.number) e))
+pub made_one : (u v : Result Rule Refusal) → made_told u ≡ made_told v → u ≡ v
+made_one (Ok r) (Ok s) e = ap Ok (same-rule e)
+made_one (Ok r) (Err v) e = absurd (given-not r v e)
+made_one (Err u) (Ok s) e = absurd (given-not s u (sym e))
+made_one (Err u) (Err v) e = ap Err (refusal-one u v (ap (λ (t : Told). t.number) e))

@@ -9,16 +9,12 @@
 --   presets        == docs/SCOPE.md, "Rules by preset", by the rows' numbers
 --   preset_told n   == the row n, or 15
 --   default_preset  == Item 7: the number of the row that a fracture without a rule goes by
---   made_told       == what each case of the constructor's answer tells
---   row_told        == what each case of the preset call's answer tells
-use Rattle.std.specs.Prelude.{ℕ, zero, suc, List, [], ◌∷◌, Bool, cond, ◌&&◌, leb}
+--   made_told       == what each answer of the two calls tells
+use Rattle.std.specs.Prelude.{ℕ, zero, suc, List, [], ◌∷◌, Bool, cond, ◌&&◌, leb, Result, Ok, Err}
+use Rattle.refusal.specs.declared.Refusal.{Refusal}
 use Rattle.refusal.specs.declared.Refusal.TheVariants as because
 use Rattle.refusal.specs.Refusals.{refusal_no}
 use Rattle.rule.specs.declared.Rule.{Rule}
-use Rattle.rule.specs.declared.Made.{Made}
-use Rattle.rule.specs.declared.Made.TheVariants as made
-use Rattle.rule.specs.declared.Preset.{Preset}
-use Rattle.rule.specs.declared.Preset.TheVariants as preset
 
 abbrev pub limit : ℕ
 limit = 1000
@@ -60,10 +56,6 @@ preset_told n = row presets n
 abbrev pub default_preset : ℕ
 default_preset = 1
 
-abbrev pub made_told : Made → Told
-made_told (made.Rule r) = given r
-made_told (made.Refused why) = refused (refusal_no why)
-
-abbrev pub row_told : Preset → Told
-row_told (preset.Row r) = given r
-row_told (preset.Refused why) = refused (refusal_no why)
+abbrev pub made_told : Result Rule Refusal → Told
+made_told (Ok r) = given r
+made_told (Err why) = refused (refusal_no why)

@@ -3,30 +3,16 @@
 
 ghost use Rattle.std.specs.Prelude.{◌≡◌, not, true, ◌≤◌, min};
 ghost use Rattle.sum.specs.Sum.{only};
-ghost use Rattle.rule.specs.Rules.{limit, made_told, row_told, rule_told, preset_told};
+ghost use Rattle.rule.specs.Rules.{limit, made_told, rule_told, preset_told};
 ghost use Rattle.rule.specs.Charge.{longer, sliver_of, spared, charge_of};
 
 use refusal::Refusal;
 
 // A shot whose shorter side is below the threshold (in nm) is a sliver; each exposed nm of its two longer sides weighs so many thousandths of a shot.
-#[derive(Clone, Copy)]
+#[derive(Clone, Copy, PartialEq, Eq)]
 pub struct Rule {
     pub threshold: u32,
     pub weight: u32,
-}
-
-// What the checked constructor answers. Refused: a number is above its limit (1).
-#[derive(Clone, Copy)]
-pub enum Made {
-    Rule(Rule),
-    Refused(Refusal),
-}
-
-// What the preset call answers. Refused: there is no such row (15).
-#[derive(Clone, Copy)]
-pub enum Preset {
-    Row(Rule),
-    Refused(Refusal),
 }
 
 // docs/SCOPE.md, "Rules by preset": weight times threshold is 1,000 in every row.
@@ -49,18 +35,11 @@ pub const PRESETS: [Rule; 4] = [
     },
 ];
 
-// A length where it counts, else 0.
+// A length where it counts, else 0. (`shares::growing` has it in 16 bits: a type parameter would have to say which of its values is 0.)
 fn counted(counts: bool, length: u32) -> u32
     ensures { (result ≡ only counts length) × (result ≤ length) }
 {
     if counts { length } else { 0 }
-}
-
-// The lesser of two extents.
-fn lesser(width: u32, height: u32) -> u32
-    ensures { result ≡ min width height }
-{
-    if height < width { height } else { width }
 }
 
 // The exposed length of the two longer sides of a shot; of a square the greater of both.
@@ -73,7 +52,7 @@ fn longer(width: u32, height: u32, upright: u32, level: u32) -> u32
     if height < width {
         return level;
     }
-    if level < upright { upright } else { level }
+    upright.max(level)
 }
 
 impl Rule {
@@ -86,29 +65,24 @@ impl Rule {
     // The row that a fracture without a rule goes by.
     pub const DEFAULT_PRESET: u32 = 1;
 
-    // The rule of these two numbers, or none where one of them is above its limit.
-    pub fn new(threshold: u32, weight: u32) -> Made
+    // The rule of these two numbers; refused where one of them is above its limit (1).
+    pub fn new(threshold: u32, weight: u32) -> Result<Rule, Refusal>
         ensures settled { made_told result ≡ rule_told threshold weight }
     {
         if Rule::MAX_THRESHOLD < threshold {
-            return Made::Refused(Refusal::Rule);
+            return Err(Refusal::Rule);
         }
         if Rule::MAX_WEIGHT < weight {
-            return Made::Refused(Refusal::Rule);
+            return Err(Refusal::Rule);
         }
-        Made::Rule(Rule { threshold, weight })
+        Ok(Rule { threshold, weight })
     }
 
-    // The row of the preset table with this number, or none.
-    pub fn preset(number: u32) -> Preset
-        ensures settled { row_told result ≡ preset_told number }
+    // The row of the preset table with this number; refused where there is no such row (15).
+    pub fn preset(number: u32) -> Result<Rule, Refusal>
+        ensures settled { made_told result ≡ preset_told number }
     {
-        if number < 4 {
-            let n = number as usize;
-            Preset::Row(PRESETS[n])
-        } else {
-            Preset::Refused(Refusal::Preset)
-        }
+        PRESETS.get(number as usize).copied().ok_or(Refusal::Preset)
     }
 
     // The sliver length of a shot of this width and height, whose left and right sides are exposed over `upright` nm together and its
@@ -119,7 +93,7 @@ impl Rule {
     {
         let threshold = self.threshold;
         counted(
-            lesser(width, height) < threshold,
+            width.min(height) < threshold,
             longer(width, height, upright, level),
         )
     }

@@ -122,8 +122,8 @@ module _ (s : List ℕ) (from : ℕ) where
         let b = kept_broken s n from k g.reads (here-fault s at e) h in
         record { count = long ∙ sym (ap (λ (l : Left). length l.parts) b); ends = sym (ap (λ (l : Left). l.end) b) }
 
-    pub keeping_done : (k : ℕ) → n ≤ k → k ≤ n → Keeps (kept_from s k from) n at
+    pub keeping_done : (k : ℕ) → n ≤ k → k ≤ n → Keeps (kept_from s k from) k at
     keeping_done k h m =
         let z : n ≡ k = omega arith in
         let b = ap (λ i. kept_from s i from) (sym z) ∙ kept-all s n from g.reads in
-        record { count = long ∙ sym (ap (λ (l : Left). length l.parts) b); ends = sym (ap (λ (l : Left). l.end) b) }
+        record { count = sym z ∙ long ∙ sym (ap (λ (l : Left). length l.parts) b); ends = sym (ap (λ (l : Left). l.end) b) }

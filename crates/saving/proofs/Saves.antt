@@ -25,8 +25,7 @@ use Rattle.number.proofs.Reading.{then_inv}
 use Rattle.number.proofs.Bytes.{AllBytes}
 use Rattle.job.specs.Bytes.{header_bytes}
 use Rattle.job.specs.Job.{most_bytes, most_outlines, value, Header, header}
-use Rattle.job.specs.declared.write.Written.{Written}
-use Rattle.job.specs.declared.write.Written.TheVariants as write
+use Rattle.std.specs.Prelude.{Ok, Err}
 use Rattle.job.specs.Calls.{WriteSaid, unwritten, written_to, write_told}
 use Rattle.job.proofs.Job.{value_read, counted, weighed, heard}
 use Rattle.job.proofs.RoundTrip.{header-only}
@@ -93,9 +92,10 @@ module _ (s out : List ℕ) where
       saves_short = omega (arith, short, length-take (end - first) (drop first s), length-drop first s)
 
       -- by what writing it told
-      module _ (u : Written) (o : List ℕ) (wrote : write_told u o ≡ written_to out (header_bytes h.threshold h.weight n ++ take (end - first) (drop first s))) where
-        pub saves_room : {why : Refusal} → u ≡ write.Refused why → unsaved (refusal_no why) 0 o ≡ saved s out
-        saves_room {why} q = go (leb (length (H ++ body)) (length out)) refl (ap (λ (v : Written). write_told v o) (sym q) ∙ wrote)
+      module _ (o : List ℕ) where
+        pub saves_room : (why : Refusal) → write_told (Err why) o ≡ written_to out (header_bytes h.threshold h.weight n ++ take (end - first) (drop first s))
+            → unsaved (refusal_no why) 0 o ≡ saved s out
+        saves_room why wrote = go (leb (length (H ++ body)) (length out)) refl wrote
           where
             go : (b : Bool) → leb (length (H ++ body)) (length out) ≡ b
                 → unwritten (refusal_no why) o
@@ -110,9 +110,9 @@ module _ (s out : List ℕ) where
                 ∙ ap (saved_by s out) e
                 ∙ to-saved
 
-        pub saves_done : {b : ℕ} → u ≡ write.Bytes b
+        pub saves_done : {b : ℕ} → write_told (Ok b) o ≡ written_to out (header_bytes h.threshold h.weight n ++ take (end - first) (drop first s))
             → record { number = 0; bytes = b; kept = n; lost = h.count - n; dropped = length s - end; offset = 0; out = o } ≡ saved s out
-        saves_done {b} q = go (leb (length (H ++ body)) (length out)) refl (ap (λ (v : Written). write_told v o) (sym q) ∙ wrote)
+        saves_done {b} wrote = go (leb (length (H ++ body)) (length out)) refl wrote
           where
             said : ℕ → ℕ → ℕ → List ℕ → SaveSaid
             said x k t i = record { number = 0; bytes = x; kept = k; lost = h.count - k; dropped = length s - t; offset = 0; out = i }

@@ -11,14 +11,14 @@
 --   saved_by s out r      == by the header that is read or not
 --   saved s out          == saving the job s: 12, the header's fault, 14
 --   save_told             == the same for each case of an answer of the code, with the lent memory afterwards
-use Rattle.std.specs.Prelude.{ℕ, zero, suc, ◌-◌, List, [], ◌∷◌, ◌++◌, cond, length, take, drop, ltb, leb}
+use Rattle.std.specs.Prelude.{ℕ, zero, suc, ◌-◌, List, [], ◌∷◌, ◌++◌, cond, length, take, drop, ltb, leb, Result, Ok, Err}
 use Rattle.refusal.specs.declared.Refusal.TheVariants as because
+use Rattle.refusal.specs.declared.Fault.{Fault}
 use Rattle.refusal.specs.Refusals.{refusal_no}
 use Rattle.number.specs.Reading.{Reading, read, fault}
 use Rattle.job.specs.Bytes.{header_bytes}
 use Rattle.job.specs.Job.{most_bytes, Part, part, Header, header}
 use Rattle.saving.specs.declared.Saved.{Saved}
-use Rattle.saving.specs.declared.Saved.TheVariants as save
 
 pub record Left : Type 0 where
   pub parts : List Part
@@ -68,6 +68,7 @@ saved_by s out (fault r at) = unsaved (refusal_no r) at out
 unfoldable pub saved : List ℕ → List ℕ → SaveSaid
 saved s out = cond (ltb most_bytes (length s)) (unsaved (refusal_no because.Long) 0 out) (saved_by s out (header s))
 
-abbrev pub save_told : Saved → List ℕ → SaveSaid
-save_told (save.Job b k l d) out = record { number = 0; bytes = b; kept = k; lost = l; dropped = d; offset = 0; out = out }
-save_told (save.Refused r at) out = unsaved (refusal_no r) at out
+abbrev pub save_told : Result Saved Fault → List ℕ → SaveSaid
+save_told (Ok s) out =
+    record { number = 0; bytes = s.bytes; kept = s.kept; lost = s.lost; dropped = s.dropped; offset = 0; out = out }
+save_told (Err e) out = unsaved (refusal_no e.why) e.at out

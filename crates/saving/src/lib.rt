@@ -9,31 +9,25 @@ ghost use Rattle.job.specs.Calls.{write_told, written_to};
 ghost use Rattle.saving.specs.Salvage.{kept_from, saved, save_told};
 ghost use Rattle.saving.specs.Steps.{Keeps, InRange};
 
-use copying::put_bytes;
-use job::read::{Head, Located};
-use job::write::{Written, write_header};
+use copying::put;
+use job::read::Job;
+use job::write::{HEADER_BYTES, write_header};
 use job::{MOST_BYTES, read};
 use number::Cursor;
-use refusal::Refusal;
-
-// Room for three numbers of three bytes, the most that a number has. A header in range takes six at most.
-const HEADER_BYTES: usize = 9;
+use refusal::{Fault, Refusal};
 
 // How many bytes the sound job has at the front of the buffer, how many outlines were kept, how many of those declared were lost, and how
-// many bytes were dropped; or why nothing was written, and beside a fault of the header the place of it.
-#[derive(Clone, Copy)]
-pub enum Saved {
-    Job {
-        bytes: usize,
-        kept: u32,
-        lost: u32,
-        dropped: usize,
-    },
-    Refused(Refusal, usize),
+// many bytes were dropped.
+#[derive(Clone, Copy, PartialEq, Eq)]
+pub struct Saved {
+    pub bytes: usize,
+    pub kept: u32,
+    pub lost: u32,
+    pub dropped: usize,
 }
 
 // Outlines that read well one after another, and where the last of them ends.
-#[derive(Clone, Copy)]
+#[derive(Clone, Copy, PartialEq, Eq)]
 struct Kept {
     count: u32,
     end: usize,
@@ -45,75 +39,55 @@ fn keep(job: &[u8], from: Cursor, count: u32) -> Kept
     ensures { Keeps (kept_from job.now count from.at) result.count result.end }
 {
     let mut c = from;
-    let mut n = 0;
-    while n < count {
+    for n in 0..count {
         match read::locate(job, c, 0) {
-            Located::Fault(_, _) => {
-                let at = c.at;
-                return Kept { count: n, end: at };
-            }
-            Located::Part(_, next) => {
-                c = Cursor { at: next };
-            }
+            Ok(part) => c = Cursor { at: part.end },
+            Err(_) => return Kept {
+                count: n,
+                end: c.at,
+            },
         }
-        n += 1;
     }
-    let last = c.at;
-    Kept {
-        count: n,
-        end: last,
-    }
+    Kept { count, end: c.at }
 }
 
-// Writes a header for so many outlines, and their bytes behind it, at the front of the buffer.
-fn write_kept(threshold: u32, weight: u32, count: u32, body: &[u8], out: &mut [u8]) -> Written
-    requires in_range { InRange threshold weight count }
+// Writes a job at the front of the buffer: its header, and the bytes of its outlines behind it.
+fn write_kept(job: Job, body: &[u8], out: &mut [u8]) -> Result<usize, Refusal>
+    requires in_range { InRange job.threshold job.weight job.outlines }
     requires body_len_bound { length body.now ≤ most_bytes }
-    ensures { write_told result out.new ≡ written_to out.old (header_bytes threshold weight count ++ body.now) }
+    ensures { write_told result out.new ≡ written_to out.old (header_bytes job.threshold job.weight job.outlines ++ body.now) }
 {
     let mut header = [0u8; HEADER_BYTES];
-    match write_header(threshold, weight, count, &mut header) {
-        Written::Refused(why) => Written::Refused(why),
-        Written::Bytes(first) => {
-            let bytes = first + body.len();
-            if out.len() < bytes {
-                return Written::Refused(Refusal::Room);
-            }
-            put_bytes(&header[..first], out, 0);
-            put_bytes(body, out, first);
-            Written::Bytes(bytes)
-        }
+    let first = write_header(job.threshold, job.weight, job.outlines, &mut header)?;
+    let bytes = first + body.len();
+    if out.len() < bytes {
+        return Err(Refusal::Room);
     }
+    put(&header[..first], out, 0);
+    put(body, out, first);
+    Ok(bytes)
 }
 
 // The sound job of the outlines before the first fault, with the right count; and what is lost and dropped.
-pub fn save(job: &[u8], out: &mut [u8]) -> Saved
+pub fn save(job: &[u8], out: &mut [u8]) -> Result<Saved, Fault>
     ensures settled { save_told result out.new ≡ saved job.now out.old }
 {
     if MOST_BYTES < job.len() {
-        return Saved::Refused(Refusal::Long, 0);
+        return Err(Fault::from(Refusal::Long));
     }
-    match read::header(job) {
-        Head::Fault(r, p) => Saved::Refused(r, p),
-        Head::Header {
-            threshold,
-            weight,
-            outlines: k,
-            next,
-        } => {
-            let kept = keep(job, next, k);
-            let n = kept.count;
-            let end = kept.end;
-            let from = next.at;
-            match write_kept(threshold, weight, n, &job[from..end], out) {
-                Written::Refused(why) => Saved::Refused(why, 0),
-                Written::Bytes(bytes) => Saved::Job {
-                    bytes,
-                    kept: n,
-                    lost: k - n,
-                    dropped: job.len() - end,
-                },
-            }
-        }
-    }
+    let head = read::header(job)?;
+    let Kept { count, end } = keep(job, head.next, head.outlines);
+    let from = head.next.at;
+    let sound = Job {
+        threshold: head.threshold,
+        weight: head.weight,
+        outlines: count,
+    };
+    let bytes = write_kept(sound, &job[from..end], out)?;
+    Ok(Saved {
+        bytes,
+        kept: count,
+        lost: head.outlines - count,
+        dropped: job.len() - end,
+    })
 }

@@ -4,11 +4,17 @@
 --   turn-start, turn_more, turn_end
 --                          == before the first strip, with one more, and with all
 --   turn-room              == the next strip has its entries in the table
---   asks-*                 == what the steps of a turn ask
+--   turn-first, turn-first-small
+--                          == where the first strip stands
+--   asks-*, pairs-few      == what the steps of a turn ask
 --   row-empty, row_next    == a row of cells before the first column, and before the next turn
 --   Turn                   == a strip in its turn
---   turn_one, turn_two, turn_three, turn-four, turn-five
---                          == what is known of its rows once they have grown by its last column
+--   turn-at                == the one that ends at the next line
+--   turn-settled           == what is known of its rows once they have grown by its last column
+--   settled-one, settled-two, settled-three, settled-four, settled-five
+--                          == what the costs of their pieces ask of them
+--   room-settled, pairs-settled
+--                          == where these have room, and how many there are
 --   one_right, two-right, three-right, four-right, five-right
 --                          == the costs of a strip by the numbers of its y pairs
 --   to-ready, to-reached, back-filled, five-left
@@ -29,7 +35,7 @@ use Rattle.piece.specs.Cuts.{cost}
 use Rattle.table.specs.Entry.{pairs_below, pair_count, pair_no, entry_count, entry_of, Valid}
 use Rattle.table.specs.Run.{Wrote}
 use Rattle.table.specs.Fill.{Ready, Reached, Beyond}
-use Rattle.table.proofs.Entry.{pair-below, pair_same, entry-made, count_most}
+use Rattle.table.proofs.Entry.{pair-below, pair_same, entry-made, below-most, count_most}
 use Rattle.table.proofs.Pairs.{row_before, row-most}
 use Rattle.table.proofs.Fill.{beyond-none, beyond_trans, reached-at}
 use Rattle.shallow.specs.declared.cuts.Strip.{Strip}
@@ -38,7 +44,7 @@ use Rattle.shallow.specs.declared.rows.Five.{Five}
 use Rattle.shallow.specs.declared.rows.Four.{Four}
 use Rattle.shallow.specs.declared.sums.Sums.{Sums}
 use Rattle.shallow.specs.Sums.{Summed, Whole, Small, empty_of, grown_row}
-use Rattle.shallow.specs.Rows.{Placed, OneRow, TwoRows, TopTwo, ThreeRows, LowThree, FourRows, LowFour, FifthRow, LowFive, up2, up3, up4, three_at, ten_at}
+use Rattle.shallow.specs.Rows.{Placed, Settled, OneRow, TwoRows, TopTwo, ThreeRows, LowThree, FourRows, LowFour, FifthRow, LowFive, up2, up3, up4, three_at, ten_at}
 use Rattle.shallow.proofs.Parting.{low-entry, low_first}
 use Rattle.shallow.proofs.Settling.{six_at, fifteen_at, low-pair}
 use Rattle.shallow.proofs.Summing.{summed-small, summed-none, whole-grown}
@@ -183,6 +189,10 @@ module _ (columns rows : ℕ) (xs ys cs : List ℕ) (r : Rule) (t : List ℕ) (r
   unfolding stored
   columns-few = ready.sound.columns-most
 
+  pub pairs-few : pair_count rows ≤ 225
+  unfolding stored
+  pairs-few = count_most rows ready.sound.rows-most
+
   pub row-empty : (a j : ℕ) (row : Sums) → j < rows → row ≡ empty_of (get_or ys (j + 1) 0 - get_or ys j 0) → Summed G a (a + 1 - 1) j (suc j) row
   unfolding stored
   row-empty a j row h e =
@@ -195,13 +205,13 @@ module _ (columns rows : ℕ) (xs ys cs : List ℕ) (r : Rule) (t : List ℕ) (r
   wide a c w p q e = e ∙ ap₂ ◌-◌ (ready.drawn.x-at c q) (ready.drawn.x-at a p)
 
   -- what `grown` asks
-  pub asks_grown : (a c step j : ℕ) (row : Sums) → a < c → c ≤ columns → j < rows → step ≤ 65535 → Summed G a (c - 1) j (suc j) row
-      → ((length cs ≡ 256) × ((a < c) × ((c ≤ 15) × (j ≤ 14)))) × (Small row × (step ≤ 65535))
+  pub asks_within : (a c : ℕ) → a < c → c ≤ columns → (length cs ≡ 256) × ((a < c) × ((c ≤ 15) × (rows ≤ 15)))
   unfolding stored
-  asks_grown a c step j row h k q m w = (
-    (ready.drawn.cells-length, (h, (omega (arith, columns-few), omega (arith, ready.sound.rows-most)))),
-    (summed-small G ready.sound a (c - 1) j (suc j) row (omega arith) (omega arith) (omega arith) q w, m),
-  )
+  asks_within a c h k = (ready.drawn.cells-length, (h, (omega (arith, columns-few), ready.sound.rows-most)))
+
+  pub asks_small : (a c : ℕ) (row : ℕ → Sums) → a < c → c ≤ columns → ((j : ℕ) → j < rows → Summed G a (c - 1) j (suc j) (row j)) → (j : ℕ) → j < rows → Small (row j)
+  unfolding stored
+  asks_small a c row h k w j q = summed-small G ready.sound a (c - 1) j (suc j) (row j) (omega arith) (omega arith) (omega arith) q (w j q)
 
   row-grown : (strip : Strip) (step j : ℕ) (row new : Sums) → strip.a.0 < strip.c.0 → strip.c.0 ≤ columns → j < rows
       → strip.width ≡ get_or xs strip.c.0 0 - get_or xs strip.a.0 0 → step ≡ get_or xs strip.c.0 0 - get_or xs (strip.c.0 - 1) 0
@@ -238,6 +248,15 @@ module _ (columns rows : ℕ) (xs ys cs : List ℕ) (r : Rule) (t : List ℕ) (r
       → start ≡ pairs_below columns a * pair_count rows
   turn-first a first n start e p z = z ∙ ap₂ ◌*◌ p e ∙ mul_comm (pair_count rows) (pairs_below columns a)
 
+  pub turn-first-small : (a first n : ℕ) → a < columns → first ≡ pairs_below columns a → n ≡ pair_count rows → n * first ≤ 54000
+  unfolding stored
+  turn-first-small a first n h e p =
+      omega (
+        arith,
+        mul_comm n first,
+        row-most first n (omega (arith, e, below-most columns a columns-few, h, columns-few)) (omega (arith, p, count_most rows ready.sound.rows-most)),
+      )
+
   pub turn-start : (a start : ℕ) → a < columns → start ≡ pairs_below columns a * pair_count rows → Reached Straight G r t a (a + 1) → Strips G r a (a + 1) start t t
   unfolding stored
   turn-start a start h e f = strips-start G r a start t h e f
@@ -256,6 +275,10 @@ module _ (columns rows : ℕ) (xs ys cs : List ℕ) (r : Rule) (t : List ℕ) (r
     pub turn-room : c ≤ columns → (at + pair_count rows ≤ length u) × (at ≤ 54000)
     unfolding stored
     turn-room k = strips-room G r a c at t u s ready.sound k ready.room
+
+-- the width of the strip's last column, between the lines c - 1 and c
+step-back : (xs : List ℕ) (last step : ℕ) → step ≡ get_or xs (last + 1) 0 - get_or xs last 0 → step ≡ get_or xs (last + 1) 0 - get_or xs (last + 1 - 1) 0
+step-back xs last step e = (let z : last ≡ last + 1 - 1 = omega arith in e ∙ ap (λ n. get_or xs (last + 1) 0 - get_or xs n 0) z)
 
 -- before the next turn
 pub row_next : (g : Grid) (r : Rule) (a c b d : ℕ) (row : Sums) → Whole g r a c b d row → Summed g a (c + 1 - 1) b d row
@@ -383,91 +406,117 @@ module _ (columns rows : ℕ) (xs ys cs : List ℕ) (r : Rule) (t u : List ℕ) 
   placed : Placed (stored columns rows xs ys cs) r strip u
   placed = strip_placed columns rows xs ys cs r t k.ready u strip at k.columns_are k.pairs_are k.cx k.first-is k.at-is k.width_is k.strips
 
-  grown : (j : ℕ) (row new : Sums) → j < rows → Summed (stored columns rows xs ys cs) strip.a.0 (strip.c.0 - 1) j (suc j) row
-      → new ≡ grown_row cs r strip step j row
-      → Whole (stored columns rows xs ys cs) r strip.a.0 strip.c.0 j (suc j) new
-  grown j row new h w e =
-      row-grown columns rows xs ys cs r t k.ready strip step j row new k.strips.above k.cx h k.width_is k.step_is w e
-
-module _ (columns : ℕ) (xs ys cs : List ℕ) (r : Rule) (t u : List ℕ) (strip : Strip) (at step : ℕ) where
-  pub turn_one : Turn columns 1 xs ys cs r t u strip at step → (row new : Sums)
-      → Summed (stored columns 1 xs ys cs) strip.a.0 (strip.c.0 - 1) 0 1 row → new ≡ grown_row cs r strip step 0 row
-      → OneRow (stored columns 1 xs ys cs) r strip new u
+  -- the rows, once they have grown by its last column
+  pub turn-settled : (row new : ℕ → Sums)
+      → ((j : ℕ) → j < rows → Summed (stored columns rows xs ys cs) strip.a.0 (strip.c.0 - 1) j (suc j) (row j))
+      → ((j : ℕ) → j < rows → new j ≡ grown_row cs r strip step j (row j))
+      → Settled (stored columns rows xs ys cs) r strip rows new u
   unfolding stored
-  turn_one k row new w e =
+  turn-settled row new w e =
       record {
-        placed = placed columns 1 xs ys cs r t u strip at step k;
+        placed = placed;
         rows_are = refl;
-        row-sums = grown columns 1 xs ys cs r t u strip at step k 0 row new (omega arith) w e;
+        sums = λ j h. row-grown columns rows xs ys cs r t k.ready strip step j (row j) (new j) k.strips.above k.cx h k.width_is k.step_is (w j h) (e j h);
       }
 
-  pub turn_two : (b : ℕ) → Turn columns (up2 b) xs ys cs r t u strip at step → (low high new₀ new₁ : Sums)
-      → Summed (stored columns (up2 b) xs ys cs) strip.a.0 (strip.c.0 - 1) b (suc b) low → new₀ ≡ grown_row cs r strip step b low
-      → Summed (stored columns (up2 b) xs ys cs) strip.a.0 (strip.c.0 - 1) (suc b) (up2 b) high → new₁ ≡ grown_row cs r strip step (suc b) high
-      → TwoRows (stored columns (up2 b) xs ys cs) r strip b new₀ new₁ u
-  unfolding stored
-  turn_two b k low high new₀ new₁ w₀ e₀ w₁ e₁ =
+-- the strip between the lines a and last + 1
+pub turn-at : (columns rows : ℕ) (xs ys cs : List ℕ) (r : Rule) (t : List ℕ) → Ready (stored columns rows xs ys cs) r xs ys cs t
+    → (a first last at n m w step : ℕ) (u : List ℕ) → first ≡ pairs_below columns a → n ≡ pair_count rows → m ≡ pair_count rows
+    → Strips (stored columns rows xs ys cs) r a (last + 1) at t u
+    → last < columns
+    → w ≡ get_or xs (last + 1) 0 - get_or xs a 0
+    → step ≡ get_or xs (last + 1) 0 - get_or xs last 0
+    → Turn columns rows xs ys cs r t u
+    (record { columns = columns; pairs = m; a = record { 0 = a }; c = record { 0 = last + 1 }; first = n * first; at = at; width = w })
+    at
+    step
+turn-at columns rows xs ys cs r t ready a first last at n m w step u e p q s h width-is step-is =
+    record {
+      ready = ready;
+      strips = s;
+      cx = omega arith;
+      columns_are = refl;
+      pairs_are = q;
+      first-is = turn-first columns rows xs ys cs r t ready a first n (n * first) e p refl;
+      at-is = refl;
+      width_is = width-is;
+      step_is = step-back xs last step step-is;
+    }
+
+-- what the rows of a strip are asked for, from the highest down
+module _ (g : Grid) (r : Rule) (s : Strip) (row : ℕ → Sums) (t : List ℕ) where
+  pub room-settled : (n : ℕ) → Settled g r s n row t → (s.at + pair_count n ≤ length t) × (s.at ≤ 54000)
+  unfolding entry_count
+  room-settled n k =
+      let most = pair-below g.columns s.a.0 s.c.0 k.placed.ac k.placed.cx in
+      let room : (s.at + pair_count g.rows ≤ length t) × (s.at ≤ 54000) = (
+        omega (arith, k.placed.at-is, row_before (pair_no g.columns s.a.0 s.c.0) (pair_count g.columns) (pair_count g.rows) most, k.placed.room),
+        omega (
+          arith,
+          k.placed.at-is,
+          row-most (pair_no g.columns s.a.0 s.c.0) (pair_count g.rows)
+              (omega (arith, most, count_most g.columns k.placed.sound.columns-most))
+              (count_most g.rows k.placed.sound.rows-most),
+        ),
+      ) in
+      subst (λ m. (s.at + pair_count m ≤ length t) × (s.at ≤ 54000)) k.rows_are room
+
+  pub pairs-settled : (n : ℕ) → Settled g r s n row t → pair_count n ≡ s.pairs
+  pairs-settled n k = sym (k.placed.pairs_are ∙ ap pair_count k.rows_are)
+
+  pub settled-one : Settled g r s 1 row t → OneRow g r s (row 0) t
+  settled-one k = record { placed = k.placed; rows_are = k.rows_are; row-sums = k.sums 0 (omega arith) }
+
+  pub settled-two : (b : ℕ) → Settled g r s (up2 b) row t → TwoRows g r s b (row b) (row (suc b)) t
+  settled-two b k =
       record {
-        placed = placed columns (up2 b) xs ys cs r t u strip at step k;
-        rows_are = refl;
-        low_sums = grown columns (up2 b) xs ys cs r t u strip at step k b low new₀ (omega arith) w₀ e₀;
-        high_sums = grown columns (up2 b) xs ys cs r t u strip at step k (suc b) high new₁ (omega arith) w₁ e₁;
+        placed = k.placed;
+        rows_are = k.rows_are;
+        low_sums = k.sums b (omega arith);
+        high_sums = k.sums (suc b) (omega arith);
       }
 
-  pub turn_three : Turn columns 3 xs ys cs r t u strip at step → (low new middle high : Sums) (above : Three)
-      → Summed (stored columns 3 xs ys cs) strip.a.0 (strip.c.0 - 1) 0 1 low → new ≡ grown_row cs r strip step 0 low
-      → TwoRows (stored columns 3 xs ys cs) r strip 1 middle high u → TopTwo (stored columns 3 xs ys cs) r strip.a.0 strip.c.0 1 above
-      → ThreeRows (stored columns 3 xs ys cs) r strip 0 0 new middle high above u
-  unfolding stored
-  turn_three k low new middle high above w e two costs =
+  pub settled-three : Settled g r s 3 row t → (above : Three) → TopTwo g r s.a.0 s.c.0 1 above → ThreeRows g r s 0 0 (row 0) (row 1) (row 2) above t
+  settled-three k above costs =
       record {
-        placed = two.placed;
-        within = omega arith;
-        entry-is = low-pair 3;
-        low_sums = grown columns 3 xs ys cs r t u strip at step k 0 low new (omega arith) w e;
-        middle-sums = two.low_sums;
-        high_sums = two.high_sums;
+        placed = k.placed;
+        within = omega (arith, k.rows_are);
+        entry-is = low-pair g.rows;
+        low_sums = k.sums 0 (omega arith);
+        middle-sums = k.sums 1 (omega arith);
+        high_sums = k.sums 2 (omega arith);
         above-costs = costs;
       }
 
-  pub turn-four : (b : ℕ) → Turn columns (up4 b) xs ys cs r t u strip at step → (lowest second third highest new₀ new₁ new₂ new₃ : Sums)
-      → Summed (stored columns (up4 b) xs ys cs) strip.a.0 (strip.c.0 - 1) b (suc b) lowest → new₀ ≡ grown_row cs r strip step b lowest
-      → Summed (stored columns (up4 b) xs ys cs) strip.a.0 (strip.c.0 - 1) (suc b) (up2 b) second → new₁ ≡ grown_row cs r strip step (suc b) second
-      → Summed (stored columns (up4 b) xs ys cs) strip.a.0 (strip.c.0 - 1) (up2 b) (up3 b) third → new₂ ≡ grown_row cs r strip step (up2 b) third
-      → Summed (stored columns (up4 b) xs ys cs) strip.a.0 (strip.c.0 - 1) (up3 b) (up4 b) highest → new₃ ≡ grown_row cs r strip step (up3 b) highest
-      → FourRows (stored columns (up4 b) xs ys cs) r strip b new₀ new₁ new₂ new₃ u
-  unfolding stored
-  turn-four b k lowest second third highest new₀ new₁ new₂ new₃ w₀ e₀ w₁ e₁ w₂ e₂ w₃ e₃ =
+  pub settled-four : (b : ℕ) → Settled g r s (up4 b) row t → FourRows g r s b (row b) (row (suc b)) (row (up2 b)) (row (up3 b)) t
+  settled-four b k =
       record {
-        placed = placed columns (up4 b) xs ys cs r t u strip at step k;
-        rows_are = refl;
+        placed = k.placed;
+        rows_are = k.rows_are;
         sums =
             record {
-              sound = (placed columns (up4 b) xs ys cs r t u strip at step k).sound;
-              ac = omega (arith, k.strips.above);
-              cx = k.cx;
-              within = omega arith;
-              lowest-sums = grown columns (up4 b) xs ys cs r t u strip at step k b lowest new₀ (omega arith) w₀ e₀;
-              second-sums = grown columns (up4 b) xs ys cs r t u strip at step k (suc b) second new₁ (omega arith) w₁ e₁;
-              third-sums = grown columns (up4 b) xs ys cs r t u strip at step k (up2 b) third new₂ (omega arith) w₂ e₂;
-              highest-sums = grown columns (up4 b) xs ys cs r t u strip at step k (up3 b) highest new₃ (omega arith) w₃ e₃;
+              sound = k.placed.sound;
+              ac = omega (arith, k.placed.ac);
+              cx = k.placed.cx;
+              within = omega (arith, k.rows_are);
+              lowest-sums = k.sums b (omega arith);
+              second-sums = k.sums (suc b) (omega arith);
+              third-sums = k.sums (up2 b) (omega arith);
+              highest-sums = k.sums (up3 b) (omega arith);
             };
       }
 
-  pub turn-five : Turn columns 5 xs ys cs r t u strip at step → (lowest new second third fourth highest : Sums) (middle : Four) (upper top : Three)
-      → Summed (stored columns 5 xs ys cs) strip.a.0 (strip.c.0 - 1) 0 1 lowest → new ≡ grown_row cs r strip step 0 lowest
-      → FourRows (stored columns 5 xs ys cs) r strip 1 second third fourth highest u
-      → LowFour (stored columns 5 xs ys cs) r strip.a.0 strip.c.0 1 middle
-      → LowThree (stored columns 5 xs ys cs) r strip.a.0 strip.c.0 2 upper
-      → TopTwo (stored columns 5 xs ys cs) r strip.a.0 strip.c.0 3 top
-      → FifthRow (stored columns 5 xs ys cs) r strip new second third fourth highest middle upper top u
-  unfolding stored
-  turn-five k lowest new second third fourth highest middle upper top w e four x y z =
+  pub settled-five : Settled g r s 5 row t → (middle : Four) (upper top : Three)
+      → LowFour g r s.a.0 s.c.0 1 middle
+      → LowThree g r s.a.0 s.c.0 2 upper
+      → TopTwo g r s.a.0 s.c.0 3 top
+      → FifthRow g r s (row 0) (row 1) (row 2) (row 3) (row 4) middle upper top t
+  settled-five k middle upper top x y z =
       record {
-        placed = four.placed;
-        rows_are = refl;
-        lowest-sums = grown columns 5 xs ys cs r t u strip at step k 0 lowest new (omega arith) w e;
-        upper-sums = four.sums;
+        placed = k.placed;
+        rows_are = k.rows_are;
+        lowest-sums = k.sums 0 (omega arith);
+        upper-sums = (settled-four 1 k).sums;
         middle-costs = x;
         upper-costs = y;
         top-costs = z;

@@ -30,9 +30,15 @@
 --                           == the strip has five rows with these sums; `middle`, `upper` and `top` have the costs of the pieces that begin
 --                              at the second line, at the third, and of the two highest rows
 --   LowFive g r a c x       == x has the costs of the five pieces that begin at the lowest line
+--   row_of rows j           == the j-th of the rows of a strip
+--   Settled g r s n row t   == the strip has n rows of cells, of which the j-th has the sums `row j`
+--   Costed g r s n pairs t u
+--                           == the table u is t with the costs of the pieces of the strip of n rows, `pairs` in number, put where it stands
+--   pairs_of_one .. pairs_of_five
+--                           == how many pieces a strip of one to five rows has
 --   three_at x i, four_at x i, five_at x i, ten_at x y z i
 --                           == the i-th of three, four and five numbers, and of four and three and three
-use Rattle.std.specs.Prelude.{ℕ, suc, ◌+◌, ◌*◌, ◌≤◌, ◌<◌, ◌^◌, min, ◌≡◌, List, [], ◌∷◌, length, get_or}
+use Rattle.std.specs.Prelude.{ℕ, suc, ◌+◌, ◌*◌, ◌≤◌, ◌<◌, ◌^◌, min, ◌≡◌, refl, List, [], ◌∷◌, length, get_or}
 use Rattle.outline.specs.Grid.{Grid, Sound}
 use Rattle.rule.specs.declared.Rule.{Rule}
 use Rattle.rule.specs.Rules.{limit}
@@ -40,6 +46,7 @@ use Rattle.piece.specs.declared.Mode.TheVariants.{Straight}
 use Rattle.piece.specs.Piece.{box, width}
 use Rattle.piece.specs.Cuts.{cost}
 use Rattle.table.specs.Entry.{pairs_below, pair_count, pair_no, entry_count}
+use Rattle.table.specs.Run.{Wrote}
 use Rattle.table.specs.Fill.{Reached}
 use Rattle.shallow.specs.declared.cuts.Strip.{Strip}
 use Rattle.shallow.specs.declared.cuts.Three.{Three}
@@ -198,3 +205,38 @@ ten_at x y z i =
     ∷ [])
     i
     0
+
+-- the j-th of the rows of a strip
+abbrev pub row_of : List Sums → ℕ → Sums
+row_of rows j = get_or rows j (record { cells = 0; inside = 0; height = 0; bottom = 0; top = 0; flanks = 0 })
+
+pub record Settled (g : Grid) (r : Rule) (s : Strip) (n : ℕ) (row : ℕ → Sums) (t : List ℕ) : Type 0 where
+  pub placed : Placed g r s t
+  pub rows_are : g.rows ≡ n
+  pub sums : (j : ℕ) → j < n → Whole g r s.a.0 s.c.0 j (suc j) (row j)
+
+pub record Costed (g : Grid) (r : Rule) (s : Strip) (n pairs : ℕ) (t u : List ℕ) : Type 0 where
+  pub costs : ℕ → ℕ
+  pub wrote : Wrote costs s.at pairs t u
+  pub right : (b d : ℕ) → b < d → d ≤ n → costs (pair_no n b d) ≡ cost Straight g r (box s.a.0 s.c.0 b d)
+
+-- how many pieces a strip has
+pub pairs_of_one : 1 ≡ pair_count 1
+unfolding pair_count pairs_below
+pairs_of_one = refl
+
+pub pairs_of_two : 3 ≡ pair_count 2
+unfolding pair_count pairs_below
+pairs_of_two = refl
+
+pub pairs_of_three : 6 ≡ pair_count 3
+unfolding pair_count pairs_below
+pairs_of_three = refl
+
+pub pairs_of_four : 10 ≡ pair_count 4
+unfolding pair_count pairs_below
+pairs_of_four = refl
+
+pub pairs_of_five : 15 ≡ pair_count 5
+unfolding pair_count pairs_below
+pairs_of_five = refl

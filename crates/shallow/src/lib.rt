@@ -12,6 +12,7 @@ ghost use Rattle.piece.specs.declared.Mode.TheVariants.{Straight};
 ghost use Rattle.table.specs.Entry.{pairs_below, entry_count, costs};
 ghost use Rattle.table.specs.Fill.{Ready, Reached, Beyond};
 
+use crate::sums::Sums;
 use outline::Line;
 use rule::Rule;
 use table::numbering;
@@ -35,16 +36,12 @@ fn fill_from(
     ensures reached_2 { Reached Straight (stored columns rows xs.now ys.now cells.now) rule table.new a.0 (columns + 1) }
     ensures beyond { Beyond (entry_count columns rows) table.old table.new }
 {
-    if rows == 1 {
-        rows::fill_one(xs, ys, cells, columns, rule, a, first, table);
-    } else if rows == 2 {
-        rows::fill_two(xs, ys, cells, columns, rule, a, first, table);
-    } else if rows == 3 {
-        rows::fill_three(xs, ys, cells, columns, rule, a, first, table);
-    } else if rows == 4 {
-        rows::fill_four(xs, ys, cells, columns, rule, a, first, table);
-    } else {
-        rows::fill_five(xs, ys, cells, columns, rule, a, first, table);
+    match rows {
+        1 => rows::fill::<[Sums; 1]>(xs, ys, cells, columns, rule, a, first, table),
+        2 => rows::fill::<[Sums; 2]>(xs, ys, cells, columns, rule, a, first, table),
+        3 => rows::fill::<[Sums; 3]>(xs, ys, cells, columns, rule, a, first, table),
+        4 => rows::fill::<[Sums; 4]>(xs, ys, cells, columns, rule, a, first, table),
+        _ => rows::fill::<[Sums; 5]>(xs, ys, cells, columns, rule, a, first, table),
     }
 }
 
@@ -64,9 +61,7 @@ pub fn fill(
     ensures { table.new ≡ costs Straight (stored columns rows xs.now ys.now cells.now) rule ++ drop (length (costs Straight (stored columns rows xs.now ys.now cells.now) rule)) table.old }
 {
     let mut first = numbering::pair_count(columns);
-    let mut a = columns;
-    while 0 < a {
-        a -= 1;
+    for a in (0..columns).rev() {
         first -= columns - a;
         fill_from(xs, ys, cells, columns, rows, rule, Line(a), first, table);
     }

@@ -1,23 +1,23 @@
 // The pieces of a strip of one to five rows of cells, and the strips that begin at one x line. Every piece is settled when all of
 // its parts are: in the table stand those of its vertical cuts, in single numbers those of its horizontal ones.
-ghost use Rattle.std.specs.Prelude.{◌≡◌, ℕ, ◌+◌, ◌*◌, ◌≤◌, ◌<◌, length};
+ghost use Rattle.std.specs.Prelude.{◌≡◌, refl, ℕ, ◌+◌, ◌*◌, ◌-◌, ◌≤◌, ◌<◌, length, get_or};
 ghost use Rattle.outline.specs.Grid.{Grid, stored};
 ghost use Rattle.piece.specs.declared.Mode.TheVariants.{Straight};
 ghost use Rattle.piece.specs.Piece.{box};
 ghost use Rattle.piece.specs.Cuts.{cost};
-ghost use Rattle.table.specs.Entry.{pairs_below, entry_count};
+ghost use Rattle.table.specs.Entry.{pairs_below, pair_count, entry_count};
 ghost use Rattle.table.specs.Run.{Wrote};
 ghost use Rattle.table.specs.Fill.{Ready, Reached, Beyond};
 ghost use Rattle.rule.specs.declared.Rule.{Rule};
-ghost use Rattle.shallow.specs.Sums.{Whole};
-ghost use Rattle.shallow.specs.Rows.{OneRow, TwoRows, ThreeRows, FourthRow, FifthRow, TopTwo, LowThree, LowFour, LowFive, FourSums, WholeFour, WholeFive, Addable, least_of, up4, up5, three_at, four_at, five_at, ten_at};
+ghost use Rattle.shallow.specs.Sums.{Whole, Small, empty_of, grown_row};
+ghost use Rattle.shallow.specs.Rows.{Settled, Costed, row_of, pairs_of_one, pairs_of_two, pairs_of_three, pairs_of_four, pairs_of_five, OneRow, TwoRows, ThreeRows, FourthRow, FifthRow, TopTwo, LowThree, LowFour, LowFive, FourSums, WholeFour, WholeFive, Addable, least_of, up4, up5, three_at, four_at, five_at, ten_at};
 
 use crate::cuts::{Strip, Three};
 use crate::sums::Sums;
 use crate::{cuts, sums};
 use outline::Line;
 use rule::Rule;
-use table::{runs, sides};
+use table::sides;
 
 // The costs of the four pieces of one to four rows that begin at one line, in the order of entries.
 #[derive(Clone, Copy)]
@@ -52,7 +52,7 @@ fn two_rows(table: &[u32], strip: Strip, rule: Rule, low: Sums, high: Sums) -> T
     let first = sums::settled(low, rule, width, least.first);
     let third = sums::settled(high, rule, width, least.third);
     let both = sums::stacked(low, high);
-    let cut = runs::lesser(least.second, first + third);
+    let cut = least.second.min(first + third);
     let second = sums::settled(both, rule, width, cut);
     Three {
         first,
@@ -80,11 +80,11 @@ fn third_row(
     let least = cuts::least_cuts(table, strip, i);
     let first = sums::settled(low, rule, width, least.first);
     let two = sums::stacked(low, middle);
-    let cut = runs::lesser(least.second, first + above.first);
+    let cut = least.second.min(first + above.first);
     let second = sums::settled(two, rule, width, cut);
     let all = sums::stacked(two, high);
-    let lower = runs::lesser(least.third, first + above.second);
-    let upper = runs::lesser(lower, second + above.third);
+    let lower = least.third.min(first + above.second);
+    let upper = lower.min(second + above.third);
     let third = sums::settled(all, rule, width, upper);
     Three {
         first,
@@ -99,9 +99,9 @@ fn three_cuts(best: u32, below: Three, above: Three) -> u32
     requires { Addable below above }
     ensures { result ≡ least_of best below above }
 {
-    let first = runs::lesser(best, below.first + above.first);
-    let second = runs::lesser(first, below.second + above.second);
-    runs::lesser(second, below.third + above.third)
+    let first = best.min(below.first + above.first);
+    let second = first.min(below.second + above.second);
+    second.min(below.third + above.third)
 }
 
 // The cost of the i-th piece of a strip, which has four rows, with these sums. `below` are the costs of the pieces of one, two and three
@@ -141,7 +141,7 @@ fn five_rows(
 {
     let best = cuts::least_cut(table, strip, i);
     let lower = three_cuts(best, below, above);
-    let cut = runs::lesser(lower, low + high);
+    let cut = lower.min(low + high);
     sums::settled(all, rule, strip.width, cut)
 }
 
@@ -274,234 +274,213 @@ fn store_five(table: &mut [u32], at: usize, five: Five)
     table[at + 4] = five.whole;
 }
 
-// Fills the strips that begin at the x line a, the narrowest first, where all that begin above it are filled, in a grid of one row of
-// cells. `first` is the number of the first pair whose low line is a.
-pub fn fill_one(
-    xs: &[u16],
-    ys: &[u16],
-    cells: &[u8],
-    columns: usize,
-    rule: Rule,
-    a: Line,
-    first: usize,
-    table: &mut [u32],
-)
-    requires ready { Ready (stored columns 1 xs.now ys.now cells.now) rule xs.now ys.now cells.now table.old }
-    requires a_lt_columns { (a.0 < columns) × (first ≡ pairs_below columns a.0) }
-    requires reached { Reached Straight (stored columns 1 xs.now ys.now cells.now) rule table.old a.0 (a.0 + 1) }
-    ensures reached_2 { Reached Straight (stored columns 1 xs.now ys.now cells.now) rule table.new a.0 (columns + 1) }
-    ensures beyond { Beyond (entry_count columns 1) table.old table.new }
-{
-    let mut row = sums::empty(ys, 0);
-    let mut at = first;
-    let mut c = a.0 + 1;
-    while c <= columns {
-        let last = c - 1;
-        let width = sides::span(xs, a, Line(c));
-        let step = sides::span(xs, Line(last), Line(c));
-        let strip = Strip {
-            columns,
-            pairs: 1,
-            a,
-            c: Line(c),
-            first,
-            at,
-            width,
-        };
-        row = sums::grown(cells, rule, strip, step, 0, row);
-        table[at] = one_row(table, strip, rule, row);
-        at += 1;
-        c += 1;
-    }
+// The rows of cells of a strip, the lowest first: what they add up to grows with the strip, and settles the costs of its pieces.
+pub trait Rows: Copy {
+    ghost use Rattle.shallow.specs.declared.sums.Sums.{Sums};
+
+    ghost ROWS: { ℕ };
+
+    const ROWS: usize;
+
+    // How many pieces a strip has.
+    ghost PAIRS: { ℕ };
+
+    const PAIRS: usize;
+
+    // The sums of the row j.
+    ghost row: { Self → ℕ → Sums };
+
+    // The rows of a strip that has no column yet.
+    fn empty(ys: &[u16]) -> Self
+        requires { (j : ℕ) → j < ROWS → (j + 1 < length ys.now) × (get_or ys.now j 0 ≤ get_or ys.now (j + 1) 0) }
+        ensures { (j : ℕ) → j < ROWS → row result j ≡ empty_of (get_or ys.now (j + 1) 0 - get_or ys.now j 0) };
+
+    // These rows, grown by the strip's last column, which is `step` nm wide.
+    fn grown(self, cells: &[u8], rule: Rule, strip: Strip, step: u32) -> Self
+        requires within { (length cells.now ≡ 256) × ((strip.a.0 < strip.c.0) × ((strip.c.0 ≤ 15) × (ROWS ≤ 15))) }
+        requires small { ((j : ℕ) → j < ROWS → Small (row self j)) × (step ≤ 65535) }
+        ensures { (j : ℕ) → j < ROWS → row result j ≡ grown_row cells.now rule strip step j (row self j) };
+
+    // Puts the costs of the pieces of these rows where the strip stands in the table.
+    fn settle(self, table: &mut [u32], strip: Strip, rule: Rule)
+        requires { (g : Grid) × Settled g rule strip ROWS (row self) table.old }
+        ensures { (g : Grid) → Settled g rule strip ROWS (row self) table.old → Costed g rule strip ROWS PAIRS table.old table.new };
+
+    ghost pairs_are: { PAIRS ≡ pair_count ROWS };
 }
 
-// The same in a grid of two rows of cells.
-pub fn fill_two(
-    xs: &[u16],
-    ys: &[u16],
-    cells: &[u8],
-    columns: usize,
-    rule: Rule,
-    a: Line,
-    first: usize,
-    table: &mut [u32],
-)
-    requires ready { Ready (stored columns 2 xs.now ys.now cells.now) rule xs.now ys.now cells.now table.old }
-    requires a_lt_columns { (a.0 < columns) × (first ≡ pairs_below columns a.0) }
-    requires reached { Reached Straight (stored columns 2 xs.now ys.now cells.now) rule table.old a.0 (a.0 + 1) }
-    ensures reached_2 { Reached Straight (stored columns 2 xs.now ys.now cells.now) rule table.new a.0 (columns + 1) }
-    ensures beyond { Beyond (entry_count columns 2) table.old table.new }
-{
-    let start = 3 * first;
-    let mut low = sums::empty(ys, 0);
-    let mut high = sums::empty(ys, 1);
-    let mut at = start;
-    let mut c = a.0 + 1;
-    while c <= columns {
-        let last = c - 1;
-        let width = sides::span(xs, a, Line(c));
-        let step = sides::span(xs, Line(last), Line(c));
-        let strip = Strip {
-            columns,
-            pairs: 3,
-            a,
-            c: Line(c),
-            first: start,
-            at,
-            width,
-        };
-        low = sums::grown(cells, rule, strip, step, 0, low);
-        high = sums::grown(cells, rule, strip, step, 1, high);
+impl Rows for [Sums; 1] {
+    ghost ROWS = { 1 };
+
+    const ROWS: usize = 1;
+
+    ghost PAIRS = { 1 };
+
+    const PAIRS: usize = 1;
+
+    ghost row = { row_of };
+
+    fn empty(ys: &[u16]) -> [Sums; 1] {
+        [sums::empty(ys, 0)]
+    }
+
+    fn grown(self, cells: &[u8], rule: Rule, strip: Strip, step: u32) -> [Sums; 1] {
+        let [row] = self;
+        [sums::grown(cells, rule, strip, step, 0, row)]
+    }
+
+    fn settle(self, table: &mut [u32], strip: Strip, rule: Rule) {
+        let [row] = self;
+        table[strip.at] = one_row(table, strip, rule, row);
+    }
+
+    ghost pairs_are = { pairs_of_one };
+}
+
+impl Rows for [Sums; 2] {
+    ghost ROWS = { 2 };
+
+    const ROWS: usize = 2;
+
+    ghost PAIRS = { 3 };
+
+    const PAIRS: usize = 3;
+
+    ghost row = { row_of };
+
+    fn empty(ys: &[u16]) -> [Sums; 2] {
+        [sums::empty(ys, 0), sums::empty(ys, 1)]
+    }
+
+    fn grown(self, cells: &[u8], rule: Rule, strip: Strip, step: u32) -> [Sums; 2] {
+        let [low, high] = self;
+        [
+            sums::grown(cells, rule, strip, step, 0, low),
+            sums::grown(cells, rule, strip, step, 1, high),
+        ]
+    }
+
+    fn settle(self, table: &mut [u32], strip: Strip, rule: Rule) {
+        let [low, high] = self;
         let costs = two_rows(table, strip, rule, low, high);
-        store(table, at, costs);
-        at += 3;
-        c += 1;
+        store(table, strip.at, costs);
     }
+
+    ghost pairs_are = { pairs_of_two };
 }
 
-// The same in a grid of three rows of cells.
-pub fn fill_three(
-    xs: &[u16],
-    ys: &[u16],
-    cells: &[u8],
-    columns: usize,
-    rule: Rule,
-    a: Line,
-    first: usize,
-    table: &mut [u32],
-)
-    requires ready { Ready (stored columns 3 xs.now ys.now cells.now) rule xs.now ys.now cells.now table.old }
-    requires a_lt_columns { (a.0 < columns) × (first ≡ pairs_below columns a.0) }
-    requires reached { Reached Straight (stored columns 3 xs.now ys.now cells.now) rule table.old a.0 (a.0 + 1) }
-    ensures reached_2 { Reached Straight (stored columns 3 xs.now ys.now cells.now) rule table.new a.0 (columns + 1) }
-    ensures beyond { Beyond (entry_count columns 3) table.old table.new }
-{
-    let start = 6 * first;
-    let mut low = sums::empty(ys, 0);
-    let mut middle = sums::empty(ys, 1);
-    let mut high = sums::empty(ys, 2);
-    let mut at = start;
-    let mut c = a.0 + 1;
-    while c <= columns {
-        let last = c - 1;
-        let width = sides::span(xs, a, Line(c));
-        let step = sides::span(xs, Line(last), Line(c));
-        let strip = Strip {
-            columns,
-            pairs: 6,
-            a,
-            c: Line(c),
-            first: start,
-            at,
-            width,
-        };
-        low = sums::grown(cells, rule, strip, step, 0, low);
-        middle = sums::grown(cells, rule, strip, step, 1, middle);
-        high = sums::grown(cells, rule, strip, step, 2, high);
+impl Rows for [Sums; 3] {
+    ghost ROWS = { 3 };
+
+    const ROWS: usize = 3;
+
+    ghost PAIRS = { 6 };
+
+    const PAIRS: usize = 6;
+
+    ghost row = { row_of };
+
+    fn empty(ys: &[u16]) -> [Sums; 3] {
+        [sums::empty(ys, 0), sums::empty(ys, 1), sums::empty(ys, 2)]
+    }
+
+    fn grown(self, cells: &[u8], rule: Rule, strip: Strip, step: u32) -> [Sums; 3] {
+        let [low, middle, high] = self;
+        [
+            sums::grown(cells, rule, strip, step, 0, low),
+            sums::grown(cells, rule, strip, step, 1, middle),
+            sums::grown(cells, rule, strip, step, 2, high),
+        ]
+    }
+
+    fn settle(self, table: &mut [u32], strip: Strip, rule: Rule) {
+        let [low, middle, high] = self;
         let above = two_rows(table, strip, rule, middle, high);
         let costs = third_row(table, strip, 0, rule, low, middle, high, above);
-        store(table, at, costs);
-        store(table, at + 3, above);
-        at += 6;
-        c += 1;
+        store(table, strip.at, costs);
+        store(table, strip.at + 3, above);
     }
+
+    ghost pairs_are = { pairs_of_three };
 }
 
-// The same in a grid of four rows of cells.
-pub fn fill_four(
-    xs: &[u16],
-    ys: &[u16],
-    cells: &[u8],
-    columns: usize,
-    rule: Rule,
-    a: Line,
-    first: usize,
-    table: &mut [u32],
-)
-    requires ready { Ready (stored columns 4 xs.now ys.now cells.now) rule xs.now ys.now cells.now table.old }
-    requires a_lt_columns { (a.0 < columns) × (first ≡ pairs_below columns a.0) }
-    requires reached { Reached Straight (stored columns 4 xs.now ys.now cells.now) rule table.old a.0 (a.0 + 1) }
-    ensures reached_2 { Reached Straight (stored columns 4 xs.now ys.now cells.now) rule table.new a.0 (columns + 1) }
-    ensures beyond { Beyond (entry_count columns 4) table.old table.new }
-{
-    let start = 10 * first;
-    let mut lowest = sums::empty(ys, 0);
-    let mut second = sums::empty(ys, 1);
-    let mut third = sums::empty(ys, 2);
-    let mut highest = sums::empty(ys, 3);
-    let mut at = start;
-    let mut c = a.0 + 1;
-    while c <= columns {
-        let last = c - 1;
-        let width = sides::span(xs, a, Line(c));
-        let step = sides::span(xs, Line(last), Line(c));
-        let strip = Strip {
-            columns,
-            pairs: 10,
-            a,
-            c: Line(c),
-            first: start,
-            at,
-            width,
-        };
-        lowest = sums::grown(cells, rule, strip, step, 0, lowest);
-        second = sums::grown(cells, rule, strip, step, 1, second);
-        third = sums::grown(cells, rule, strip, step, 2, third);
-        highest = sums::grown(cells, rule, strip, step, 3, highest);
+impl Rows for [Sums; 4] {
+    ghost ROWS = { 4 };
+
+    const ROWS: usize = 4;
+
+    ghost PAIRS = { 10 };
+
+    const PAIRS: usize = 10;
+
+    ghost row = { row_of };
+
+    fn empty(ys: &[u16]) -> [Sums; 4] {
+        [
+            sums::empty(ys, 0),
+            sums::empty(ys, 1),
+            sums::empty(ys, 2),
+            sums::empty(ys, 3),
+        ]
+    }
+
+    fn grown(self, cells: &[u8], rule: Rule, strip: Strip, step: u32) -> [Sums; 4] {
+        let [lowest, second, third, highest] = self;
+        [
+            sums::grown(cells, rule, strip, step, 0, lowest),
+            sums::grown(cells, rule, strip, step, 1, second),
+            sums::grown(cells, rule, strip, step, 2, third),
+            sums::grown(cells, rule, strip, step, 3, highest),
+        ]
+    }
+
+    fn settle(self, table: &mut [u32], strip: Strip, rule: Rule) {
+        let [lowest, second, third, highest] = self;
         let top = two_rows(table, strip, rule, third, highest);
         let upper = third_row(table, strip, 4, rule, second, third, highest, top);
         let low = fourth_row(
             table, strip, 0, rule, lowest, second, third, highest, upper, top,
         );
-        store_ten(table, at, low, upper, top);
-        at += 10;
-        c += 1;
+        store_ten(table, strip.at, low, upper, top);
     }
+
+    ghost pairs_are = { pairs_of_four };
 }
 
-// The same in a grid of five rows of cells.
-pub fn fill_five(
-    xs: &[u16],
-    ys: &[u16],
-    cells: &[u8],
-    columns: usize,
-    rule: Rule,
-    a: Line,
-    first: usize,
-    table: &mut [u32],
-)
-    requires ready { Ready (stored columns 5 xs.now ys.now cells.now) rule xs.now ys.now cells.now table.old }
-    requires a_lt_columns { (a.0 < columns) × (first ≡ pairs_below columns a.0) }
-    requires reached { Reached Straight (stored columns 5 xs.now ys.now cells.now) rule table.old a.0 (a.0 + 1) }
-    ensures reached_2 { Reached Straight (stored columns 5 xs.now ys.now cells.now) rule table.new a.0 (columns + 1) }
-    ensures beyond { Beyond (entry_count columns 5) table.old table.new }
-{
-    let start = 15 * first;
-    let mut lowest = sums::empty(ys, 0);
-    let mut second = sums::empty(ys, 1);
-    let mut third = sums::empty(ys, 2);
-    let mut fourth = sums::empty(ys, 3);
-    let mut highest = sums::empty(ys, 4);
-    let mut at = start;
-    let mut c = a.0 + 1;
-    while c <= columns {
-        let last = c - 1;
-        let width = sides::span(xs, a, Line(c));
-        let step = sides::span(xs, Line(last), Line(c));
-        let strip = Strip {
-            columns,
-            pairs: 15,
-            a,
-            c: Line(c),
-            first: start,
-            at,
-            width,
-        };
-        lowest = sums::grown(cells, rule, strip, step, 0, lowest);
-        second = sums::grown(cells, rule, strip, step, 1, second);
-        third = sums::grown(cells, rule, strip, step, 2, third);
-        fourth = sums::grown(cells, rule, strip, step, 3, fourth);
-        highest = sums::grown(cells, rule, strip, step, 4, highest);
+impl Rows for [Sums; 5] {
+    ghost ROWS = { 5 };
+
+    const ROWS: usize = 5;
+
+    ghost PAIRS = { 15 };
+
+    const PAIRS: usize = 15;
+
+    ghost row = { row_of };
+
+    fn empty(ys: &[u16]) -> [Sums; 5] {
+        [
+            sums::empty(ys, 0),
+            sums::empty(ys, 1),
+            sums::empty(ys, 2),
+            sums::empty(ys, 3),
+            sums::empty(ys, 4),
+        ]
+    }
+
+    fn grown(self, cells: &[u8], rule: Rule, strip: Strip, step: u32) -> [Sums; 5] {
+        let [lowest, second, third, fourth, highest] = self;
+        [
+            sums::grown(cells, rule, strip, step, 0, lowest),
+            sums::grown(cells, rule, strip, step, 1, second),
+            sums::grown(cells, rule, strip, step, 2, third),
+            sums::grown(cells, rule, strip, step, 3, fourth),
+            sums::grown(cells, rule, strip, step, 4, highest),
+        ]
+    }
+
+    fn settle(self, table: &mut [u32], strip: Strip, rule: Rule) {
+        let [lowest, second, third, fourth, highest] = self;
         let top = two_rows(table, strip, rule, fourth, highest);
         let upper = third_row(table, strip, 9, rule, third, fourth, highest, top);
         let middle = fourth_row(
@@ -510,9 +489,49 @@ pub fn fill_five(
         let low = fifth_row(
             table, strip, rule, lowest, second, third, fourth, highest, middle, upper, top,
         );
-        store_five(table, at, low);
-        store_ten(table, at + 5, middle, upper, top);
-        at += 15;
-        c += 1;
+        store_five(table, strip.at, low);
+        store_ten(table, strip.at + 5, middle, upper, top);
+    }
+
+    ghost pairs_are = { pairs_of_five };
+}
+
+// Fills the strips that begin at the x line a, the narrowest first, where all that begin above it are filled, in a grid of so many rows of
+// cells. `first` is the number of the first pair whose low line is a.
+pub fn fill<R: Rows>(
+    xs: &[u16],
+    ys: &[u16],
+    cells: &[u8],
+    columns: usize,
+    rule: Rule,
+    a: Line,
+    first: usize,
+    table: &mut [u32],
+)
+    requires ready { Ready (stored columns R.ROWS xs.now ys.now cells.now) rule xs.now ys.now cells.now table.old }
+    requires a_lt_columns { (a.0 < columns) × (first ≡ pairs_below columns a.0) }
+    requires reached { Reached Straight (stored columns R.ROWS xs.now ys.now cells.now) rule table.old a.0 (a.0 + 1) }
+    ensures reached_2 { Reached Straight (stored columns R.ROWS xs.now ys.now cells.now) rule table.new a.0 (columns + 1) }
+    ensures beyond { Beyond (entry_count columns R.ROWS) table.old table.new }
+{
+    let start = R::PAIRS * first;
+    let mut rows = R::empty(ys);
+    let mut at = start;
+    for last in a.0..columns {
+        let c = Line(last + 1);
+        let width = sides::span(xs, a, c);
+        let step = sides::span(xs, Line(last), c);
+        let strip = Strip {
+            columns,
+            pairs: R::PAIRS,
+            a,
+            c,
+            first: start,
+            at,
+            width,
+        };
+        rows = rows.grown(cells, rule, strip, step);
+        rows.settle(table, strip, rule);
+        at += R::PAIRS;
     }
 }

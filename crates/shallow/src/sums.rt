@@ -41,11 +41,11 @@ pub fn empty(ys: &[u16], j: usize) -> Sums
     }
 }
 
-// A cell counts 1 where it is inside.
+// A cell counts 1 where it is inside; here for its bound.
 fn count(cell: u8) -> u32
     ensures { (result ≡ cell) × (result ≤ 255) }
 {
-    cell as u32
+    u32::from(cell)
 }
 
 // The cell below the row j of a column; below the lowest row there is none.

@@ -1,7 +1,5 @@
 -- Laws of measuring: what each cell adds where the rule counts it, and what all cells owe. Assumes nothing.
 --
---   side-counts, side-none
---                      == a side that counts, and one that does not
 --   sides_are          == the four sides of a cell, held to the rule, are its shares by the lists; none is above 65535
 --   put-counted        == five numbers stored are the shares of the cell
 --   price-most, owed-cell
@@ -20,16 +18,9 @@ use Rattle.rule.specs.declared.Rule.{Rule}
 use Rattle.rule.specs.Charge.{spared}
 use Rattle.piece.specs.Piece.{width, height}
 use Rattle.table.specs.Run.{bare}
-use Rattle.tally.specs.Units.{five, share, low_neighbour, share_of, Put, Laid, Row}
-use Rattle.tally.proofs.Shares.{five-same, five-none, share-none, width-at, height-at, share_are}
+use Rattle.tally.specs.Units.{five, share, share_of, Spans, Around, Put, Laid, Row}
+use Rattle.tally.proofs.Shares.{bare-same, five-same, five-none, share-none, width-at, height-at, share_are}
 use Rattle.shares.specs.Shares.{counting, counted_share, counted_of, owed, dues_of, SharesTo, Shares}
-
--- one side: it counts, or not
-pub side-counts : (t : Bool) (len : ℕ) → t ≡ true → (len ≡ only t len) × (len ≤ len)
-side-counts t len e = (sym (ap (λ b. only b len) e), omega arith)
-
-pub side-none : (t : Bool) (len : ℕ) → t ≡ false → (0 ≡ only t len) × (0 ≤ len)
-side-none t len e = (sym (ap (λ b. only b len) e), omega arith)
 
 -- a side that counts where the cell is inside and the rule does not spare it, and the cell across is not inside
 side_held : (t s : Bool) (near far n len : ℕ) → t ≡ s → n ≡ only ((not (eqb near 0) && not t) && eqb far 0) len
@@ -43,37 +34,34 @@ side_held t s near far n len et en = en ∙ ap (λ b. only ((not (eqb near 0) &&
     held false true c = refl
     held false false c = refl
 
-pub sides_are : (rule : Rule) (xs ys cells : List ℕ) (i j wide high under before : ℕ) (tall broad : Bool) (nb np nl nr : ℕ)
-    → (wide ≡ get_or xs (i + 1) 0 - get_or xs i 0) × (wide ≤ 65535)
-    → (high ≡ get_or ys (j + 1) 0 - get_or ys j 0) × (high ≤ 65535)
-    → under ≡ low_neighbour j (16 * i + j) 1 (16 * i + 15)
-    → before ≡ low_neighbour i (16 * i + j) 16 (240 + j)
+pub sides_are : (rule : Rule) (xs ys cells : List ℕ) (i j wide high c under above before after : ℕ) (tall broad : Bool) (nb np nl nr : ℕ)
+    → Spans wide high xs ys i j
+    → Around c under above before after cells i j
     → tall ≡ spared rule high
     → broad ≡ spared rule wide
-    → (nb ≡ only ((not (eqb (get_or cells (16 * i + j) 0) 0) && not tall) && eqb (get_or cells under 0) 0) wide) × (nb ≤ wide)
-    → (np ≡ only ((not (eqb (get_or cells (16 * i + j) 0) 0) && not tall) && eqb (get_or cells (16 * i + j + 1) 0) 0) wide) × (np ≤ wide)
-    → (nl ≡ only ((not (eqb (get_or cells (16 * i + j) 0) 0) && not broad) && eqb (get_or cells before 0) 0) high) × (nl ≤ high)
-    → (nr ≡ only ((not (eqb (get_or cells (16 * i + j) 0) 0) && not broad) && eqb (get_or cells (16 * i + j + 16) 0) 0) high) × (nr ≤ high)
+    → (nb ≡ only ((not (eqb c 0) && not tall) && eqb under 0) wide) × (nb ≤ wide)
+    → (np ≡ only ((not (eqb c 0) && not tall) && eqb above 0) wide) × (np ≤ wide)
+    → (nl ≡ only ((not (eqb c 0) && not broad) && eqb before 0) high) × (nl ≤ high)
+    → (nr ≡ only ((not (eqb c 0) && not broad) && eqb after 0) high) × (nr ≤ high)
     → ((nb ≡ counted_of rule xs ys cells i j 1) × (np ≡ counted_of rule xs ys cells i j 2))
     × (((nl ≡ counted_of rule xs ys cells i j 3) × (nr ≡ counted_of rule xs ys cells i j 4))
     × ((nb ≤ 65535) × ((np ≤ 65535) × ((nl ≤ 65535) × (nr ≤ 65535)))))
 unfolding counted_of counting share_of five
-sides_are rule xs ys cells i j wide high under before tall broad nb np nl nr ew eh eu ef et eo eb ep el er =
-    let here : ℕ = get_or cells (16 * i + j) 0 in
+sides_are rule xs ys cells i j wide high c under above before after tall broad nb np nl nr s n et eo eb ep el er =
     let low : Bool = not (spared rule (get_or ys (j + 1) 0 - get_or ys j 0)) in
     let narrow : Bool = not (spared rule (get_or xs (i + 1) 0 - get_or xs i 0)) in
-    let sl = et ∙ ap (spared rule) eh.0 in
-    let sn = eo ∙ ap (spared rule) ew.0 in (
+    let sl = et ∙ ap (spared rule) s.high-is in
+    let sn = eo ∙ ap (spared rule) s.wide-is in (
       (
-        side_held tall _ here _ nb wide sl eb.0 ∙ ap₂ (λ m k. only low (bare here (get_or cells m 0) k)) eu ew.0,
-        side_held tall _ here _ np wide sl ep.0 ∙ ap (λ k. only low (bare here (get_or cells (16 * i + j + 1) 0) k)) ew.0,
+        side_held tall _ c _ nb wide sl eb.0 ∙ ap (only low) (bare-same _ _ _ _ _ _ n.cell-is n.under-is s.wide-is),
+        side_held tall _ c _ np wide sl ep.0 ∙ ap (only low) (bare-same _ _ _ _ _ _ n.cell-is n.above-is s.wide-is),
       ),
       (
         (
-          side_held broad _ here _ nl high sn el.0 ∙ ap₂ (λ m k. only narrow (bare here (get_or cells m 0) k)) ef eh.0,
-          side_held broad _ here _ nr high sn er.0 ∙ ap (λ k. only narrow (bare here (get_or cells (16 * i + j + 16) 0) k)) eh.0,
+          side_held broad _ c _ nl high sn el.0 ∙ ap (only narrow) (bare-same _ _ _ _ _ _ n.cell-is n.before-is s.high-is),
+          side_held broad _ c _ nr high sn er.0 ∙ ap (only narrow) (bare-same _ _ _ _ _ _ n.cell-is n.after-is s.high-is),
         ),
-        (omega (arith, eb.1, ew.1), (omega (arith, ep.1, ew.1), (omega (arith, el.1, eh.1), omega (arith, er.1, eh.1)))),
+        (omega (arith, eb.1, s.wide-most), (omega (arith, ep.1, s.wide-most), (omega (arith, el.1, s.high-most), omega (arith, er.1, s.high-most)))),
       ),
     )
 

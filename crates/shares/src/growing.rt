@@ -16,10 +16,10 @@ use tally::{
 pub fn both(a: u16, b: u16) -> u16
     ensures { result ≡ wrap a b }
 {
-    std::num::wrapping_add_u16(a, b)
+    a.wrapping_add(b)
 }
 
-// A length where it counts, else 0.
+// A length where it counts, else 0; `rule` has it in 32 bits.
 pub fn counted(counts: bool, length: u16) -> u16
     ensures { result ≡ only counts length }
 {
@@ -31,10 +31,8 @@ fn add_shares(sums: &mut [u16; SUMS], short: &[u16; SHARES], at: usize, from: us
     requires { (length sums.old ≡ 1024) × ((length short.now ≡ 2560) × ((at + 16 ≤ 1024) × (from + 16 ≤ 2560))) }
     ensures { Wrote (wrap_added sums.old short.now at from) at 16 sums.old sums.new }
 {
-    let mut l: usize = 0;
-    while l < LANES {
+    for l in 0..LANES {
         sums[at + l] = both(sums[at + l], short[from + l]);
-        l += 1;
     }
 }
 
@@ -52,10 +50,8 @@ fn add_flanks(
     requires at_bound { (at + 16 ≤ 1024) × ((left + 16 ≤ 2560) × (right + 16 ≤ 2560)) }
     ensures { Wrote (narrow_flanks short.now wide.now threshold left right) at 16 sums.old sums.new }
 {
-    let mut l: usize = 0;
-    while l < LANES {
-        sums[at + l] = counted(wide[l] < threshold, both(short[left + l], short[right + l]));
-        l += 1;
+    for (l, width) in wide.iter().enumerate() {
+        sums[at + l] = counted(*width < threshold, both(short[left + l], short[right + l]));
     }
 }
 
@@ -103,9 +99,7 @@ pub fn grow(
     ensures { (g : Grid) (r : Rule) (price : ℕ) → Ripe g r price rows w threshold short.now wide.now sums.old → Grown g r w sums.new × Flanked g r w sums.new }
 {
     let last = w - 1;
-    let mut j: usize = 0;
-    while j < rows {
+    for j in 0..rows {
         grow_row(sums, short, wide, threshold, j, last);
-        j += 1;
     }
 }

@@ -9,18 +9,9 @@ ghost use Rattle.shares.specs.Shares.{counted_of, owed, dues_of, SharesTo, Share
 use outline::{Line, MOST_LINES};
 use rule::Rule;
 use table::runs::LANES;
-use table::sides::{COLUMN_BEYOND, span};
-use tally::measuring::{BEYOND, low_neighbour};
+use table::sides::span;
+use tally::measuring::{Sides, look_around};
 use tally::{CELL_BOTTOMS, CELL_LEFTS, CELL_RIGHTS, CELL_TOPS, ROW, SHARES};
-
-// The exposed bottom, top, left and right side of a cell, each 0 where the rule spares it.
-#[derive(Clone, Copy)]
-struct Sides {
-    bottom: u32,
-    top: u32,
-    left: u32,
-    right: u32,
-}
 
 // A side of a cell, where it counts at all and the cell across is not inside. With no branch, since cells come in any order.
 fn side_of(counts: bool, across: u8, length: u32) -> u32
@@ -37,22 +28,15 @@ fn sides_of(xs: &[u16], ys: &[u16], cells: &[u8], rule: Rule, i: usize, j: usize
     ensures left_value { (result.left ≡ counted_of rule xs.now ys.now cells.now i j 3) × (result.right ≡ counted_of rule xs.now ys.now cells.now i j 4) }
     ensures bottom_bound { (result.bottom ≤ 65535) × ((result.top ≤ 65535) × ((result.left ≤ 65535) × (result.right ≤ 65535))) }
 {
-    let here = MOST_LINES * i + j;
-    let after = i + 1;
-    let above = j + 1;
-    let width = span(xs, Line(i), Line(after));
-    let height = span(ys, Line(j), Line(above));
-    let cell = cells[here];
-    let under = low_neighbour(j, here, 1, MOST_LINES * i + BEYOND);
-    let before = low_neighbour(i, here, MOST_LINES, COLUMN_BEYOND + j);
-    let inside = cell != 0;
-    let low = inside & !rule.spares(height);
-    let narrow = inside & !rule.spares(width);
+    let around = look_around(xs, ys, cells, i, j);
+    let inside = around.cell != 0;
+    let low = inside & !rule.spares(around.height);
+    let narrow = inside & !rule.spares(around.width);
     Sides {
-        bottom: side_of(low, cells[under], width),
-        top: side_of(low, cells[here + 1], width),
-        left: side_of(narrow, cells[before], height),
-        right: side_of(narrow, cells[here + MOST_LINES], height),
+        bottom: side_of(low, around.under, around.width),
+        top: side_of(low, around.above, around.width),
+        left: side_of(narrow, around.before, around.height),
+        right: side_of(narrow, around.after, around.height),
     }
 }
 
@@ -62,7 +46,7 @@ fn put_shares(short: &mut [u16; SHARES], at: usize, cell: u8, sides: Sides)
     requires bottom_bound { (sides.bottom ≤ 65535) × ((sides.top ≤ 65535) × ((sides.left ≤ 65535) × (sides.right ≤ 65535))) }
     ensures { Put (five cell sides.bottom sides.top sides.left sides.right) at short.old short.new }
 {
-    short[at] = cell as u16;
+    short[at] = u16::from(cell);
     short[CELL_BOTTOMS + at] = sides.bottom as u16;
     short[CELL_TOPS + at] = sides.top as u16;
     short[CELL_LEFTS + at] = sides.left as u16;
@@ -88,7 +72,7 @@ fn measure_cell(
     let cell = cells[MOST_LINES * i + j];
     let sides = sides_of(xs, ys, cells, rule, i, j);
     put_shares(short, ROW * j + i, cell, sides);
-    price * (cell as u32) + sides.bottom + sides.top + sides.left + sides.right
+    price * u32::from(cell) + sides.bottom + sides.top + sides.left + sides.right
 }
 
 // Measures the cells of the row j, and gives what they owe.
@@ -108,10 +92,8 @@ fn measure_row(
     ensures value { (result ≡ over 0 columns (λ i. owed price (counted_of rule xs.now ys.now cells.now i j))) × (result ≤ 7757100) }
 {
     let mut due: u32 = 0;
-    let mut i: usize = 0;
-    while i < columns {
+    for i in 0..columns {
         due += measure_cell(short, xs, ys, cells, rule, price, i, j);
-        i += 1;
     }
     due
 }
@@ -133,10 +115,8 @@ pub fn measure(
     ensures value { result ≡ dues_of (stored columns rows xs.now ys.now cells.now) rule price }
 {
     let mut due: u32 = 0;
-    let mut j: usize = 0;
-    while j < rows {
+    for j in 0..rows {
         due += measure_row(short, xs, ys, cells, rule, price, columns, j);
-        j += 1;
     }
     due
 }
@@ -147,10 +127,8 @@ pub fn widths(wide: &mut [u16; LANES], xs: &[u16], columns: usize, w: usize)
     ensures { (g : Grid) (ys cells : List ℕ) → g.columns ≡ columns → Drawn g xs.now ys cells → Widths g w wide.new }
 {
     let strips = columns + 1 - w;
-    let mut a: usize = 0;
-    while a < strips {
+    for a in 0..strips {
         let end = a + w;
         wide[a] = span(xs, Line(a), Line(end)) as u16;
-        a += 1;
     }
 }

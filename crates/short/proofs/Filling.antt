@@ -7,8 +7,7 @@
 --                                == where the fill stands at a width: at the start, after one width more, and at the end
 --   limits, rising-here, widths-here, asks_grow, grown-here, asks_settle, asks_store
 --                                == what the steps of a width ask and tell
---   fillable_here                == a grid whose price is whole and whose dues fit can be filled so
---   small-room, middle-room, large_room, room_fits
+--   small-room, large_room, room_fits
 --                                == the sizes of the stores
 use Prim.Native.Nat.{ℕ, suc, ◌+◌, ◌*◌, ◌-◌, ◌≤◌, ◌<◌}
 use mathlib.Core.Path.{◌≡◌, refl, sym, ◌∙◌, ap, subst}
@@ -28,7 +27,7 @@ use Rattle.piece.specs.declared.Mode.TheVariants.{Straight}
 use Rattle.piece.specs.Piece.{box, cell_sum, inside_cells, height, bottom, top}
 use Rattle.piece.specs.Cuts.{cost}
 use Rattle.table.specs.Entry.{pair_count, pair_no, entry_count}
-use Rattle.table.specs.Fill.{Ready, Beyond}
+use Rattle.table.specs.Fill.{Beyond}
 use Rattle.table.proofs.Entry
 use Rattle.table.proofs.Fill.{fill_limits}
 use Rattle.table.proofs.Pairs.{row_before, row-most}
@@ -39,7 +38,6 @@ use Rattle.strips.specs.Lanes as lanes
 use Rattle.widths.specs.Lane.{spot}
 use Rattle.widths.proofs.Lane.{pairs_small}
 use Rattle.widths.proofs.Fill.{FilledBelow, filled_more, stored-beyond, laid-here}
-use Rattle.shares.specs.Shares.{dues_of, Shares}
 use Rattle.shares.specs.Growth.{Grown, Flanked, Ripe}
 use Rattle.eights.specs.Store.{place_of, Stored}
 use Rattle.eights.specs.Price.{sheet, Measured, Prices}
@@ -263,33 +261,12 @@ module _ (columns rows : ℕ) (xs ys cs : List ℕ) (r : Rule) (price : ℕ) (sh
                 subst (λ k. get_or store₂ (place_of k w (pair_no rows b d) a) 0 ≡ unit_cost G r price (box a (a + w) b d)) e
                 (settled (λ a p q. unit_cost G r price (box a (a + w) p q)) priced a b d (omega arith) bd dy)
 
--- what the fill asks, by what was worked out before it
-pub fillable_here : (g : Grid) (r : Rule) (xs ys cs t₀ : List ℕ) (price due : ℕ) (short : List ℕ) → Ready g r xs ys cs t₀
-    → (price ≤ 1000) × ((price ≡ 0 → ⊥) → (price * r.weight ≡ 1000) × (r.threshold ≤ 65535))
-    → (price ≡ 0 → ⊥)
-    → Shares g r short
-    → due ≡ dues_of g r price
-    → due ≤ 64535
-    → Fillable g r price xs ys cs short t₀
-fillable_here g r xs ys cs t₀ price due short ready told some shares e most =
-    record {
-      ready = ready;
-      shares = shares;
-      threshold-most = (told.1 some).1;
-      price-most = told.0;
-      whole = (told.1 some).0;
-      due_most = omega arith;
-    }
-
 -- the sizes of the stores
 pub small-room : (columns rows : ℕ) → columns ≤ 7 → rows ≤ 7 → 16 * (columns * pair_count rows) + 16 ≤ 3152
 small-room columns rows h k =
     let i : rows + 1 ≤ 8 = omega arith in
     let p : pair_count rows ≤ 28 = omega (arith, Entry.count-closed rows, mul-le-mul {n₁ = rows} {m₁ = rows + 1} {n₂ = 7} {m₂ = 8} k i) in
     omega (arith, mul-le-mul {n₁ = columns} {m₁ = pair_count rows} {n₂ = 7} {m₂ = 28} h p)
-
-pub middle-room : (columns rows pairs : ℕ) → pairs ≡ pair_count rows → 16 * (columns * pairs) + 16 ≤ 8816 → 16 * (columns * pair_count rows) + 16 ≤ 8816
-middle-room columns rows pairs e h = subst (λ n. 16 * (columns * n) + 16 ≤ 8816) e h
 
 pub large_room : (columns rows : ℕ) → columns ≤ 15 → rows ≤ 15 → 16 * (columns * pair_count rows) + 16 ≤ 28816
 large_room columns rows h k = omega (arith, mul-le-mul {n₁ = columns} {m₁ = pair_count rows} {n₂ = 15} {m₂ = 120} h (pairs_small rows k))

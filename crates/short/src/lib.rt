@@ -3,13 +3,13 @@
 // sliver one more. Eight short numbers go to a vector where four long ones do, and the least of two takes two steps and not six.
 #![tactic(auto)]
 
-ghost use Rattle.std.specs.Prelude.{◌≡◌, true, List, ℕ, ◌+◌, ◌*◌, ◌≤◌, length};
+ghost use Rattle.std.specs.Prelude.{◌≡◌, true, IfSome, List, ℕ, ◌+◌, ◌*◌, ◌≤◌, length};
 ghost use Rattle.outline.specs.Grid.{stored};
 ghost use Rattle.table.specs.Entry.{pair_count};
 ghost use Rattle.table.specs.Fill.{Ready};
 ghost use Rattle.short.specs.Short.{Fillable, Filled, FilledOr};
 
-use eights::settling::Tariff;
+use eights::settling::{Strips, Tariff};
 use eights::{settling, storing};
 use rule::Rule;
 use shares::{growing, measuring};
@@ -51,19 +51,26 @@ fn fill_widths(
     let tariff = Tariff { threshold, price };
     let mut sums = [0u16; SUMS];
     let mut wide = [0u16; LANES];
-    let mut w: usize = 1;
-    while w <= columns {
-        let count = columns + 1 - w;
+    for w in 1..columns + 1 {
         measuring::widths(&mut wide, xs, columns, w);
         growing::grow(&mut sums, short, &wide, threshold, rows, w);
-        settling::settle(store, &sums, &wide, ys, tariff, rows, pairs, w, count);
+        let strips = Strips {
+            sums: &sums,
+            wide: &wide,
+            ys,
+            tariff,
+            rows,
+            pairs,
+            width: w,
+            count: columns + 1 - w,
+        };
+        settling::settle(store, strips);
         storing::store_strips(table, store, rule.weight, columns, pairs, w);
-        w += 1;
     }
 }
 
-// The fill of a small grid.
-fn fill_small(
+// The same in a store of so many numbers.
+fn fill_in<const N: usize>(
     short: &[u16; SHARES],
     xs: &[u16],
     ys: &[u16],
@@ -74,67 +81,30 @@ fn fill_small(
     table: &mut [u32],
 )
     requires by_index { (cells : List ℕ) × Fillable (stored columns rows xs.now ys.now cells) rule price xs.now ys.now cells short.now table.old }
-    requires columns_bound { (columns ≤ 7) × (rows ≤ 7) }
+    requires rows_bound { (16 * (columns * pair_count rows) + 16 ≤ N) × (N ≤ 28816) }
     ensures { (cells : List ℕ) → Fillable (stored columns rows xs.now ys.now cells) rule price xs.now ys.now cells short.now table.old → Filled (stored columns rows xs.now ys.now cells) rule table.old table.new }
 {
-    let mut store = [0u16; SMALL_STORE];
+    let mut store = [0u16; N];
     fill_widths(short, xs, ys, columns, rows, rule, price, table, &mut store);
 }
 
-// The same of a larger one.
-fn fill_middle(
-    short: &[u16; SHARES],
-    xs: &[u16],
-    ys: &[u16],
-    columns: usize,
-    rows: usize,
-    rule: Rule,
-    price: u16,
-    table: &mut [u32],
-)
-    requires by_index { (cells : List ℕ) × Fillable (stored columns rows xs.now ys.now cells) rule price xs.now ys.now cells short.now table.old }
-    requires rows_bound { 16 * (columns * pair_count rows) + 16 ≤ 8816 }
-    ensures { (cells : List ℕ) → Fillable (stored columns rows xs.now ys.now cells) rule price xs.now ys.now cells short.now table.old → Filled (stored columns rows xs.now ys.now cells) rule table.old table.new }
-{
-    let mut store = [0u16; MIDDLE_STORE];
-    fill_widths(short, xs, ys, columns, rows, rule, price, table, &mut store);
-}
-
-// And of any.
-fn fill_large(
-    short: &[u16; SHARES],
-    xs: &[u16],
-    ys: &[u16],
-    columns: usize,
-    rows: usize,
-    rule: Rule,
-    price: u16,
-    table: &mut [u32],
-)
-    requires { (cells : List ℕ) × Fillable (stored columns rows xs.now ys.now cells) rule price xs.now ys.now cells short.now table.old }
-    ensures { (cells : List ℕ) → Fillable (stored columns rows xs.now ys.now cells) rule price xs.now ys.now cells short.now table.old → Filled (stored columns rows xs.now ys.now cells) rule table.old table.new }
-{
-    let mut store = [0u16; LARGE_STORE];
-    fill_widths(short, xs, ys, columns, rows, rule, price, table, &mut store);
-}
-
-// How many weights a shot costs, or 0 where that is no whole number, or where the threshold is no short number.
-fn price_of(rule: Rule) -> u32
-    ensures { (result ≤ 1000) × ((result ≡ 0 → ⊥) → (result * rule.weight ≡ 1000) × (rule.threshold ≤ 65535)) }
+// How many weights a shot costs, where that is a whole number and the threshold a short one.
+fn price_of(rule: Rule) -> Option<u32>
+    ensures { IfSome result (λ price. (price ≤ 1000) × ((price * rule.weight ≡ 1000) × (rule.threshold ≤ 65535))) }
 {
     let weight = rule.weight;
     let threshold = rule.threshold;
     if weight == 0 {
-        return 0;
+        return None;
     }
     let price = 1000 / weight;
     if price * weight != 1000 {
-        return 0;
+        return None;
     }
     if 65535 < threshold {
-        return 0;
+        return None;
     }
-    price
+    Some(price)
 }
 
 // Fills the table with the cost of every piece of the grid by straight cuts, in the order of entries, where short numbers are enough for it,
@@ -154,10 +124,9 @@ pub fn fill(
     requires columns_bound { small ≡ true → (columns ≤ 7) × (rows ≤ 7) }
     ensures { FilledOr result (stored columns rows xs.now ys.now cells.now) rule table.old table.new }
 {
-    let price = price_of(rule);
-    if price == 0 {
+    let Some(price) = price_of(rule) else {
         return false;
-    }
+    };
     let mut short = [0u16; SHARES];
     let due = measuring::measure(&mut short, xs, ys, cells, rule, price, columns, rows);
     if MOST_DUE < due {
@@ -165,11 +134,11 @@ pub fn fill(
     }
     let room = LANES * (columns * numbering::pair_count(rows)) + LANES;
     if small {
-        fill_small(&short, xs, ys, columns, rows, rule, price as u16, table);
+        fill_in::<SMALL_STORE>(&short, xs, ys, columns, rows, rule, price as u16, table);
     } else if room <= MIDDLE_STORE {
-        fill_middle(&short, xs, ys, columns, rows, rule, price as u16, table);
+        fill_in::<MIDDLE_STORE>(&short, xs, ys, columns, rows, rule, price as u16, table);
     } else {
-        fill_large(&short, xs, ys, columns, rows, rule, price as u16, table);
+        fill_in::<LARGE_STORE>(&short, xs, ys, columns, rows, rule, price as u16, table);
     }
     true
 }

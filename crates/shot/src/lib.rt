@@ -11,19 +11,18 @@ fn empty(x_low: u16, y_low: u16, x_high: u16, y_high: u16) -> bool
     x_high <= x_low || y_high <= y_low
 }
 
-// 21: the length of the list is no multiple of four, or one of its shots is empty.
+// 21: the length of the list is no multiple of four, or one of its shots is empty. By places and not by fours: no law says
+// yet that the library's chunks are the list's shots.
 pub fn bad_shots(list: &[u16]) -> bool
     ensures { result ≡ bad_shots list.now }
 {
     if list.len() % 4 != 0 {
         return true;
     }
-    let mut at: usize = 0;
-    while at < list.len() {
+    for at in (0..list.len()).step_by(4) {
         if empty(list[at], list[at + 1], list[at + 2], list[at + 3]) {
             return true;
         }
-        at += 4;
     }
     false
 }

@@ -33,7 +33,7 @@ fn stretch(near: u8, far: u8, low: Place, high: Place) -> u32
 {
     if near == 1 {
         if far == 0 {
-            return (high.0 - low.0) as u32;
+            return u32::from(high.0 - low.0);
         }
     }
     0
@@ -49,15 +49,13 @@ fn exposed(cells: &[u8], lines: &[u16], side: Side) -> u32
     let step = side.step;
     let to = side.to.0;
     let mut sum: u32 = 0;
-    let mut k = side.from.0;
-    while k < to {
+    for k in side.from.0..to {
         let within = cells[near + step * k];
         let across = cells[far + step * k];
         let next = k + 1;
         let low = place_of(lines, Line(k));
         let high = place_of(lines, Line(next));
         sum += stretch(within, across, low, high);
-        k = next;
     }
     sum
 }
@@ -134,8 +132,8 @@ pub fn sliver_of(cells: &[u8], xs: &[u16], ys: &[u16], rule: Rule, p: Piece) -> 
     let right = place_of(xs, c);
     let bottom = place_of(ys, b);
     let top = place_of(ys, d);
-    let width = (right.0 - left.0) as u32;
-    let height = (top.0 - bottom.0) as u32;
+    let width = u32::from(right.0 - left.0);
+    let height = u32::from(top.0 - bottom.0);
     let wide = rule.spares(width);
     let high = rule.spares(height);
     let upright = counted_sides(

@@ -4,8 +4,9 @@
 // A static library is proved anew where it is made: so it is made of these few lines, and not of the libraries that hold the runs.
 #![tactic(auto)]
 
+use std::io::Error;
 use std::rt::{Stderr, Stdin, Stdout};
-use terminal::console::{Clockwork, Console};
+use terminal::console::Console;
 use terminal::given::Given;
 
 // What C hands in, with no clock to wait by.
@@ -22,14 +23,18 @@ fn given<'a>(
         input,
         out,
         err,
-        clock: Clockwork::Nothing,
+        clock: None,
+    };
+    let file = if failure == 0 {
+        Ok(file)
+    } else {
+        Err(Error::from_raw_os_error(failure))
     };
     Given {
         console,
         words,
         named,
         file,
-        failure,
     }
 }
 
@@ -43,7 +48,8 @@ pub extern "C" fn pw_start_prep(
     file: &[u8],
     failure: i32,
 ) -> u32 {
-    preparation::pw_prep(&given(input, out, err, words, named, file, failure))
+    let given = given(input, out, err, words, named, file, failure);
+    u32::from(preparation::pw_prep(&given))
 }
 
 #[unsafe(no_mangle)]
@@ -56,7 +62,8 @@ pub extern "C" fn pw_start_salvage(
     file: &[u8],
     failure: i32,
 ) -> u32 {
-    rescue::pw_salvage_run(&given(input, out, err, words, named, file, failure))
+    let given = given(input, out, err, words, named, file, failure);
+    u32::from(rescue::pw_salvage_run(&given))
 }
 
 #[unsafe(no_mangle)]
@@ -69,7 +76,8 @@ pub extern "C" fn pw_start_walk(
     file: &[u8],
     failure: i32,
 ) -> u32 {
-    walking::pw_walk(&given(input, out, err, words, named, file, failure))
+    let given = given(input, out, err, words, named, file, failure);
+    u32::from(walking::pw_walk(&given))
 }
 
 #[unsafe(no_mangle)]
@@ -82,7 +90,8 @@ pub extern "C" fn pw_start_pinarewhemi(
     file: &[u8],
     failure: i32,
 ) -> u32 {
-    subcommands::pw_pinarewhemi(&given(input, out, err, words, named, file, failure))
+    let given = given(input, out, err, words, named, file, failure);
+    u32::from(subcommands::pw_pinarewhemi(&given))
 }
 
 // The same runs by the names that their libraries exported before: today a library hands nothing to C.

@@ -12,10 +12,8 @@ fn store_strip(table: &mut [u32], side: &[u32; SIDE], at: usize, a: usize, pairs
     requires { (at + pairs ≤ length table.old) × ((a < 16) × (pairs ≤ 120)) }
     ensures { Wrote (lane_of side.now a) at pairs table.old table.new }
 {
-    let mut e: usize = 0;
-    while e < pairs {
+    for e in 0..pairs {
         table[at + e] = side[LANES * e + a];
-        e += 1;
     }
 }
 
@@ -26,10 +24,8 @@ pub fn store_strips(table: &mut [u32], side: &[u32; SIDE], columns: usize, pairs
     ensures { Stored columns pairs w side.now table.old table.new }
 {
     let mut row = w - 1;
-    let mut a: usize = 0;
-    while a + w <= columns {
+    for a in 0..columns + 1 - w {
         store_strip(table, side, row * pairs, a, pairs);
         row += columns - a;
-        a += 1;
     }
 }

@@ -5,19 +5,20 @@ use std::rt::Stderr;
 use terminal::console::Console;
 use terminal::errors::complain;
 use terminal::output::{nothing_yet, print};
+use terminal::status::Status;
 
 // Some words on standard output, and the status.
-fn printed(console: Console, words: &[u8]) -> u32 {
+fn printed(console: Console, words: &[u8]) -> Status {
     ended(print(nothing_yet(console), words), false)
 }
 
 // The version, as the file VERSION has it.
-pub fn print_version(console: Console) -> u32 {
+pub fn print_version(console: Console) -> Status {
     printed(console, b"pinarewhemi 0.1.0\n")
 }
 
 // What there is.
-fn help_of_all(console: Console) -> u32 {
+fn help_of_all(console: Console) -> Status {
     printed(
         console,
         b"pinarewhemi: right-angled figures into rectangular shots for a mask writer\n\
@@ -40,7 +41,7 @@ ask for nothing that there is.\n",
     )
 }
 
-fn help_of_fracture(console: Console) -> u32 {
+fn help_of_fracture(console: Console) -> Status {
     printed(
         console,
         b"pinarewhemi fracture FILE [--largest M] [--pinwheels]\n\
@@ -54,7 +55,7 @@ standard error says why.\n\
     )
 }
 
-fn help_of_picture(console: Console) -> u32 {
+fn help_of_picture(console: Console) -> Status {
     printed(
         console,
         b"pinarewhemi picture FILE K [--pinwheels] > SVG\n\
@@ -64,7 +65,7 @@ the charged sides of slivers in red, a scale, and shots, cost and sliver.\n",
     )
 }
 
-fn help_of_walk(console: Console) -> u32 {
+fn help_of_walk(console: Console) -> Status {
     printed(
         console,
         b"pinarewhemi walk JOB K EDGE\n\
@@ -75,7 +76,7 @@ pinarewhemi walk alone prints the walk over drawing B in numbers. docs/WALK.md t
     )
 }
 
-fn help_of_pack(console: Console) -> u32 {
+fn help_of_pack(console: Console) -> Status {
     printed(
         console,
         b"pinarewhemi pack DRAWING > JOB\n\
@@ -93,7 +94,7 @@ its number.\n\
     )
 }
 
-fn help_of_list(console: Console) -> u32 {
+fn help_of_list(console: Console) -> Status {
     printed(
         console,
         b"pinarewhemi list JOB > DRAWING\n\
@@ -102,7 +103,7 @@ Prints a job as a text drawing; packing that gives the job's bytes again.\n",
     )
 }
 
-fn help_of_cif(console: Console) -> u32 {
+fn help_of_cif(console: Console) -> Status {
     printed(
         console,
         b"pinarewhemi cif FILE K > TEXT\n\
@@ -111,7 +112,7 @@ Writes the shots of figure K of a job or of a text drawing as a CIF text, which 
     )
 }
 
-fn help_of_gdsii(console: Console) -> u32 {
+fn help_of_gdsii(console: Console) -> Status {
     printed(
         console,
         b"pinarewhemi gdsii ELEMENT\n\
@@ -122,7 +123,7 @@ and N shots; the shift plus a shot is where it lies in the stream.\n",
     )
 }
 
-fn help_of_index(console: Console) -> u32 {
+fn help_of_index(console: Console) -> Status {
     printed(
         console,
         b"pinarewhemi index FILE\n\
@@ -131,7 +132,7 @@ Prints the byte at which each outline of a job starts; of a text drawing, in the
     )
 }
 
-fn help_of_salvage(console: Console) -> u32 {
+fn help_of_salvage(console: Console) -> Status {
     printed(
         console,
         b"pinarewhemi salvage [JOB] > SOUND\n\
@@ -142,7 +143,7 @@ kept and lost, and how many bytes dropped. Status 0 where nothing was lost, 1 wh
 }
 
 // The help of a subcommand, or of all.
-pub fn print_help(console: Console, which: Subcommand) -> u32 {
+pub fn print_help(console: Console, which: Subcommand) -> Status {
     match which {
         Subcommand::Fracture => help_of_fracture(console),
         Subcommand::Picture => help_of_picture(console),
@@ -153,17 +154,20 @@ pub fn print_help(console: Console, which: Subcommand) -> u32 {
         Subcommand::Gdsii => help_of_gdsii(console),
         Subcommand::Index => help_of_index(console),
         Subcommand::Salvage => help_of_salvage(console),
-        Subcommand::Help => help_of_all(console),
-        Subcommand::Version => help_of_all(console),
-        Subcommand::Unknown => complain(
-            console.err,
-            b"pinarewhemi: there is no such subcommand; pinarewhemi --help lists them\n",
-        ),
+        Subcommand::Help | Subcommand::Version => help_of_all(console),
     }
 }
 
-// One line on standard error for a subcommand that has too few words or too many.
-pub fn complain_of_words(err: Stderr) -> u32 {
+// One line on standard error where there is no such subcommand.
+pub fn complain_unknown(err: Stderr) -> Status {
+    complain(
+        err,
+        b"pinarewhemi: there is no such subcommand; pinarewhemi --help lists them\n",
+    )
+}
+
+// The same for a subcommand that has too few words or too many.
+pub fn complain_of_words(err: Stderr) -> Status {
     complain(
         err,
         b"pinarewhemi: words are missing, or there are too many; pinarewhemi SUBCOMMAND --help says which are wanted\n",

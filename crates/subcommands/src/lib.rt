@@ -16,18 +16,19 @@ mod texts;
 
 use elements::element_words;
 use fracturing::fracture_words;
-use help::{complain_of_words, print_help, print_version};
+use help::{complain_of_words, complain_unknown, print_help, print_version};
 use offsets::offset_words;
 use packing::{list_words, pack_words};
 use pictures::picture_words;
 use salvages::salvage_words;
 use terminal::arguments::is_argument;
 use terminal::host::Host;
+use terminal::status::Status;
 use texts::text_words;
 use walking::walk_within;
 
-// The subcommands, and what else word 1 may be.
-#[derive(Clone, Copy)]
+// The subcommands.
+#[derive(Clone, Copy, PartialEq, Eq)]
 pub enum Subcommand {
     Fracture,
     Picture,
@@ -40,101 +41,83 @@ pub enum Subcommand {
     Salvage,
     Help,
     Version,
-    Unknown,
 }
 
-// Of those that are about figures.
-fn named_of_figures<H: Host>(host: &H) -> Subcommand {
-    if is_argument(host, 1, b"fracture") {
-        return Subcommand::Fracture;
+impl Subcommand {
+    // The subcommand of a word; none where there is none of that name.
+    fn named(word: &[u8]) -> Option<Subcommand> {
+        match word {
+            b"fracture" => Some(Subcommand::Fracture),
+            b"picture" => Some(Subcommand::Picture),
+            b"walk" => Some(Subcommand::Walk),
+            b"pack" => Some(Subcommand::Pack),
+            b"list" => Some(Subcommand::List),
+            b"cif" => Some(Subcommand::Cif),
+            b"gdsii" => Some(Subcommand::Gdsii),
+            b"index" => Some(Subcommand::Index),
+            b"salvage" => Some(Subcommand::Salvage),
+            b"--help" | b"-h" | b"help" => Some(Subcommand::Help),
+            b"--version" => Some(Subcommand::Version),
+            _ => None,
+        }
     }
-    if is_argument(host, 1, b"picture") {
-        return Subcommand::Picture;
-    }
-    if is_argument(host, 1, b"walk") {
-        return Subcommand::Walk;
-    }
-    if is_argument(host, 1, b"cif") {
-        return Subcommand::Cif;
-    }
-    if is_argument(host, 1, b"gdsii") {
-        return Subcommand::Gdsii;
-    }
-    Subcommand::Unknown
-}
 
-// Whether word 1 asks what there is.
-fn asks_for_help<H: Host>(host: &H) -> bool {
-    is_argument(host, 1, b"--help") || is_argument(host, 1, b"-h") || is_argument(host, 1, b"help")
-}
+    // Whether it takes so many words, its own name and the program's among them.
+    fn takes(self, words: usize) -> bool {
+        match self {
+            Subcommand::Fracture => 3 <= words,
+            Subcommand::Picture => 4 <= words,
+            Subcommand::Cif => words == 4,
+            Subcommand::Pack | Subcommand::List | Subcommand::Gdsii | Subcommand::Index => {
+                words == 3
+            }
+            Subcommand::Salvage => words <= 3,
+            Subcommand::Walk | Subcommand::Help | Subcommand::Version => true,
+        }
+    }
 
-// Of those that are about job files, and the rest.
-fn named<H: Host>(host: &H) -> Subcommand {
-    if is_argument(host, 1, b"pack") {
-        return Subcommand::Pack;
-    }
-    if is_argument(host, 1, b"list") {
-        return Subcommand::List;
-    }
-    if is_argument(host, 1, b"index") {
-        return Subcommand::Index;
-    }
-    if is_argument(host, 1, b"salvage") {
-        return Subcommand::Salvage;
-    }
-    if asks_for_help(host) {
-        return Subcommand::Help;
-    }
-    if is_argument(host, 1, b"--version") {
-        return Subcommand::Version;
-    }
-    named_of_figures(host)
-}
-
-// A subcommand that takes just so many words, its own name and the program's among them.
-fn words_fit(which: Subcommand, words: usize) -> bool {
-    match which {
-        Subcommand::Fracture => 3 <= words,
-        Subcommand::Picture => 4 <= words,
-        Subcommand::Pack => words == 3,
-        Subcommand::List => words == 3,
-        Subcommand::Cif => words == 4,
-        Subcommand::Gdsii => words == 3,
-        Subcommand::Index => words == 3,
-        Subcommand::Salvage => words <= 3,
-        _ => true,
+    // Its run: the status, or that of what stopped it, which was told.
+    fn run<H: Host>(self, host: &H, words: usize) -> Result<Status, Status> {
+        match self {
+            Subcommand::Fracture => fracture_words(host, words),
+            Subcommand::Picture => picture_words(host, words),
+            Subcommand::Walk => Ok(walk_within(host)),
+            Subcommand::Pack => pack_words(host),
+            Subcommand::List => list_words(host),
+            Subcommand::Cif => text_words(host),
+            Subcommand::Gdsii => element_words(host),
+            Subcommand::Index => offset_words(host),
+            Subcommand::Salvage => salvage_words(host, words),
+            Subcommand::Version => Ok(print_version(host.console())),
+            Subcommand::Help => Ok(print_help(host.console(), self)),
+        }
     }
 }
 
 // The subcommand that word 1 names.
-fn run<H: Host>(host: &H, which: Subcommand, words: usize) -> u32 {
-    match which {
-        Subcommand::Fracture => fracture_words(host, words),
-        Subcommand::Picture => picture_words(host, words),
-        Subcommand::Walk => walk_within(host),
-        Subcommand::Pack => pack_words(host),
-        Subcommand::List => list_words(host),
-        Subcommand::Cif => text_words(host),
-        Subcommand::Gdsii => element_words(host),
-        Subcommand::Index => offset_words(host),
-        Subcommand::Salvage => salvage_words(host, words),
-        Subcommand::Version => print_version(host.console()),
-        _ => print_help(host.console(), which),
-    }
+fn named<H: Host>(host: &H) -> Option<Subcommand> {
+    let mut word = [0u8; 16];
+    let length = host.word(1, &mut word)?;
+    Subcommand::named(&word[..length])
 }
 
 // The whole run, with its status.
-pub fn pw_pinarewhemi<H: Host>(host: &H) -> u32 {
+pub fn pw_pinarewhemi<H: Host>(host: &H) -> Status {
+    let console = host.console();
     let words = host.word_count();
     if words < 2 {
-        return print_help(host.console(), Subcommand::Help);
+        return print_help(console, Subcommand::Help);
     }
-    let which = named(host);
+    let Some(which) = named(host) else {
+        return complain_unknown(console.err);
+    };
     if is_argument(host, 2, b"--help") {
-        return print_help(host.console(), which);
+        return print_help(console, which);
     }
-    if words_fit(which, words) {
-        return run(host, which, words);
+    if !which.takes(words) {
+        return complain_of_words(console.err);
     }
-    complain_of_words(host.console().err)
+    match which.run(host, words) {
+        Ok(status) | Err(status) => status,
+    }
 }

@@ -1,71 +1,42 @@
 // `pinarewhemi index`: where each outline of a job starts, to find it in a hex viewer.
 use crate::lines::ended;
-use crate::sources::{front_bytes, read_job};
-use explanation::jobs;
-use index::opening::{Opened, open};
+use crate::sources::{front, read_job, refuse_job};
+use index::opening::open;
 use job::{MOST_BYTES, MOST_OUTLINES};
-use refusal::Refusal;
-use std::rt::Stderr;
 use terminal::console::Console;
 use terminal::host::Host;
 use terminal::output::{Output, nothing_yet, print, print_number};
-use terminal::{DONE, REFUSED};
-
-// An offset as a number to print; 0 past the end of the index.
-fn offset(index: &[u16], k: usize) -> u64 {
-    if k < index.len() {
-        return wide(index[k]);
-    }
-    0
-}
-
-fn wide(n: u16) -> u64 {
-    n as u64
-}
+use terminal::status::Status;
 
 // The line of outline k.
-fn print_offset(out: Output, index: &[u16], k: usize) -> Output {
+fn print_offset(out: Output, k: usize, offset: u16) -> Output {
     let named = print_number(out, b"outline ", k as u64);
-    let placed = print_number(named, b" at ", offset(index, k));
+    let placed = print_number(named, b" at ", u64::from(offset));
     print(placed, b"\n")
 }
 
-// The lines of so many outlines.
-fn print_offsets(index: &[u16], outlines: u32, out: Output) -> Output {
+// The lines of the outlines of a job, by its index.
+fn print_offsets(index: &[u16], out: Output) -> Output {
     let mut next = out;
-    for k in 0..outlines {
-        next = print_offset(next, index, k as usize);
+    for (k, offset) in index.iter().enumerate() {
+        next = print_offset(next, k, *offset);
     }
     next
 }
 
-// A job that is refused, told in words.
-fn refuse(err: Stderr, job: &[u8], why: Refusal, at: usize) -> u32 {
-    jobs::explain(err, job, why, at);
-    REFUSED
-}
-
-// A job: refused, or its index printed.
-fn run(console: Console, job: &[u8]) -> u32 {
+// A job, whose index is printed.
+fn run(console: Console, job: &[u8]) -> Result<Status, Status> {
     let mut index = [0u16; MOST_OUTLINES as usize];
-    match open(job, &mut index) {
-        Opened::Refused(why, at) => refuse(console.err, job, why, at),
-        Opened::Outlines(outlines) => {
-            let counted = print_number(nothing_yet(console), b"job ", outlines as u64);
-            let ruled = print(counted, b"\n");
-            ended(print_offsets(&index, outlines, ruled), false)
-        }
-    }
+    let outlines = open(job, &mut index).map_err(|fault| refuse_job(console.err, job, fault))?;
+    let counted = print_number(nothing_yet(console), b"job ", u64::from(outlines));
+    let ruled = print(counted, b"\n");
+    let printed = print_offsets(front(&index, outlines as usize), ruled);
+    Ok(ended(printed, false))
 }
 
 // The subcommand: its file is word 2.
-pub fn offset_words<H: Host>(host: &H) -> u32 {
+pub fn offset_words<H: Host>(host: &H) -> Result<Status, Status> {
     let mut job = [0u8; MOST_BYTES + 1];
-    let got = read_job(host, 2, &mut job);
-    let status = got.status;
-    if status != DONE {
-        return status;
-    }
-    let read = front_bytes(&job, got.bytes);
-    run(host.console(), read)
+    let n = read_job(host, 2, &mut job)?;
+    run(host.console(), front(&job, n))
 }

@@ -1,71 +1,36 @@
 // `pinarewhemi pack` and `pinarewhemi list`: a text drawing into a job, and back again.
 use crate::lines::ended;
-use crate::sources::{MOST_TEXT, front_bytes, packed};
+use crate::sources::{MOST_TEXT, front, packed, refuse_job};
 use drawing::list;
-use explanation::jobs;
 use job::MOST_BYTES;
-use job::read::Checked;
 use terminal::arguments::read_argument;
 use terminal::console::Console;
 use terminal::host::Host;
-use terminal::output::{Output, nothing_yet, print};
-use terminal::{DONE, FAILED};
+use terminal::output::{nothing_yet, print};
+use terminal::status::Status;
 
-// A drawing, packed and written.
-fn pack_text<H: Host>(host: &H, text: &[u8]) -> u32 {
-    let mut job = [0u8; MOST_BYTES];
-    let got = packed(host, 2, text, &mut job);
-    let status = got.status;
-    if status != DONE {
-        return status;
-    }
-    let written = front_bytes(&job, got.bytes);
-    ended(print(nothing_yet(host.console()), written), false)
-}
-
-// Packs the drawing that word 2 names.
-pub fn pack_words<H: Host>(host: &H) -> u32 {
+// Packs the drawing that word 2 names, and writes the job.
+pub fn pack_words<H: Host>(host: &H) -> Result<Status, Status> {
     let mut text = [0u8; MOST_TEXT + 1];
-    let got = read_argument(host, b"pinarewhemi", 2, &mut text);
-    let failed = got.failed;
-    if failed {
-        return FAILED;
-    }
-    let n = got.bytes;
-    pack_text(host, &text[..n])
+    let n = read_argument(host, b"pinarewhemi", 2, &mut text).ok_or(Status::Failed)?;
+    let mut job = [0u8; MOST_BYTES];
+    let bytes = packed(host, 2, &text[..n], &mut job)?;
+    let written = print(nothing_yet(host.console()), front(&job, bytes));
+    Ok(ended(written, false))
 }
 
-// The end of a listing: a job that is refused is told in words.
-fn listed(job: &[u8], out: Output, checked: Checked) -> u32 {
-    match checked {
-        Checked::Refused(why, at) => {
-            jobs::explain(out.console.err, job, why, at);
-            ended(out, true)
-        }
-        Checked::Job {
-            threshold: _,
-            weight: _,
-            outlines: _,
-        } => ended(out, false),
+// A job, listed; one that is refused is told in words.
+fn list_job(console: Console, job: &[u8]) -> Status {
+    let listed = list(job, nothing_yet(console));
+    if let Err(fault) = listed.checked {
+        refuse_job(console.err, job, fault);
     }
-}
-
-// A job, listed.
-fn list_job(console: Console, job: &[u8]) -> u32 {
-    let done = list(job, nothing_yet(console));
-    let out = done.out;
-    let checked = done.checked;
-    listed(job, out, checked)
+    ended(listed.out, listed.checked.is_err())
 }
 
 // Lists the job that word 2 names. One byte more than the longest is read, so that a longer one shows.
-pub fn list_words<H: Host>(host: &H) -> u32 {
+pub fn list_words<H: Host>(host: &H) -> Result<Status, Status> {
     let mut job = [0u8; MOST_BYTES + 1];
-    let got = read_argument(host, b"pinarewhemi", 2, &mut job);
-    let failed = got.failed;
-    if failed {
-        return FAILED;
-    }
-    let n = got.bytes;
-    list_job(host.console(), &job[..n])
+    let n = read_argument(host, b"pinarewhemi", 2, &mut job).ok_or(Status::Failed)?;
+    Ok(list_job(host.console(), &job[..n]))
 }

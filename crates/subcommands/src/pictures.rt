@@ -1,92 +1,45 @@
 // `pinarewhemi picture`: a figure and its shots as a drawing in SVG.
-use crate::chosen::{Chosen, choose};
+use crate::chosen::{Chosen, choose, refuse_figure};
 use crate::lines::ended;
 use crate::options::options_from;
-use crate::sources::front_numbers;
-use explanation::figures;
-use figure::{MOST_CORNERS, MOST_RINGS};
-use picture::{Drawn, draw_picture};
-use terminal::arguments::{NO_NUMBER, argument};
+use picture::draw_picture;
+use picture::scene::{Figure, Manner};
+use terminal::arguments::argument;
 use terminal::console::Console;
 use terminal::errors::complain;
 use terminal::host::Host;
 use terminal::output::nothing_yet;
-use terminal::{DONE, FAILED, REFUSED};
+use terminal::status::Status;
 
 // A figure of the file of this name, drawn; or told in words where it is refused.
-fn run(
-    console: Console,
-    name: &[u8],
-    corners: &[u16],
-    lengths: &[u16],
-    chosen: Chosen,
-    pinwheels: bool,
-) -> u32 {
-    let k = chosen.k;
-    let done = draw_picture(
+fn run(console: Console, name: &[u8], chosen: Chosen, pinwheels: bool) -> Status {
+    let drawn = Figure {
         name,
-        k as u64,
-        corners,
-        lengths,
-        chosen.threshold,
-        chosen.weight,
+        number: chosen.k as u64,
+        corners: chosen.figure.corners(),
+        lengths: chosen.figure.lengths(),
+    };
+    let manner = Manner {
+        threshold: chosen.header.threshold,
+        weight: chosen.header.weight,
         pinwheels,
-        nothing_yet(console),
-    );
-    let drawn = done.drawn;
-    match drawn {
-        Drawn::Refused(why) => {
-            figures::explain(console.err, k, why, corners, lengths);
-            REFUSED
-        }
-        Drawn::Done => {
-            let out = done.out;
-            ended(out, false)
-        }
+    };
+    let mut out = nothing_yet(console);
+    match draw_picture(drawn, manner, &mut out) {
+        Ok(()) => ended(out, false),
+        Err(why) => refuse_figure(console.err, chosen.k, &chosen.figure, why),
     }
-}
-
-// The same by the name of the file that word 2 names.
-fn run_named<H: Host>(
-    host: &H,
-    corners: &[u16],
-    lengths: &[u16],
-    chosen: Chosen,
-    pinwheels: bool,
-) -> u32 {
-    let mut path = io::buffer();
-    let length = argument(host, 2, &mut path);
-    run(
-        host.console(),
-        &path[..length],
-        corners,
-        lengths,
-        chosen,
-        pinwheels,
-    )
 }
 
 // The subcommand: words 2 and 3 name the figure, and its options stand behind them. A divided list is not drawn.
-pub fn picture_words<H: Host>(host: &H, words: usize) -> u32 {
-    let options = options_from(host, 4, words);
-    let bad = options.bad;
-    if bad {
-        return FAILED;
+pub fn picture_words<H: Host>(host: &H, words: usize) -> Result<Status, Status> {
+    let console = host.console();
+    let options = options_from(host, 4, words)?;
+    if options.largest.is_some() {
+        return Err(complain(console.err, b"pinarewhemi: a picture has no largest side\n"));
     }
-    if options.largest < NO_NUMBER {
-        return complain(
-            host.console().err,
-            b"pinarewhemi: a picture has no largest side\n",
-        );
-    }
-    let mut corners = [0u16; 2 * MOST_CORNERS];
-    let mut lengths = [0u16; MOST_RINGS];
-    let chosen = choose(host, &mut corners, &mut lengths);
-    let status = chosen.status;
-    if status != DONE {
-        return status;
-    }
-    let outline = front_numbers(&corners, chosen.numbers);
-    let rings = front_numbers(&lengths, chosen.rings);
-    run_named(host, outline, rings, chosen, options.pinwheels)
+    let chosen = choose(host)?;
+    let mut path = io::buffer();
+    let length = argument(host, 2, &mut path);
+    Ok(run(console, &path[..length], chosen, options.pinwheels))
 }

@@ -1,15 +1,14 @@
 // `pinarewhemi salvage`: what is left of a broken job, as the program of that name has it.
-ghost use Rattle.io.specs.Counts.{IsPrefixLen};
+ghost use Rattle.std.specs.Prelude.{length, IfSome, ◌≤◌};
 
 use job::MOST_BYTES;
-use terminal::FAILED;
 use terminal::arguments::{read_argument, read_standard};
 use terminal::host::Host;
-use terminal::input::Input;
+use terminal::status::Status;
 
 // The file that word 2 names, or standard input where there is no such word.
-fn read_broken<H: Host>(host: &H, words: usize, job: &mut [u8]) -> Input
-    ensures { IsPrefixLen result.bytes job.new }
+fn read_broken<H: Host>(host: &H, words: usize, job: &mut [u8]) -> Option<usize>
+    ensures { IfSome result (λ n. n ≤ length job.new) }
 {
     if words < 3 {
         return read_standard(host, b"pinarewhemi", job);
@@ -18,14 +17,9 @@ fn read_broken<H: Host>(host: &H, words: usize, job: &mut [u8]) -> Input
 }
 
 // The subcommand. One byte more than the longest job is read, so that a longer one shows.
-pub fn salvage_words<H: Host>(host: &H, words: usize) -> u32 {
+pub fn salvage_words<H: Host>(host: &H, words: usize) -> Result<Status, Status> {
     let mut job = [0u8; MOST_BYTES + 1];
     let mut room = [0u8; MOST_BYTES];
-    let got = read_broken(host, words, &mut job);
-    let failed = got.failed;
-    if failed {
-        return FAILED;
-    }
-    let n = got.bytes;
-    rescue::run(host.console(), &job[..n], &mut room)
+    let n = read_broken(host, words, &mut job).ok_or(Status::Failed)?;
+    Ok(rescue::run(host.console(), &job[..n], &mut room))
 }

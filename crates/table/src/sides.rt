@@ -14,7 +14,7 @@ pub fn span(lines: &[u16], from: Line, to: Line) -> u32
 {
     let low = place_of(lines, from);
     let high = place_of(lines, to);
-    (high.0 - low.0) as u32
+    u32::from(high.0 - low.0)
 }
 
 // Where the column left of the x line a begins. Left of the first line there is none: the column beyond every frame stands in for it.

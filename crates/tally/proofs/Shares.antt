@@ -1,7 +1,7 @@
 -- Laws of measuring: the shares of the cells, and the widths of the strips. Assumes nothing.
 --
 --   neighbour-*        == the cell before the first, and before a later one
---   put_five, put-shares
+--   put_five, bare-same, put-shares
 --                      == five numbers stored, and that they are the shares of a cell by the lists
 --   share_are, share-none, share-most
 --                      == the shares by the lists are those of the grid; beyond the frame they are 0; none is above 65535
@@ -28,7 +28,7 @@ use Rattle.table.specs.Run.{Wrote, bare}
 use Rattle.table.proofs.Run.{wrote_more}
 use Rattle.table.proofs.Side.{bare-only}
 use Rattle.tally.specs.Sums.{Widths}
-use Rattle.tally.specs.Units.{five, share, low_neighbour, share_of, Measurable, Put, Laid, Row, UnitsTo, Units, span_of, Rising}
+use Rattle.tally.specs.Units.{five, share, low_neighbour, share_of, Measurable, Spans, Around, Put, Laid, Row, UnitsTo, Units, span_of, Rising}
 
 -- the cell before
 pub neighbour_first : (k here step beyond : ℕ) → k ≡ 0 → beyond < 256 → (beyond ≡ low_neighbour k here step beyond) × (beyond < 256)
@@ -124,29 +124,29 @@ five-most c b p l r m (suc (suc (suc (suc zero)))) hc hb hp hl hr h = hr
 five-most c b p l r m (suc (suc (suc (suc (suc n))))) hc hb hp hl hr h = absurd (omega arith)
 
 -- the numbers stored are the shares of the cell (i, j) by the lists
-pub put-shares : (xs ys cells : List ℕ) (i j at c b p l r wide high under before : ℕ) (t u : List ℕ)
-    → wide ≡ get_or xs (i + 1) 0 - get_or xs i 0
-    → high ≡ get_or ys (j + 1) 0 - get_or ys j 0
-    → under ≡ low_neighbour j (16 * i + j) 1 (16 * i + 15)
-    → before ≡ low_neighbour i (16 * i + j) 16 (240 + j)
-    → c ≡ get_or cells (16 * i + j) 0
-    → b ≡ bare (get_or cells (16 * i + j) 0) (get_or cells under 0) wide
-    → p ≡ bare (get_or cells (16 * i + j) 0) (get_or cells (16 * i + j + 1) 0) wide
-    → l ≡ bare (get_or cells (16 * i + j) 0) (get_or cells before 0) high
-    → r ≡ bare (get_or cells (16 * i + j) 0) (get_or cells (16 * i + j + 16) 0) high
+pub bare-same : (near near' far far' len len' : ℕ) → near ≡ near' → far ≡ far' → len ≡ len' → bare near far len ≡ bare near' far' len'
+bare-same near near' far far' len len' en ef el = ap (λ n. bare n far len) en ∙ ap₂ (bare near') ef el
+
+pub put-shares : (xs ys cells : List ℕ) (i j at c under above before after wide high b p l r : ℕ) (t u : List ℕ)
+    → Spans wide high xs ys i j
+    → Around c under above before after cells i j
+    → b ≡ bare c under wide
+    → p ≡ bare c above wide
+    → l ≡ bare c before high
+    → r ≡ bare c after high
     → Put (five c b p l r) at t u
     → Put (share_of xs ys cells i j) at t u
 unfolding share_of
-put-shares xs ys cells i j at c b p l r wide high under before t u ew eh eu ef ec eb ep el er o =
+put-shares xs ys cells i j at c under above before after wide high b p l r t u s n eb ep el er o =
     record {
       long = o.long;
       made =
-          λ n h. o.made n h
-          ∙ five-same c b p l r _ _ _ _ _ n ec
-          (eb ∙ ap₂ (λ m k. bare (get_or cells (16 * i + j) 0) (get_or cells m 0) k) eu ew)
-          (ep ∙ ap (bare (get_or cells (16 * i + j) 0) (get_or cells (16 * i + j + 1) 0)) ew)
-          (el ∙ ap₂ (λ m k. bare (get_or cells (16 * i + j) 0) (get_or cells m 0) k) ef eh)
-          (er ∙ ap (bare (get_or cells (16 * i + j) 0) (get_or cells (16 * i + j + 16) 0)) eh);
+          λ k h. o.made k h
+          ∙ five-same c b p l r _ _ _ _ _ k n.cell-is
+          (eb ∙ bare-same _ _ _ _ _ _ n.cell-is n.under-is s.wide-is)
+          (ep ∙ bare-same _ _ _ _ _ _ n.cell-is n.above-is s.wide-is)
+          (el ∙ bare-same _ _ _ _ _ _ n.cell-is n.before-is s.high-is)
+          (er ∙ bare-same _ _ _ _ _ _ n.cell-is n.after-is s.high-is);
       kept = o.kept;
     }
 

@@ -12,6 +12,10 @@
 --                         == the same share by the lists in memory
 --   Measurable xs ys cells i j
 --                         == the cell (i, j) with all that touch it lies in the lists, and the places beside it do not fall
+--   Spans wide high xs ys i j
+--                         == the cell (i, j) is so wide and so high, in nm
+--   Around cell under above before after cells i j
+--                         == this is the cell (i, j), and these are the cells across its bottom, top, left and right side
 --   Put f at t u          == u is the list t with f r at the place `at` of the r-th run, for all five
 --   Laid g xs ys cells    == the grid g is sound, and lies in memory so
 --   Row g columns j xs ys cells
@@ -54,6 +58,19 @@ pub record Measurable (xs ys cells : List ℕ) (i j : ℕ) : Type 0 where
   pub row : j ≤ 14
   pub x-up : get_or xs i 0 ≤ get_or xs (i + 1) 0
   pub y-up : get_or ys j 0 ≤ get_or ys (j + 1) 0
+
+pub record Spans (wide high : ℕ) (xs ys : List ℕ) (i j : ℕ) : Type 0 where
+  pub wide-is : wide ≡ get_or xs (i + 1) 0 - get_or xs i 0
+  pub high-is : high ≡ get_or ys (j + 1) 0 - get_or ys j 0
+  pub wide-most : wide ≤ 65535
+  pub high-most : high ≤ 65535
+
+pub record Around (cell under above before after : ℕ) (cells : List ℕ) (i j : ℕ) : Type 0 where
+  pub cell-is : cell ≡ get_or cells (16 * i + j) 0
+  pub under-is : under ≡ get_or cells (low_neighbour j (16 * i + j) 1 (16 * i + 15)) 0
+  pub above-is : above ≡ get_or cells (16 * i + j + 1) 0
+  pub before-is : before ≡ get_or cells (low_neighbour i (16 * i + j) 16 (240 + j)) 0
+  pub after-is : after ≡ get_or cells (16 * i + j + 16) 0
 
 pub record Put (f : ℕ → ℕ) (at : ℕ) (t u : List ℕ) : Type 0 where
   pub long : length u ≡ length t

@@ -16,10 +16,8 @@ fn add_shares(sums: &mut [u32; SUMS], unit: &[u32; SHARES], at: usize, from: usi
     requires slight { Slight unit.now × ((l : ℕ) → l < 16 → get_or sums.old (at + l) 0 ≤ 65535) }
     ensures { Wrote (added sums.old unit.now at from) at 16 sums.old sums.new }
 {
-    let mut l: usize = 0;
-    while l < LANES {
-        sums[at + l] = sums[at + l] + unit[from + l];
-        l += 1;
+    for l in 0..LANES {
+        sums[at + l] += unit[from + l];
     }
 }
 
@@ -29,10 +27,8 @@ fn add_flanks(sums: &mut [u32; SUMS], unit: &[u32; SHARES], at: usize, left: usi
     requires slight { Slight unit.now }
     ensures { Wrote (flank_sum unit.now left right) at 16 sums.old sums.new }
 {
-    let mut l: usize = 0;
-    while l < LANES {
+    for l in 0..LANES {
         sums[at + l] = unit[left + l] + unit[right + l];
-        l += 1;
     }
 }
 
@@ -62,9 +58,7 @@ pub fn grow(sums: &mut [u32; SUMS], unit: &[u32; SHARES], rows: usize, w: usize)
     ensures { (g : Grid) → Ripe g rows w unit.now sums.old → Grown g w sums.new × Flanked g w sums.new }
 {
     let last = w - 1;
-    let mut j: usize = 0;
-    while j < rows {
+    for j in 0..rows {
         grow_row(sums, unit, j, last);
-        j += 1;
     }
 }

@@ -1,9 +1,8 @@
 // Whatever a program is started by: the system, or a start in C (`given`).
-ghost use Rattle.std.specs.Prelude.{length, IfSome, ◌≤◌};
-ghost use Rattle.io.specs.Counts.{IsPrefixLen};
+ghost use Rattle.std.specs.Prelude.{length, IfOk, IfSome, ◌≤◌};
 
-use crate::console::{Clockwork, Console};
-use crate::input::{Input, read_all, unopened};
+use crate::console::Console;
+use crate::input::{Unread, read_all};
 use std::env::FillError;
 use std::fs::File;
 use std::io::Error;
@@ -21,9 +20,9 @@ pub trait Host {
     fn word(&self, i: usize, into: &mut [u8]) -> Option<usize>
         ensures in_bounds { IfSome result (λ n. n ≤ length into.new) };
 
-    // The file of this name, as much of it as the buffer holds.
-    fn read_file(&self, path: &[u8], buffer: &mut [u8]) -> Input
-        ensures in_bounds { IsPrefixLen result.bytes buffer.new };
+    // The file of this name, as much of it as the buffer holds: how many bytes.
+    fn read_file(&self, path: &[u8], buffer: &mut [u8]) -> Result<usize, Unread>
+        ensures in_bounds { IfOk result (λ n. n ≤ length buffer.new) };
 }
 
 // The number by which the system says that bytes are no text.
@@ -31,23 +30,7 @@ const NO_TEXT: i32 = 84;
 
 // Whether there is a word i.
 fn has_word(rt: &LibcRuntime, i: usize) -> bool {
-    match rt.arg(i, &mut []) {
-        Err(FillError::NotPresent) => false,
-        _ => true,
-    }
-}
-
-// A file that is named in text.
-fn read_named(rt: &LibcRuntime, path: &str, buffer: &mut [u8]) -> Input
-    ensures { IsPrefixLen result.bytes buffer.new }
-{
-    match File::open(rt, path) {
-        Ok(file) => {
-            let mut opened = file;
-            read_all(&mut opened, Clockwork::System(*rt), buffer)
-        }
-        Err(why) => unopened(why),
-    }
+    !matches!(rt.arg(i, &mut []), Err(FillError::NotPresent))
 }
 
 impl Host for LibcRuntime {
@@ -56,31 +39,26 @@ impl Host for LibcRuntime {
             input: self.stdin(),
             out: self.stdout(),
             err: self.stderr(),
-            clock: Clockwork::System(*self),
+            clock: Some(*self),
         }
     }
 
     fn word_count(&self) -> usize {
-        for i in 0..usize::MAX {
-            if !has_word(self, i) {
-                return i;
-            }
-        }
-        usize::MAX
+        (0..usize::MAX)
+            .find(|i| !has_word(self, *i))
+            .unwrap_or(usize::MAX)
     }
 
     fn word(&self, i: usize, into: &mut [u8]) -> Option<usize> {
-        match self.arg(i, into) {
-            Ok(n) => Some(n),
-            Err(_) => None,
-        }
+        self.arg(i, into).ok()
     }
 
     // Std opens a file by a name that is text, and by no other.
-    fn read_file(&self, path: &[u8], buffer: &mut [u8]) -> Input {
-        match from_utf8(path) {
-            Ok(name) => read_named(self, name, buffer),
-            Err(_) => unopened(Error::from_raw_os_error(NO_TEXT)),
-        }
+    fn read_file(&self, path: &[u8], buffer: &mut [u8]) -> Result<usize, Unread> {
+        let Ok(name) = from_utf8(path) else {
+            return Err(Unread::Because(Error::from_raw_os_error(NO_TEXT)));
+        };
+        let mut file = File::open(self, name)?;
+        read_all(&mut file, Some(*self), buffer)
     }
 }

@@ -1,79 +1,61 @@
 // Input, read to its end or until a buffer is full.
-ghost use Rattle.std.specs.Prelude.{length, ◌≤◌, ◌≡◌};
-ghost use Rattle.io.specs.Counts.{IsPrefixLen};
+ghost use Rattle.std.specs.Prelude.{length, IfOk, ◌≤◌};
 
-use crate::console::Clockwork;
 use crate::waiting::{PATIENCE, worth_another};
 use std::io::{Error, Read};
+use std::rt::HostRuntime;
 
-// What was read: so many bytes at the front of the buffer; and whether a read failed after them, and why, where the system says it.
+// Why reading failed: the system's reason; or the stream stayed not ready for as long as is waited.
 #[derive(Clone, Copy)]
-pub struct Input {
-    pub bytes: usize,
-    pub failed: bool,
-    pub why: Option<Error>,
+pub enum Unread {
+    Because(Error),
+    Unready,
 }
 
-// Nothing read, for this reason.
-pub fn unopened(why: Error) -> Input
-    ensures { result.bytes ≡ 0 }
-{
-    Input {
-        bytes: 0,
-        failed: true,
-        why: Some(why),
+impl From<Error> for Unread {
+    fn from(why: Error) -> Unread {
+        Unread::Because(why)
     }
 }
 
-// One read, tried again where that is worth it; no bytes are the end of the input, or a failure.
-fn read_some<R: Read>(from: &mut R, clock: Clockwork, buffer: &mut [u8]) -> Input
-    ensures { result.bytes ≤ length buffer.old }
+// One read, tried again where that is worth it: how many bytes came; none at the end of the input.
+fn read_some<R: Read>(
+    from: &mut R,
+    clock: Option<HostRuntime>,
+    buffer: &mut [u8],
+) -> Result<usize, Unread>
+    ensures { IfOk result (λ n. n ≤ length buffer.old) }
 {
     for _ in 0..PATIENCE {
         match from.read(buffer) {
             Ok(bytes) => {
-                return Input {
-                    bytes,
-                    failed: false,
-                    why: None,
-                };
+                return Ok(bytes);
             }
             Err(why) => {
                 if !worth_another(why, clock) {
-                    return unopened(why);
+                    return Err(Unread::Because(why));
                 }
             }
         }
     }
-    Input {
-        bytes: 0,
-        failed: true,
-        why: None,
-    }
+    Err(Unread::Unready)
 }
 
-// What a reader has, to its end, or as much of it as the buffer holds.
-pub fn read_all<R: Read>(from: &mut R, clock: Clockwork, buffer: &mut [u8]) -> Input
-    ensures { IsPrefixLen result.bytes buffer.new }
+// What a reader has, to its end, or as much of it as the buffer holds: how many bytes. No `for`: how far one turn goes, the reader says.
+pub fn read_all<R: Read>(
+    from: &mut R,
+    clock: Option<HostRuntime>,
+    buffer: &mut [u8],
+) -> Result<usize, Unread>
+    ensures { IfOk result (λ n. n ≤ length buffer.new) }
 {
     let mut done = 0;
     while done < buffer.len() {
-        let got = read_some(from, clock, &mut buffer[done..]);
-        let more = got.bytes;
+        let more = read_some(from, clock, &mut buffer[done..])?;
         if more == 0 {
-            let failed = got.failed;
-            let why = got.why;
-            return Input {
-                bytes: done,
-                failed,
-                why,
-            };
+            break;
         }
         done += more;
     }
-    Input {
-        bytes: done,
-        failed: false,
-        why: None,
-    }
+    Ok(done)
 }

@@ -1,4 +1,5 @@
-// What our programs share: standard input, output and error, the words that a program is started with, and the files that these name.
+// What our programs share: standard input, output and error, the words that a program is started with, the files that these name, and how
+// a program ends.
 #![tactic(auto)]
 
 pub mod arguments;
@@ -9,12 +10,5 @@ pub mod host;
 pub mod input;
 pub mod output;
 mod reason;
+pub mod status;
 mod waiting;
-
-// How a program ends: all was done; the job, or something of it, was refused; reading or writing failed, or the words ask for nothing
-// that there is.
-pub const DONE: u32 = 0;
-
-pub const REFUSED: u32 = 1;
-
-pub const FAILED: u32 = 2;

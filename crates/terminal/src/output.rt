@@ -4,9 +4,12 @@ ghost use Rattle.terminal.specs.Output.{Remembers};
 
 use crate::console::Console;
 use crate::waiting::{PATIENCE, worth_another};
+use std::fmt;
+use std::fmt::Write;
 
 // The streams of the program; the bytes that are still to be written, so many at the front of the buffer: 255 at most, so that any count is
-// within it. And whether a write failed, after which nothing is written any more.
+// within it. And whether a write failed, after which nothing is written any more. The buffer is fixed, and no Vec: printing takes no
+// memory, so that it cannot run out of it.
 #[derive(Clone, Copy)]
 pub struct Output {
     pub console: Console,
@@ -15,7 +18,8 @@ pub struct Output {
     pub failed: bool,
 }
 
-// One write, tried again where that is worth it: how many bytes it took, 0 where it failed.
+// One write, tried again where that is worth it: how many bytes it took, 0 where it failed. No Result: a write that takes nothing counts as
+// one that failed.
 fn write_some(to: Console, bytes: &[u8]) -> usize
     ensures { result ≤ length bytes.now }
 {
@@ -34,15 +38,15 @@ fn write_some(to: Console, bytes: &[u8]) -> usize
     0
 }
 
-// Writes all the bytes, or stops at the first write that takes none.
+// Writes all the bytes, or stops at the first write that takes none. No `for`: how far one turn goes, the stream says.
 fn write_all(to: Console, bytes: &[u8]) -> bool {
-    let mut done = 0;
-    while done < bytes.len() {
-        let took = write_some(to, &bytes[done..]);
+    let mut left = bytes;
+    while !left.is_empty() {
+        let took = write_some(to, left);
         if took == 0 {
             return false;
         }
-        done += took;
+        left = &left[took..];
     }
     true
 }
@@ -51,18 +55,12 @@ fn write_all(to: Console, bytes: &[u8]) -> bool {
 pub fn flush(out: Output) -> Output
     ensures { (result.held ≡ 0) × Remembers out result }
 {
-    let console = out.console;
-    let bytes = out.bytes;
-    let held = out.held;
-    let mut failed = out.failed;
-    if !failed {
-        failed = !write_all(console, &bytes[..held as usize]);
-    }
+    let held = usize::from(out.held);
+    let failed = out.failed || !write_all(out.console, &out.bytes[..held]);
     Output {
-        console,
-        bytes,
         held: 0,
         failed,
+        ..out
     }
 }
 
@@ -70,8 +68,7 @@ pub fn flush(out: Output) -> Output
 fn make_room(out: Output) -> Output
     ensures { (result.held < 255) × Remembers out result }
 {
-    let held = out.held;
-    if held < 255 {
+    if out.held < 255 {
         return out;
     }
     flush(out)
@@ -82,19 +79,18 @@ fn print_byte(out: Output, byte: u8) -> Output
     ensures { Remembers out result }
 {
     let mut next = make_room(out);
-    let at = next.held;
-    next.bytes[at as usize] = byte;
-    next.held = at + 1;
+    next.bytes[usize::from(next.held)] = byte;
+    next.held += 1;
     next
 }
 
-// A word more.
+// A word more. Not by `write!`, which promises nothing of a failure that is forgotten; by value, as the callers' proofs have it.
 pub fn print(out: Output, word: &[u8]) -> Output
     ensures { Remembers out result }
 {
     let mut next = out;
-    for i in 0..word.len() {
-        next = print_byte(next, word[i]);
+    for byte in word {
+        next = print_byte(next, *byte);
     }
     next
 }
@@ -106,6 +102,14 @@ pub fn print_number(out: Output, word: &[u8], n: u64) -> Output
     let mut digits = [0u8; 20];
     let count = io::decimal(n, &mut digits);
     print(print(out, word), &digits[..count])
+}
+
+// Text as `write!` puts it together. It gives no error: the output keeps in mind whether a write failed.
+impl Write for Output {
+    fn write_str(&mut self, text: &str) -> fmt::Result {
+        *self = print(*self, text.as_bytes());
+        Ok(())
+    }
 }
 
 // Nothing printed yet.
@@ -123,8 +127,7 @@ pub fn finish(out: Output) -> bool
     ensures { out.failed ≡ true → result ≡ false }
 {
     let last = flush(out);
-    let failed = last.failed;
-    !failed
+    !last.failed
 }
 
 // Some words at once, for a program that keeps nothing back.
@@ -138,6 +141,5 @@ pub fn write_now(out: &mut Output, words: &[u8])
 pub fn close(out: Output) -> bool
     ensures { out.failed ≡ true → result ≡ false }
 {
-    let failed = out.failed;
-    !failed
+    !out.failed
 }

@@ -10,7 +10,8 @@ use std::rt::Stderr;
 // How many bytes of a reason are kept; each of the system's is shorter.
 const ROOM: usize = 128;
 
-// Text as it comes, as much of it as there is room for, with zero bytes behind it.
+// Text as it comes, as much of it as there is room for, with zero bytes behind it. It is no String: telling a reason takes no memory, so
+// that it cannot run out of it.
 #[derive(Drop)]
 struct Kept {
     bytes: [u8; ROOM],
@@ -19,10 +20,9 @@ struct Kept {
 
 impl Write for Kept {
     fn write_str(&mut self, text: &str) -> fmt::Result {
-        let words = text.as_bytes();
-        for i in 0..words.len() {
+        for byte in text.bytes() {
             if self.held < ROOM {
-                self.bytes[self.held] = words[i];
+                self.bytes[self.held] = byte;
                 self.held += 1;
             }
         }
@@ -34,8 +34,8 @@ impl Write for Kept {
 fn end_of(text: &[u8]) -> usize
     ensures { result ≤ length text.now }
 {
-    for i in 0..text.len() {
-        if text[i] == 0 || text[i..].starts_with(b" (os error ") {
+    for (i, glyph) in text.iter().enumerate() {
+        if *glyph == 0 || text[i..].starts_with(b" (os error ") {
             return i;
         }
     }

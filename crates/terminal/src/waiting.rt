@@ -1,6 +1,6 @@
 // Waiting for a stream that is not ready.
-use crate::console::Clockwork;
 use std::io::{Error, ErrorKind};
+use std::rt::HostRuntime;
 use std::thread::sleep;
 use std::time::Duration;
 
@@ -9,22 +9,21 @@ use std::time::Duration;
 pub const PATIENCE: u32 = 600000;
 
 // Waits a millisecond, where there is a clock.
-fn nap(clock: Clockwork) {
-    match clock {
-        Clockwork::System(rt) => sleep(&rt, Duration::from_millis(1)),
-        Clockwork::Nothing => {}
+fn nap(clock: Option<HostRuntime>) {
+    if let Some(rt) = clock {
+        sleep(&rt, Duration::from_millis(1));
     }
 }
 
 // Whether the read or write that has just failed is worth another try: at once where a signal interrupted it; a little later where the
 // stream does not block and is not ready.
-pub fn worth_another(why: Error, clock: Clockwork) -> bool {
-    if why.kind() == ErrorKind::Interrupted {
-        return true;
+pub fn worth_another(why: Error, clock: Option<HostRuntime>) -> bool {
+    match why.kind() {
+        ErrorKind::Interrupted => true,
+        ErrorKind::WouldBlock => {
+            nap(clock);
+            true
+        }
+        _ => false,
     }
-    if why.kind() == ErrorKind::WouldBlock {
-        nap(clock);
-        return true;
-    }
-    false
 }

@@ -8,34 +8,35 @@
 --   meets_so, meets-not       : whether they cost what is sought
 --   found_below               : what is there is found
 --   with_m, without-m, with_k, without-k, with_l, without-l : what a search of one line says of the line before it
---   below-l, below-k, below-m : with j found, the others are found
+--   found_l, found_k, found_m : with j found, the others are found
 --   leads                     : they are the lowest
 --   none_of                   : no j, so none at all
---   second-found              : where the first turn has none, the second has one
 use Prim.Native.Nat.{ℕ, ◌+◌, ◌≤◌, ◌<◌, ◌^◌}
 use mathlib.Core.Path.{◌≡◌, refl, ap, sym, ◌∙◌, subst}
+use mathlib.Core.Bool.{true, false}
 use mathlib.Core.List.{List}
 use mathlib.Core.Logic.{inl, inr}
 use native.Mathlib.Omega.{arith}
 use lib.ListN.{length, get_or}
+use Rattle.std.specs.Prelude.{Option, is_some}
+use Rattle.outline.specs.declared.Line.{Line}
 use Rattle.sum.proofs.Sum.{le-or}
 use Rattle.piece.specs.declared.Mode.TheVariants.{Pinwheel}
 use Rattle.piece.specs.declared.Turn.{Turn}
 use Rattle.piece.specs.declared.Turn.TheVariants.{First, Second}
-use Rattle.piece.specs.declared.Piece as stored
 use Rattle.piece.specs.Piece.{Piece, box}
 use Rattle.piece.specs.Meant.{meant}
 use Rattle.piece.specs.Cuts.{wheel, parts, Inner, Lower}
 use Rattle.piece.proofs.Cuts.{Part, parts-part, cuts-at}
 use Rattle.table.specs.Entry.{Valid, entry_of}
 use Rattle.table.proofs.Entry.{entry-below}
-use Rattle.verdict.specs.declared.Plan.{Plan}
 use Rattle.verdict.specs.declared.Numbered.{Numbered}
 use Rattle.verdict.specs.declared.pinwheel.Wheel.{Wheel}
 use Rattle.verdict.specs.declared.pinwheel.Sought.{Sought}
 use Rattle.verdict.specs.Verdict.{placed, part_no, wheel_in}
-use Rattle.verdict.specs.Search.{FirstWith}
-use Rattle.verdict.specs.Pinwheels.{sought, weight_of, Addable, Small, Lines, Huntable, Meets, WithM, WithK, WithL, None, Leads, Turnable}
+use Rattle.verdict.specs.Search.{FirstWith, FirstLine}
+use Rattle.verdict.proofs.Search.{some-line, no-line}
+use Rattle.verdict.specs.Pinwheels.{weight_of, Addable, Small, Lines, Huntable, Meets, WithM, WithK, WithL, None, Leads}
 
 pub box-valid : (s : Sought) {j l k m : ℕ} → Lines s j l k m → {a c b d : ℕ} → a < c → c ≤ s.piece.c.0 → b < d → d ≤ s.piece.d.0
     → Small s.plan × Valid s.plan.columns s.plan.rows (box a c b d)
@@ -138,58 +139,58 @@ module _ (t : List ℕ) (s : Sought) where
   meets-not j l k m e f g q = g (f ∙ ap (weight_of t) e ∙ q)
 
   -- what a search of one line says of the line before it
-  module _ (j l k : ℕ) {r : ℕ} (f : FirstWith (Meets t s j l k) (k + 1) s.piece.d.0 r) where
-    pub with_m : r < s.piece.d.0 → WithM t s j l k
-    with_m h = record { m = r; above = omega (arith, f.least); below = h; meets = f.found h }
+  module _ (j l k : ℕ) (o : Option Line) (f : FirstLine (Meets t s j l k) (k + 1) s.piece.d.0 o) where
+    pub with_m : is_some o ≡ true → WithM t s j l k
+    with_m h = let (m, u, v) = some-line o f h in record { m = m; above = omega (arith, u.least); below = v; meets = u.found v }
 
-    pub without-m : s.piece.d.0 ≤ r → WithM t s j l k → ⊥
-    without-m h w = f.passed w.m (omega (arith, w.above)) (omega (arith, w.below)) w.meets
+    pub without-m : is_some o ≡ false → WithM t s j l k → ⊥
+    without-m h w = (no-line o f h).passed w.m (omega (arith, w.above)) w.below w.meets
 
-  module _ (j l : ℕ) {r : ℕ} (f : FirstWith (WithM t s j l) (s.piece.b.0 + 1) s.piece.d.0 r) where
-    pub with_k : r < s.piece.d.0 → WithK t s j l
-    with_k h = record { k = r; above = omega (arith, f.least); below = h; rest = f.found h }
+  module _ (j l : ℕ) (o : Option Line) (f : FirstLine (WithM t s j l) (s.piece.b.0 + 1) s.piece.d.0 o) where
+    pub with_k : is_some o ≡ true → WithK t s j l
+    with_k h = let (k, u, v) = some-line o f h in record { k = k; above = omega (arith, u.least); below = v; rest = u.found v }
 
-    pub without-k : s.piece.d.0 ≤ r → WithK t s j l → ⊥
-    without-k h w = f.passed w.k (omega (arith, w.above)) (omega (arith, w.below)) w.rest
+    pub without-k : is_some o ≡ false → WithK t s j l → ⊥
+    without-k h w = (no-line o f h).passed w.k (omega (arith, w.above)) w.below w.rest
 
-  module _ (j : ℕ) {r : ℕ} (f : FirstWith (WithK t s j) (j + 1) s.piece.c.0 r) where
-    pub with_l : r < s.piece.c.0 → WithL t s j
-    with_l h = record { l = r; above = omega (arith, f.least); below = h; rest = f.found h }
+  module _ (j : ℕ) (o : Option Line) (f : FirstLine (WithK t s j) (j + 1) s.piece.c.0 o) where
+    pub with_l : is_some o ≡ true → WithL t s j
+    with_l h = let (l, u, v) = some-line o f h in record { l = l; above = omega (arith, u.least); below = v; rest = u.found v }
 
-    pub without-l : s.piece.c.0 ≤ r → WithL t s j → ⊥
-    without-l h w = f.passed w.l (omega (arith, w.above)) (omega (arith, w.below)) w.rest
+    pub without-l : is_some o ≡ false → WithL t s j → ⊥
+    without-l h w = (no-line o f h).passed w.l (omega (arith, w.above)) w.below w.rest
 
-  -- the lines of the lowest, one after the other
-  module _ {j : ℕ} (f : FirstWith (WithL t s) (s.piece.a.0 + 1) s.piece.c.0 j) where
-    pub none_of : s.piece.c.0 ≤ j → None t s
-    none_of h j' l' k' m' i q =
-        f.passed j' (omega (arith, i.aj)) (omega (arith, i.jl, i.lc))
-        (record { l = l'; above = i.jl; below = i.lc; rest = record { k = k'; above = i.bk; below = omega (arith, i.km, i.md); rest = record { m = m'; above = i.km; below = i.md; meets = q } } })
+  pub none_of : FirstWith (WithL t s) (s.piece.a.0 + 1) s.piece.c.0 s.piece.c.0 → None t s
+  none_of f j' l' k' m' i q =
+      f.passed j' (omega (arith, i.aj)) (omega (arith, i.jl, i.lc))
+      (record { l = l'; above = i.jl; below = i.lc; rest = record { k = k'; above = i.bk; below = omega (arith, i.km, i.md); rest = record { m = m'; above = i.km; below = i.md; meets = q } } })
 
-    module _ (h : j < s.piece.c.0) {l : ℕ} (u : FirstWith (WithK t s j) (j + 1) s.piece.c.0 l) where
-      pub below-l : l < s.piece.c.0
-      below-l = let w = f.found h in found_below u w.l (omega (arith, w.above)) w.below w.rest
+  -- the lines of the lowest, one after the other; a search after the first finds what there is
+  module _ {j : ℕ} (f : FirstWith (WithL t s) (s.piece.a.0 + 1) s.piece.c.0 j) (h : j < s.piece.c.0) where
+    pub found_l : FirstWith (WithK t s j) (j + 1) s.piece.c.0 s.piece.c.0 → ⊥
+    found_l u = let w = f.found h in u.passed w.l (omega (arith, w.above)) w.below w.rest
 
-      module _ {k : ℕ} (v : FirstWith (WithM t s j l) (s.piece.b.0 + 1) s.piece.d.0 k) where
-        pub below-k : k < s.piece.d.0
-        below-k = let w = u.found below-l in found_below v w.k (omega (arith, w.above)) w.below w.rest
+    module _ {l : ℕ} (u : FirstWith (WithK t s j) (j + 1) s.piece.c.0 l) (h' : l < s.piece.c.0) where
+      pub found_k : FirstWith (WithM t s j l) (s.piece.b.0 + 1) s.piece.d.0 s.piece.d.0 → ⊥
+      found_k v = let w = u.found h' in v.passed w.k (omega (arith, w.above)) w.below w.rest
 
-        module _ {m : ℕ} (y : FirstWith (Meets t s j l k) (k + 1) s.piece.d.0 m) where
-          pub below-m : m < s.piece.d.0
-          below-m = let w = v.found below-k in found_below y w.m (omega (arith, w.above)) w.below w.meets
+      module _ {k : ℕ} (v : FirstWith (WithM t s j l) (s.piece.b.0 + 1) s.piece.d.0 k) (h'' : k < s.piece.d.0) where
+        pub found_m : FirstWith (Meets t s j l k) (k + 1) s.piece.d.0 s.piece.d.0 → ⊥
+        found_m y = let w = v.found h'' in y.passed w.m (omega (arith, w.above)) w.below w.meets
 
+        module _ {m : ℕ} (y : FirstWith (Meets t s j l k) (k + 1) s.piece.d.0 m) (h₃ : m < s.piece.d.0) where
           pub these_lines : Inner (meant s.piece) j l k m
           these_lines = record {
             aj = omega (arith, f.least);
             jl = omega (arith, u.least);
-            lc = below-l;
+            lc = h';
             bk = omega (arith, v.least);
             km = omega (arith, y.least);
-            md = below-m;
+            md = h₃;
           }
 
           pub leads : {w : Wheel} → w ≡ parts_of j l k m → Leads t s w
-          leads e = record { j = j; l = l; k = k; m = m; inner = these_lines; is = e; meets = y.found below-m; passed = passed }
+          leads e = record { j = j; l = l; k = k; m = m; inner = these_lines; is = e; meets = y.found h₃; passed = passed }
             where
               passed : (j' l' k' m' : ℕ) → Inner (meant s.piece) j' l' k' m' → Lower j' l' k' m' j l k m → Meets t s j' l' k' m' → ⊥
               passed j' l' k' m' i (inl q) n =
@@ -204,11 +205,3 @@ module _ (t : List ℕ) (s : Sought) where
               passed j' l' k' m' i (inr (ej, inr (el, inr (ek, q)))) n =
                   y.passed m' (omega (arith, ek, i.km)) q
                   (subst (λ x. Meets t s x l k m') ej (subst (λ x. Meets t s j' x k m') el (subst (λ x. Meets t s j' l' x m') ek n)))
-
-pub second-found : (t : List ℕ) (plan : Plan) (p : stored.Piece) (n : ℕ) → Turnable t plan p n → {i j : ℕ}
-    → FirstWith (WithL t (sought plan p First n)) (p.a.0 + 1) p.c.0 i → p.c.0 ≤ i
-    → FirstWith (WithL t (sought plan p Second n)) (p.a.0 + 1) p.c.0 j → j < p.c.0
-second-found t plan p n z {j = j} f h g = elim (le-or p.c.0 j) [
-  | inl w ↦ absurd (z.some (none_of t (sought plan p First n) f h) (none_of t (sought plan p Second n) g w))
-  | inr w ↦ w
-]

@@ -1,6 +1,5 @@
 -- The verdict of a piece from what lies in memory. Assumes nothing.
 --
---   cuts-x, cuts-y                      : the piece's cuts in each direction, as the code has them
 --   part-x, part-y                      : the entries of their parts
 --   entry-within, cost-here             : the piece's entry is the table's, and what it has
 --   is-outside, is-full, is-mixed       : a piece that costs nothing; a piece that is inside in all cells; neither
@@ -9,7 +8,9 @@
 --   made_vertical, made_horizontal      : the parts of a mixed piece, by the first line whose parts cost what the piece costs
 --   turnable                            : where there is none, a pinwheel can be sought and found
 --   made-wheel                          : the first pinwheel whose parts do
---   level_found                         : by straight cuts alone a line is found
+--   level_found                         : so where no vertical one is found, a horizontal one is
+--   cut_straight                        : by straight cuts alone there always is a cut
+use Rattle.std.specs.Prelude.{Option, IsSome}
 use Prim.Native.Nat.{ℕ, ◌+◌, ◌*◌, ◌≤◌, ◌<◌}
 use mathlib.Core.Path.{◌≡◌, refl, ap, ap₂, sym, ◌∙◌}
 use mathlib.Core.Bool.{Bool, true, false}
@@ -19,7 +20,6 @@ use native.Mathlib.Omega.{arith}
 use native.Mathlib.Nat.{mul_comm}
 use lib.ListN.{length, get_or}
 use Rattle.sum.specs.Sum.{sum_of, only}
-use Rattle.sum.proofs.Sum.{le-or}
 use Rattle.recurrence.specs.Scheme.{Kind, outside, full, mixed}
 use Rattle.outline.specs.Grid.{Grid}
 use Rattle.rule.specs.declared.Rule.{Rule}
@@ -41,20 +41,13 @@ use Rattle.piece.specs.declared.Piece as stored
 use Rattle.verdict.specs.declared.Plan.{Plan}
 use Rattle.verdict.specs.declared.pinwheel.Wheel.{Wheel}
 use Rattle.verdict.specs.declared.pinwheel.Turned.TheVariants as verdict
-use Rattle.verdict.specs.declared.Cuts.{Cuts}
 use Rattle.verdict.specs.declared.Found.{Found}
 use Rattle.verdict.specs.Verdict.{part_no, wheel_in, made, verdict_of}
 use Rattle.verdict.specs.Memory.{Costed, Known}
-use Rattle.verdict.specs.Search.{Within, AllInside, base_of, part_entry, across, Weighable, Finds}
+use Rattle.verdict.specs.Search.{Within, AllInside, cuts-x, cuts-y, base_of, part_entry, across, Weighable, NoCut, FoundAt, Finds, Uncut}
 use Rattle.verdict.specs.Pinwheels.{sought, weight_of, Huntable, Meets, None, Turnable, FirstWheel}
+use Rattle.verdict.proofs.Search.{some-of}
 use Rattle.verdict.proofs.Hunting.{each_part}
-
--- its cuts in each direction
-abbrev pub cuts-x : Plan → stored.Piece → ℕ → Cuts
-cuts-x plan p n = record { last = plan.columns; low = p.a; high = p.c; entry = n; stride = plan.pairs }
-
-abbrev pub cuts-y : Plan → stored.Piece → ℕ → Cuts
-cuts-y plan p n = record { last = plan.rows; low = p.b; high = p.d; entry = n; stride = 1 }
 
 -- the entries of their parts, n being the piece's own
 module _ (plan : Plan) (p : stored.Piece) (n : ℕ) (e : n ≡ entry_of plan.columns plan.rows (meant p)) (m : plan.pairs ≡ pair_count plan.rows) where
@@ -210,150 +203,156 @@ module _ (mode : Mode) (g : Grid) (r : Rule) (t cells : List ℕ) (plan : Plan) 
   unfolding verdict_of
   verdict_mixed m = rw (m, verdict_of)
 
-  module _ (u : Found) (o : Finds t (cuts-x plan p n) (get_or t n 0) u) where
-    met_x : (j : ℕ) → p.a.0 < j → j < p.c.0 → cost mode g r (left_part (meant p) j) + cost mode g r (right_part (meant p) j) ≡ cost mode g r (meant p)
-        → across t (cuts-x plan p n) j ≡ get_or t n 0
-    met_x j a b q = across-x j a b ∙ q ∙ sym cost-here
+  met_x : (j : ℕ) → p.a.0 < j → j < p.c.0 → cost mode g r (left_part (meant p) j) + cost mode g r (right_part (meant p) j) ≡ cost mode g r (meant p)
+      → across t (cuts-x plan p n) j ≡ get_or t n 0
+  met_x j a b q = across-x j a b ∙ q ∙ sym cost-here
 
-    pub made_vertical : u.line.0 < p.c.0
-        → verdict.Cut (record { piece = record { a = p.a; c = u.line; b = p.b; d = p.d }; entry = u.lower })
-        (record { piece = record { a = u.line; c = p.c; b = p.b; d = p.d }; entry = u.upper })
-        ≡ made g (meant p) (choice mode g r (meant p))
-    made_vertical l =
-        let i = u.line.0 in
-        let s = o.first in
-        let a : p.a.0 < i = omega (arith, s.least) in
-        ap₂ (λ x y.
-        verdict.Cut (record { piece = record { a = p.a; c = u.line; b = p.b; d = p.d }; entry = x })
-        (record { piece = record { a = u.line; c = p.c; b = p.b; d = p.d }; entry = y }))
-        (sized (left_part (meant p) i) u.lower (o.lower l ∙ part-x plan p n z.entry f.pairs p.a.0 i))
-        (sized (right_part (meant p) i) u.upper (o.upper l ∙ part-x plan p n z.entry f.pairs i p.c.0))
-        ∙ ap (made g (meant p))
-        (sym
-        (choice_vertical mode g r (meant p) i a l (λ j b c q. s.passed j (omega arith) c (met_x j b (omega arith) q))
-        (sym (across-x i a l) ∙ s.found l ∙ cost-here)))
+  pub made_vertical : (u : Found) → FoundAt t (cuts-x plan p n) (get_or t n 0) u
+      → verdict.Cut (record { piece = record { a = p.a; c = u.line; b = p.b; d = p.d }; entry = u.lower })
+      (record { piece = record { a = u.line; c = p.c; b = p.b; d = p.d }; entry = u.upper })
+      ≡ made g (meant p) (choice mode g r (meant p))
+  made_vertical u o =
+      let i = u.line.0 in
+      let s = o.first in
+      let a : p.a.0 < i = omega (arith, s.least) in
+      let l : i < p.c.0 = o.below in
+      ap₂ (λ x y.
+      verdict.Cut (record { piece = record { a = p.a; c = u.line; b = p.b; d = p.d }; entry = x })
+      (record { piece = record { a = u.line; c = p.c; b = p.b; d = p.d }; entry = y }))
+      (sized (left_part (meant p) i) u.lower (o.lower ∙ part-x plan p n z.entry f.pairs p.a.0 i))
+      (sized (right_part (meant p) i) u.upper (o.upper ∙ part-x plan p n z.entry f.pairs i p.c.0))
+      ∙ ap (made g (meant p))
+      (sym
+      (choice_vertical mode g r (meant p) i a l (λ j b c q. s.passed j (omega arith) c (met_x j b (omega arith) q))
+      (sym (across-x i a l) ∙ s.found l ∙ cost-here)))
 
-    module _ (v : Found) (y : Finds t (cuts-y plan p n) (get_or t n 0) v) where
-      met_y : (k : ℕ) → p.b.0 < k → k < p.d.0 → cost mode g r (lower_part (meant p) k) + cost mode g r (upper_part (meant p) k) ≡ cost mode g r (meant p)
-          → across t (cuts-y plan p n) k ≡ get_or t n 0
-      met_y k a b q = across-y k a b ∙ q ∙ sym cost-here
+  met_y : (k : ℕ) → p.b.0 < k → k < p.d.0 → cost mode g r (lower_part (meant p) k) + cost mode g r (upper_part (meant p) k) ≡ cost mode g r (meant p)
+      → across t (cuts-y plan p n) k ≡ get_or t n 0
+  met_y k a b q = across-y k a b ∙ q ∙ sym cost-here
 
-      none : p.c.0 ≤ u.line.0 → (k : ℕ) → p.a.0 < k → k < p.c.0
-          → cost mode g r (left_part (meant p) k) + cost mode g r (right_part (meant p) k) ≡ cost mode g r (meant p)
-          → ⊥
-      none l k a b q = o.first.passed k (omega arith) (omega arith) (met_x k a b q)
+  none : NoCut t (cuts-x plan p n) (get_or t n 0) → (k : ℕ) → p.a.0 < k → k < p.c.0
+      → cost mode g r (left_part (meant p) k) + cost mode g r (right_part (meant p) k) ≡ cost mode g r (meant p)
+      → ⊥
+  none o k a b q = o.passed k (omega arith) (omega arith) (met_x k a b q)
 
-      none-y : p.d.0 ≤ v.line.0 → (k : ℕ) → p.b.0 < k → k < p.d.0
-          → cost mode g r (lower_part (meant p) k) + cost mode g r (upper_part (meant p) k) ≡ cost mode g r (meant p)
-          → ⊥
-      none-y l k a b q = y.first.passed k (omega arith) (omega arith) (met_y k a b q)
+  pub made_horizontal : NoCut t (cuts-x plan p n) (get_or t n 0) → (v : Found) → FoundAt t (cuts-y plan p n) (get_or t n 0) v
+      → verdict.Cut (record { piece = record { a = p.a; c = p.c; b = p.b; d = v.line }; entry = v.lower })
+      (record { piece = record { a = p.a; c = p.c; b = v.line; d = p.d }; entry = v.upper })
+      ≡ made g (meant p) (choice mode g r (meant p))
+  made_horizontal o v y =
+      let j = v.line.0 in
+      let s = y.first in
+      let a : p.b.0 < j = omega (arith, s.least) in
+      let b : j < p.d.0 = y.below in
+      ap₂ (λ i k.
+      verdict.Cut (record { piece = record { a = p.a; c = p.c; b = p.b; d = v.line }; entry = i })
+      (record { piece = record { a = p.a; c = p.c; b = v.line; d = p.d }; entry = k }))
+      (sized (lower_part (meant p) j) v.lower (y.lower ∙ part-y plan p n z.entry f.pairs p.b.0 j))
+      (sized (upper_part (meant p) j) v.upper (y.upper ∙ part-y plan p n z.entry f.pairs j p.d.0))
+      ∙ ap (made g (meant p))
+      (sym
+      (choice_horizontal mode g r (meant p) (none o) j a b (λ k c d q. s.passed k (omega arith) d (met_y k c (omega (arith, s.most)) q))
+      (sym (across-y j a b) ∙ s.found b ∙ cost-here)))
 
-      pub made_horizontal : p.c.0 ≤ u.line.0 → v.line.0 < p.d.0
-          → verdict.Cut (record { piece = record { a = p.a; c = p.c; b = p.b; d = v.line }; entry = v.lower })
-          (record { piece = record { a = p.a; c = p.c; b = v.line; d = p.d }; entry = v.upper })
-          ≡ made g (meant p) (choice mode g r (meant p))
-      made_horizontal l b =
-          let j = v.line.0 in
-          let s = y.first in
-          let a : p.b.0 < j = omega (arith, s.least) in
-          ap₂ (λ i k.
-          verdict.Cut (record { piece = record { a = p.a; c = p.c; b = p.b; d = v.line }; entry = i })
-          (record { piece = record { a = p.a; c = p.c; b = v.line; d = p.d }; entry = k }))
-          (sized (lower_part (meant p) j) v.lower (y.lower b ∙ part-y plan p n z.entry f.pairs p.b.0 j))
-          (sized (upper_part (meant p) j) v.upper (y.upper b ∙ part-y plan p n z.entry f.pairs j p.d.0))
+  module _ (u : Uncut t plan (record { piece = p; entry = n })) where
+    none-y : (k : ℕ) → p.b.0 < k → k < p.d.0
+        → cost mode g r (lower_part (meant p) k) + cost mode g r (upper_part (meant p) k) ≡ cost mode g r (meant p)
+        → ⊥
+    none-y k a b q = u.level.passed k (omega arith) (omega arith) (met_y k a b q)
+
+    -- no straight cut does, so the table is that of the pinwheel mode, and a pinwheel does
+    module _ (sort : kind g (meant p) ≡ mixed) where
+      pinwheel : mode ≡ Pinwheel
+      pinwheel = go mode refl
+        where
+          go : (x : Mode) → mode ≡ x → mode ≡ Pinwheel
+          go Straight q =
+              absurd
+              (choice-some mode g r (meant p) sort (none u.upright) none-y (λ t j l k m z. absurd (straight-only (sym q ∙ z))))
+          go Pinwheel q = q
+
+      cost-part : {q : Piece} → Part q (meant p) → get_or t (entry_of plan.columns plan.rows q) 0 ≡ cost mode g r q
+      cost-part {q} i =
+          f.cost-at q (record { ac = i.ac; cx = omega (arith, i.c, w.cx); bd = i.bd; dy = omega (arith, i.d, w.dy) })
+
+      -- what the five parts cost together
+      weight-cost : (x : Turn) (i j m o : ℕ) → Inner (meant p) i j m o
+          → weight_of t (wheel_in plan.columns plan.rows (meant p) (wheel x i j m o)) ≡ sum_of (cost mode g r) (parts (meant p) (wheel x i j m o))
+      unfolding weight_of wheel_in part_no parts sum_of
+      weight-cost First i j m o q =
+          let a = each_part (meant p) First i j m o q in
+          omega (arith, cost-part a.0, cost-part a.1, cost-part a.2, cost-part a.3, cost-part a.4)
+      weight-cost Second i j m o q =
+          let a = each_part (meant p) Second i j m o q in
+          omega (arith, cost-part a.0, cost-part a.1, cost-part a.2, cost-part a.3, cost-part a.4)
+
+      module _ (x : Turn) where
+        wheel_met : (i j m o : ℕ) → Inner (meant p) i j m o → sum_of (cost mode g r) (parts (meant p) (wheel x i j m o)) ≡ cost mode g r (meant p)
+            → Meets t (sought plan p x (get_or t n 0)) i j m o
+        unfolding Meets
+        wheel_met i j m o q a = weight-cost x i j m o q ∙ a ∙ sym cost-here
+
+        met_wheel : (i j m o : ℕ) → Inner (meant p) i j m o → Meets t (sought plan p x (get_or t n 0)) i j m o
+            → sum_of (cost mode g r) (parts (meant p) (wheel x i j m o)) ≡ cost mode g r (meant p)
+        unfolding Meets
+        met_wheel i j m o q a = sym (weight-cost x i j m o q) ∙ a ∙ cost-here
+
+        huntable : Huntable t (sought plan p x (get_or t n 0))
+        huntable = record {
+          small = record { columns = few.0; rows = few.1 };
+          valid = w;
+          entries = f.entries;
+          sums = λ i j m o q.
+              omega (
+                arith,
+                weight-cost x i j m o q,
+                cuts-at mode (λ c. sum_of (cost mode g r) (parts (meant p) c) ≤ most_cost) (meant p)
+                    (parts-most mode g r f.sound (meant p) (omega (arith, w)) (omega (arith, w, f.columns)) (omega (arith, w)) (omega (arith, w, f.rows)) f.weight)
+                    (wheel x i j m o)
+                    (pinwheel, q),
+              );
+        }
+
+      pub turnable : Turnable t plan p (get_or t n 0)
+      turnable = record { first = huntable First; second = huntable Second; some = some }
+        where
+          some : None t (sought plan p First (get_or t n 0)) → None t (sought plan p Second (get_or t n 0)) → ⊥
+          some a b = choice-some mode g r (meant p) sort (none u.upright) none-y go
+            where
+              go : (x : Turn) (i j m o : ℕ) → mode ≡ Pinwheel → Inner (meant p) i j m o
+                  → sum_of (cost mode g r) (parts (meant p) (wheel x i j m o)) ≡ cost mode g r (meant p)
+                  → ⊥
+              go First i j m o z q c = a i j m o q (wheel_met First i j m o q c)
+              go Second i j m o z q c = b i j m o q (wheel_met Second i j m o q c)
+
+      -- the parts, by the grid's size
+      sized-wheel : (x : Turn) (i j m o : ℕ) {c : Wheel} → c ≡ wheel_in plan.columns plan.rows (meant p) (wheel x i j m o)
+          → verdict.Wheel c ≡ made g (meant p) (wheel x i j m o)
+      sized-wheel x i j m o q =
+          ap verdict.Wheel (q ∙ ap₂ (λ a b. wheel_in a b (meant p) (wheel x i j m o)) f.columns f.rows)
+
+      pub made-wheel : (c : Wheel) → FirstWheel t plan p (get_or t n 0) c → verdict.Wheel c ≡ made g (meant p) (choice mode g r (meant p))
+      made-wheel c (inl a) =
+          sized-wheel First a.j a.l a.k a.m a.is
           ∙ ap (made g (meant p))
           (sym
-          (choice_horizontal mode g r (meant p) (none l) j a b (λ k c d q. s.passed k (omega arith) d (met_y k c (omega (arith, s.most)) q))
-          (sym (across-y j a b) ∙ s.found b ∙ cost-here)))
+          (choice-first mode g r (meant p) pinwheel (none u.upright) none-y a.j a.l a.k a.m a.inner
+          (λ i j m o q b z. a.passed i j m o q b (wheel_met First i j m o q z))
+          (met_wheel First a.j a.l a.k a.m a.inner a.meets)))
+      made-wheel c (inr (b, a)) =
+          sized-wheel Second a.j a.l a.k a.m a.is
+          ∙ ap (made g (meant p))
+          (sym
+          (choice-second mode g r (meant p) pinwheel (none u.upright) none-y (λ i j m o q z. b i j m o q (wheel_met First i j m o q z))
+          a.j a.l a.k a.m a.inner
+          (λ i j m o q d z. a.passed i j m o q d (wheel_met Second i j m o q z))
+          (met_wheel Second a.j a.l a.k a.m a.inner a.meets)))
 
-      -- no straight cut does, so the table is that of the pinwheel mode, and a pinwheel does
-      module _ (sort : kind g (meant p) ≡ mixed) (l : p.c.0 ≤ u.line.0) (k : p.d.0 ≤ v.line.0) where
-        pinwheel : mode ≡ Pinwheel
-        pinwheel = go mode refl
-          where
-            go : (x : Mode) → mode ≡ x → mode ≡ Pinwheel
-            go Straight q =
-                absurd
-                (choice-some mode g r (meant p) sort (none l) (none-y k) (λ t j l k m z. absurd (straight-only (sym q ∙ z))))
-            go Pinwheel q = q
+    -- by straight cuts alone there always is a line
+    pub cut_straight : mode ≡ Straight → kind g (meant p) ≡ mixed → ⊥
+    cut_straight s h = straight-only (sym s ∙ pinwheel h)
 
-        cost-part : {q : Piece} → Part q (meant p) → get_or t (entry_of plan.columns plan.rows q) 0 ≡ cost mode g r q
-        cost-part {q} i =
-            f.cost-at q (record { ac = i.ac; cx = omega (arith, i.c, w.cx); bd = i.bd; dy = omega (arith, i.d, w.dy) })
-
-        -- what the five parts cost together
-        weight-cost : (x : Turn) (i j m o : ℕ) → Inner (meant p) i j m o
-            → weight_of t (wheel_in plan.columns plan.rows (meant p) (wheel x i j m o)) ≡ sum_of (cost mode g r) (parts (meant p) (wheel x i j m o))
-        unfolding weight_of wheel_in part_no parts sum_of
-        weight-cost First i j m o q =
-            let a = each_part (meant p) First i j m o q in
-            omega (arith, cost-part a.0, cost-part a.1, cost-part a.2, cost-part a.3, cost-part a.4)
-        weight-cost Second i j m o q =
-            let a = each_part (meant p) Second i j m o q in
-            omega (arith, cost-part a.0, cost-part a.1, cost-part a.2, cost-part a.3, cost-part a.4)
-
-        module _ (x : Turn) where
-          wheel_met : (i j m o : ℕ) → Inner (meant p) i j m o → sum_of (cost mode g r) (parts (meant p) (wheel x i j m o)) ≡ cost mode g r (meant p)
-              → Meets t (sought plan p x (get_or t n 0)) i j m o
-          unfolding Meets
-          wheel_met i j m o q a = weight-cost x i j m o q ∙ a ∙ sym cost-here
-
-          met_wheel : (i j m o : ℕ) → Inner (meant p) i j m o → Meets t (sought plan p x (get_or t n 0)) i j m o
-              → sum_of (cost mode g r) (parts (meant p) (wheel x i j m o)) ≡ cost mode g r (meant p)
-          unfolding Meets
-          met_wheel i j m o q a = sym (weight-cost x i j m o q) ∙ a ∙ cost-here
-
-          huntable : Huntable t (sought plan p x (get_or t n 0))
-          huntable = record {
-            small = record { columns = few.0; rows = few.1 };
-            valid = w;
-            entries = f.entries;
-            sums = λ i j m o q.
-                omega (
-                  arith,
-                  weight-cost x i j m o q,
-                  cuts-at mode (λ c. sum_of (cost mode g r) (parts (meant p) c) ≤ most_cost) (meant p)
-                      (parts-most mode g r f.sound (meant p) (omega (arith, w)) (omega (arith, w, f.columns)) (omega (arith, w)) (omega (arith, w, f.rows)) f.weight)
-                      (wheel x i j m o)
-                      (pinwheel, q),
-                );
-          }
-
-        pub turnable : Turnable t plan p (get_or t n 0)
-        turnable = record { first = huntable First; second = huntable Second; some = some }
-          where
-            some : None t (sought plan p First (get_or t n 0)) → None t (sought plan p Second (get_or t n 0)) → ⊥
-            some a b = choice-some mode g r (meant p) sort (none l) (none-y k) go
-              where
-                go : (x : Turn) (i j m o : ℕ) → mode ≡ Pinwheel → Inner (meant p) i j m o
-                    → sum_of (cost mode g r) (parts (meant p) (wheel x i j m o)) ≡ cost mode g r (meant p)
-                    → ⊥
-                go First i j m o z q c = a i j m o q (wheel_met First i j m o q c)
-                go Second i j m o z q c = b i j m o q (wheel_met Second i j m o q c)
-
-        -- the parts, by the grid's size
-        sized-wheel : (x : Turn) (i j m o : ℕ) {c : Wheel} → c ≡ wheel_in plan.columns plan.rows (meant p) (wheel x i j m o)
-            → verdict.Wheel c ≡ made g (meant p) (wheel x i j m o)
-        sized-wheel x i j m o q =
-            ap verdict.Wheel (q ∙ ap₂ (λ a b. wheel_in a b (meant p) (wheel x i j m o)) f.columns f.rows)
-
-        pub made-wheel : (c : Wheel) → FirstWheel t plan p (get_or t n 0) c → verdict.Wheel c ≡ made g (meant p) (choice mode g r (meant p))
-        made-wheel c (inl a) =
-            sized-wheel First a.j a.l a.k a.m a.is
-            ∙ ap (made g (meant p))
-            (sym
-            (choice-first mode g r (meant p) pinwheel (none l) (none-y k) a.j a.l a.k a.m a.inner
-            (λ i j m o q b z. a.passed i j m o q b (wheel_met First i j m o q z))
-            (met_wheel First a.j a.l a.k a.m a.inner a.meets)))
-        made-wheel c (inr (b, a)) =
-            sized-wheel Second a.j a.l a.k a.m a.is
-            ∙ ap (made g (meant p))
-            (sym
-            (choice-second mode g r (meant p) pinwheel (none l) (none-y k) (λ i j m o q z. b i j m o q (wheel_met First i j m o q z))
-            a.j a.l a.k a.m a.inner
-            (λ i j m o q d z. a.passed i j m o q d (wheel_met Second i j m o q z))
-            (met_wheel Second a.j a.l a.k a.m a.inner a.meets)))
-
-      -- by straight cuts alone there always is a line
-      pub level_found : mode ≡ Straight → kind g (meant p) ≡ mixed → p.c.0 ≤ u.line.0 → v.line.0 < p.d.0
-      level_found s h l = elim (le-or p.d.0 v.line.0) [ inl k ↦ absurd (straight-only (sym s ∙ pinwheel h l k)) | inr k ↦ k ]
+  -- so where no vertical one is found, the search for a horizontal one finds it
+  pub level_found : mode ≡ Straight → kind g (meant p) ≡ mixed → NoCut t (cuts-x plan p n) (get_or t n 0)
+      → (v : Option Found) → Finds t (cuts-y plan p n) (get_or t n 0) v → IsSome v
+  level_found s h o v y = some-of _ v (λ k. cut_straight (record { upright = o; level = k }) s h) y

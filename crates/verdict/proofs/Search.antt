@@ -5,23 +5,29 @@
 --   passed-more   : one more that does not have it
 --   first-here    : the first that has it
 --   first-none    : none has it
---   Clear         == every cell of the columns passed is inside
---   clear_none, clear_more, inside-all : no column passed, one more, all of them
---   inside-not      : a column with a hole
+--   some-of, some-said : where there cannot be none there is one, and what is said of it
+--   some-line, no-line : whether a line was found
+--   column, column-told : the cells of a column, and what a walk over them tells
+--   all-told      : what a walk over the columns of a piece tells
 --   inside-said    : by what a test says of the answer
 -- Assumes nothing.
-use Prim.Native.Nat.{ℕ, ◌+◌, ◌*◌, ◌≤◌, ◌<◌}
-use mathlib.Core.Path.{◌≡◌, refl, ap, ◌∙◌, subst}
+use Prim.Native.Nat.{ℕ, ◌+◌, ◌*◌, ◌-◌, ◌≤◌, ◌<◌}
+use mathlib.Core.Path.{◌≡◌, refl, ap, sym, ◌∙◌, subst}
 use mathlib.Core.Logic.{inl, inr}
 use native.Mathlib.Omega.{arith}
 use Rattle.sum.proofs.Sum.{le-or}
 use mathlib.Core.Bool.{Bool, true, false}
 use mathlib.Core.List.{List}
-use lib.Dec.{eqb}
-use lib.ListN.{get_or}
-use borrow.Author.Tests.{eqb-true, eqb-false}
+use lib.ListN.{length, get_or, take, drop}
+use Rattle.std.specs.Prelude.{Option, Some, None, is_some, MatchOption, IsSome}
+use Rattle.std.specs.Bool.{MatchBool}
+use Rattle.std.proofs.lemmas.Bool.{false≢true}
+use Rattle.std.proofs.lemmas.List.{get_or-take, get_or-drop, length-drop, length-take-le}
+use Rattle.std.proofs.lemmas.List.FromFn.{length-range_with_len, get_or-range_with_len}
+use Rattle.std.specs.List.{AllWithin, HoldsAt, range_with_len}
+use Rattle.outline.specs.declared.Line.{Line}
 use Rattle.piece.specs.declared.Piece.{Piece}
-use Rattle.verdict.specs.Search.{FirstWith, AllInside}
+use Rattle.verdict.specs.Search.{FirstWith, FirstLine, ColumnInside, AllInside}
 
 module _ (Q : ℕ → Type 0) (a : ℕ) where
   abbrev pub Passed : ℕ → Type 0
@@ -42,42 +48,67 @@ module _ (Q : ℕ → Type 0) (a : ℕ) where
   pub first-none : (j c : ℕ) → a ≤ j → j ≤ c → c ≤ j → Passed j → FirstWith Q a c j
   first-none j c h i k p = record { least = h; most = i; passed = p; found = λ w. absurd (omega arith) }
 
--- a number that is not other than another is that one
-same : (m n : ℕ) → ((m ≡ n → ⊥) → ⊥) → m ≡ n
-same m n h = go (eqb m n) refl
-  where
-    go : (t : Bool) → eqb m n ≡ t → m ≡ n
-    go true e = eqb-true m n e
-    go false e = absurd (h (eqb-false m n e))
+-- what a search says of whether it found a line
+module _ {Q : ℕ → Type 0} {a c : ℕ} where
+  pub some-line : (o : Option Line) → FirstLine Q a c o → is_some o ≡ true → (n : ℕ) × FirstWith Q a c n × (n < c)
+  some-line None f h = absurd (false≢true h)
+  some-line (Some l) f h = (l.0, f.0, f.1)
 
--- every cell of the columns from a to below i and the rows from b to below d is inside
-pub record Clear (cells : List ℕ) (a b d i : ℕ) : Type 0 where
-  pub each : (k j : ℕ) → a ≤ k → k < i → b ≤ j → j < d → get_or cells (16 * k + j) 0 ≡ 1
+  pub no-line : (o : Option Line) → FirstLine Q a c o → is_some o ≡ false → FirstWith Q a c c
+  no-line None f h = f
+  no-line (Some l) f h = absurd (false≢true (sym h))
 
-module _ (cells : List ℕ) (a b d : ℕ) where
-  pub clear_none : Clear cells a b d a
-  clear_none = record { each = λ k j h i q r. absurd (omega arith) }
+-- the cells of the column i from the row b to below the row d
+abbrev pub column : List ℕ → ℕ → ℕ → ℕ → List ℕ
+column cells i b d = take (16 * i + d - (16 * i + b)) (drop (16 * i + b) cells)
 
-  pub clear_more : (i r : ℕ) → Clear cells a b d i → FirstWith (λ j. get_or cells (16 * i + j) 0 ≡ 1 → ⊥) b d r → d ≤ r
-      → Clear cells a b d (i + 1)
-  clear_more i r p f h = record { each = each }
-    where
-      each : (k j : ℕ) → a ≤ k → k < i + 1 → b ≤ j → j < d → get_or cells (16 * k + j) 0 ≡ 1
-      each k j u v s t = elim (le-or i k) [
-        | inl w ↦
-            (let e : k ≡ i = omega arith in
-            ap (λ (n : ℕ). get_or cells (16 * n + j) 0) e ∙ same (get_or cells (16 * i + j) 0) 1 (f.passed j s (omega arith)))
-        | inr w ↦ p.each k j u w s t
-      ]
+module _ (cells : List ℕ) (i b d : ℕ) (h : 16 * i + d ≤ length cells) (w : b ≤ d) where
+  column_length : length (column cells i b d) ≡ d - b
+  column_length = length-take-le _ (drop (16 * i + b) cells) (omega (arith, length-drop (16 * i + b) cells)) ∙ omega arith
+
+  column_at : (k : ℕ) → k < d - b → get_or (column cells i b d) k 0 ≡ get_or cells (16 * i + (b + k)) 0
+  column_at k u =
+      get_or-take _ (drop (16 * i + b) cells) k 0 (omega arith)
+      ∙ get_or-drop (16 * i + b) cells k 0
+      ∙ ap (λ (n : ℕ). get_or cells n 0) (omega arith)
+
+  -- by what a walk over them says
+  pub column-told : (t : Bool)
+      → MatchBool t (AllWithin (λ x. x ≡ 1) (column cells i b d) 0 (length (column cells i b d)))
+      ((k : ℕ) × (k < length (column cells i b d)) × HoldsAt (λ x. x ≡ 1 → ⊥) (column cells i b d) k)
+      → ColumnInside cells i b d t
+  column-told true f = λ j u v.
+      ap (λ (n : ℕ). get_or cells (16 * i + n) 0) (omega arith)
+      ∙ sym (column_at (j - b) (omega arith))
+      ∙ f (j - b) 0 (omega arith) (omega (arith, column_length))
+  column-told false f =
+      let k = f.0 in
+      let u = f.1 in
+      (b + k, omega arith, omega (arith, u, column_length), λ e. f.2 0 (column_at k (omega (arith, u, column_length)) ∙ e))
 
 module _ (cells : List ℕ) (p : Piece) where
-  pub inside-not : (i r : ℕ) → FirstWith (λ j. get_or cells (16 * i + j) 0 ≡ 1 → ⊥) p.b.0 p.d.0 r → p.a.0 ≤ i → i < p.c.0
-      → r < p.d.0
-      → AllInside cells p false
-  inside-not i r f h k w = (i, r, record { a = h; c = k; b = f.least; d = w }, f.found w)
-
-  pub inside-all : (i : ℕ) → p.c.0 ≤ i → Clear cells p.a.0 p.b.0 p.d.0 i → AllInside cells p true
-  inside-all i h f k j w = f.each k j w.a (omega (arith, w.c)) w.b w.d
+  -- by what a walk over its columns says
+  pub all-told : (t : Bool)
+      → MatchBool t (AllWithin (λ i. ColumnInside cells i p.b.0 p.d.0 true) (range_with_len p.a.0 (p.c.0 - p.a.0)) 0 (length (range_with_len p.a.0 (p.c.0 - p.a.0))))
+      ((k : ℕ) × (k < length (range_with_len p.a.0 (p.c.0 - p.a.0))) × HoldsAt (λ i. ColumnInside cells i p.b.0 p.d.0 false) (range_with_len p.a.0 (p.c.0 - p.a.0)) k)
+      → AllInside cells p t
+  all-told true f = λ i j w.
+      let k = i - p.a.0 in
+      let e : get_or (range_with_len p.a.0 (p.c.0 - p.a.0)) k 0 ≡ i = get_or-range_with_len p.a.0 (p.c.0 - p.a.0) k 0 (omega (arith, w.a, w.c)) ∙ omega (arith, w.a) in
+      subst (λ n. ColumnInside cells n p.b.0 p.d.0 true) e (f k 0 (omega arith) (omega (arith, w.a, w.c, length-range_with_len p.a.0 (p.c.0 - p.a.0)))) j w.b w.d
+  all-told false f =
+      let k = f.0 in
+      let u : k < p.c.0 - p.a.0 = omega (arith, f.1, length-range_with_len p.a.0 (p.c.0 - p.a.0)) in
+      let h = subst (λ n. ColumnInside cells n p.b.0 p.d.0 false) (get_or-range_with_len p.a.0 (p.c.0 - p.a.0) k 0 u) (f.2 0) in
+      (p.a.0 + k, h.0, record { a = omega arith; c = omega (arith, u); b = h.1; d = h.2 }, h.3)
 
   pub inside-said : {s t : Bool} → s ≡ t → AllInside cells p s → AllInside cells p t
   inside-said e h = subst (AllInside cells p) e h
+
+-- where there cannot be none there is one, and what is said of it
+pub some-of : {T U : Type 0} (Q : T → Type 0) (o : Option T) → (U → ⊥) → MatchOption o U Q → IsSome o
+some-of Q None n h = absurd (n h)
+some-of Q (Some x) n h = refl
+
+pub some-said : {T : Type 0} (U : Type 0) (Q : T → Type 0) (o : Option T) (x : T) → o ≡ Some x → MatchOption o U Q → Q x
+some-said U Q o x e h = subst (λ (o : Option _). MatchOption o U Q) e h

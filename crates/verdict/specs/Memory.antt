@@ -7,6 +7,7 @@
 --   Judgeable mode table cells plan p
 --                                 == there are such a grid and such a rule, and p is one of the grid's pieces with its entry
 --   Sortable table cells p        == the same, by some plan and in some mode
+--   Choosable table plan p        == the same, for some cells and in some mode
 --   Cuttable table plan p         == the same by straight cuts, for some cells, and p is mixed
 use Rattle.std.specs.Prelude.{ℕ, ◌+◌, ◌*◌, ◌≤◌, ◌<◌, ◌≡◌, List, length, get_or}
 use Rattle.sum.specs.Sum.{only}
@@ -47,6 +48,11 @@ pub record Judgeable (mode : Mode) (table cells : List ℕ) (plan : Plan) (p : N
 pub record Sortable (table cells : List ℕ) (p : Numbered) : Type 0 where
   pub mode : Mode
   pub plan : Plan
+  pub judgeable : Judgeable mode table cells plan p
+
+pub record Choosable (table : List ℕ) (plan : Plan) (p : Numbered) : Type 0 where
+  pub mode : Mode
+  pub cells : List ℕ
   pub judgeable : Judgeable mode table cells plan p
 
 pub record Cuttable (table : List ℕ) (plan : Plan) (p : Numbered) : Type 0 where

@@ -10,9 +10,10 @@
 --   WithM, WithK, WithL    == there is one with the first three of these lines, with the first two, with the first
 --   None t s               == there is none
 --   Leads t s w            == w has the parts of the lowest, by j, l, k, m
+--   Leading t s o          == o has the parts of the lowest, or there is none
 --   Turnable t plan p n    == both turns may be searched, and one of them has a pinwheel that costs n
 --   FirstWheel t plan p n w == w is the lowest of the first turn; or of the second, and the first has none
-use Rattle.std.specs.Prelude.{ℕ, ◌+◌, ◌≤◌, ◌<◌, ◌^◌, ◌≡◌, ◌⊎◌, List, length, get_or}
+use Rattle.std.specs.Prelude.{ℕ, ◌+◌, ◌≤◌, ◌<◌, ◌^◌, ◌≡◌, ◌⊎◌, List, length, get_or, Option, MatchOption}
 use Rattle.piece.specs.declared.Turn.{Turn}
 use Rattle.piece.specs.declared.Turn.TheVariants.{First, Second}
 use Rattle.piece.specs.declared.Piece as stored
@@ -89,6 +90,9 @@ module _ (t : List ℕ) (s : Sought) where
     pub is : w ≡ wheel_in s.plan.columns s.plan.rows (meant s.piece) (wheel s.turn j l k m)
     pub meets : Meets j l k m
     pub passed : (j' l' k' m' : ℕ) → Inner (meant s.piece) j' l' k' m' → Lower j' l' k' m' j l k m → Meets j' l' k' m' → ⊥
+
+  abbrev pub Leading : Option Wheel → Type 0
+  Leading o = MatchOption o None (λ w. Leads w)
 
 pub record Turnable (t : List ℕ) (plan : Plan) (p : stored.Piece) (n : ℕ) : Type 0 where
   pub first : Huntable t (sought plan p First n)

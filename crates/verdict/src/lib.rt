@@ -1,7 +1,7 @@
 // What becomes of a piece, from the table of costs and the cells: its sort, and where it is mixed the parts of its cut.
 #![tactic(auto)]
 
-ghost use Rattle.std.specs.Prelude.{◌≡◌, List, ℕ, ◌+◌, ◌*◌, ◌≤◌, length, get_or};
+ghost use Rattle.std.specs.Prelude.{◌≡◌, List, ℕ, ◌+◌, ◌*◌, ◌≤◌, length, MatchOption};
 ghost use Rattle.recurrence.specs.Scheme.{mixed};
 ghost use Rattle.outline.specs.Grid.{Grid};
 ghost use Rattle.piece.specs.declared.Mode.{Mode};
@@ -9,8 +9,8 @@ ghost use Rattle.piece.specs.declared.Mode.TheVariants.{Straight};
 ghost use Rattle.piece.specs.Piece.{kind};
 ghost use Rattle.piece.specs.Meant.{meant};
 ghost use Rattle.piece.specs.Cuts.{choice};
-ghost use Rattle.verdict.specs.Memory.{Costed, Known, Sortable, Cuttable};
-ghost use Rattle.verdict.specs.Search.{FirstWith, AllInside, Weighable, Finds};
+ghost use Rattle.verdict.specs.Memory.{Costed, Known, Sortable, Choosable, Cuttable};
+ghost use Rattle.verdict.specs.Search.{ColumnInside, AllInside, cuts-x, cuts-y, Weighable, Finds, Uncut};
 ghost use Rattle.verdict.specs.Verdict.{kind_of, cut_into, made};
 
 use outline::{Line, MOST_LINES};
@@ -50,20 +50,14 @@ pub struct Plan {
     pub rule: Rule,
 }
 
-// The first row from b on whose cell in the column i is not inside, or d where each of them is.
-fn first_hole(cells: &[u8], i: usize, b: Line, d: Line) -> usize
+// Whether the cells of the column i from the row b to below the row d are all inside.
+fn column_inside(cells: &[u8], i: usize, b: Line, d: Line) -> bool
     requires { (16 * i + d.0 ≤ length cells.now) × (b.0 ≤ d.0) }
-    ensures { FirstWith (λ j. get_or cells.now (16 * i + j) 0 ≡ 1 → ⊥) b.0 d.0 result }
+    ensures { ColumnInside cells.now i b.0 d.0 result }
 {
-    let end = d.0;
-    let mut j = b.0;
-    while j < end {
-        if cells[MOST_LINES * i + j] != 1 {
-            return j;
-        }
-        j += 1;
-    }
-    j
+    cells[MOST_LINES * i + b.0..MOST_LINES * i + d.0]
+        .iter()
+        .all(|cell| *cell == 1)
 }
 
 // Whether every cell of the piece is inside.
@@ -71,18 +65,7 @@ pub fn all_inside(cells: &[u8], p: Piece) -> bool
     requires { (p.c.0 ≤ 15) × ((p.b.0 ≤ p.d.0) × ((p.d.0 ≤ 15) × (length cells.now ≡ 256))) }
     ensures { AllInside cells.now p result }
 {
-    let b = p.b;
-    let d = p.d;
-    let top = p.d.0;
-    let end = p.c.0;
-    let mut i = p.a.0;
-    while i < end {
-        if first_hole(cells, i, b, d) < top {
-            return false;
-        }
-        i += 1;
-    }
-    true
+    (p.a.0..p.c.0).all(|i| column_inside(cells, i, p.b, p.d))
 }
 
 // The cuts of a piece in one direction, as the table has them: they lie on the lines between low and high, of the lines 0 to
@@ -96,6 +79,34 @@ pub struct Cuts {
     pub stride: usize,
 }
 
+impl Numbered {
+    // The piece's vertical cuts.
+    pub fn upright(self, plan: Plan) -> Cuts
+        ensures { result ≡ cuts-x plan self.piece self.entry }
+    {
+        Cuts {
+            last: plan.columns,
+            low: self.piece.a,
+            high: self.piece.c,
+            entry: self.entry,
+            stride: plan.pairs,
+        }
+    }
+
+    // And its horizontal ones.
+    pub fn level(self, plan: Plan) -> Cuts
+        ensures { result ≡ cuts-y plan self.piece self.entry }
+    {
+        Cuts {
+            last: plan.rows,
+            low: self.piece.b,
+            high: self.piece.d,
+            entry: self.entry,
+            stride: 1,
+        }
+    }
+}
+
 // A cut that was found: its line, and the entries of its two parts.
 #[derive(Clone, Copy)]
 struct Found {
@@ -104,8 +115,8 @@ struct Found {
     pub upper: usize,
 }
 
-// The first line whose two parts cost so much together, or high where there is none. The entries of the parts run along.
-fn first_line(table: &[u32], cuts: Cuts, cost: u32) -> Found
+// The first cut whose two parts cost so much together. The entries of the parts run along.
+fn first_line(table: &[u32], cuts: Cuts, cost: u32) -> Option<Found>
     requires { Weighable table.now cuts }
     ensures { Finds table.now cuts cost result }
 {
@@ -114,26 +125,67 @@ fn first_line(table: &[u32], cuts: Cuts, cost: u32) -> Found
     let high = cuts.high.0;
     let entry = cuts.entry;
     let stride = cuts.stride;
-    let mut j = low + 1;
-    let mut lower = entry - stride * (high - j);
-    let mut upper = entry + stride * (last - j);
-    while j < high {
+    let first = low + 1;
+    let mut lower = entry - stride * (high - first);
+    let mut upper = entry + stride * (last - first);
+    for j in first..high {
         if table[lower] + table[upper] == cost {
-            return Found {
+            return Some(Found {
                 line: Line(j),
                 lower,
                 upper,
-            };
+            });
         }
-        j += 1;
         lower += stride;
-        upper += stride * (last - j);
+        upper += stride * (last - (j + 1));
     }
-    Found {
-        line: Line(high),
-        lower,
-        upper,
+    None
+}
+
+// The parts of a mixed piece by its first straight cut, vertical ones first and the lower line first, whose parts cost together what the
+// piece costs; none where only a pinwheel does.
+#[inline(always)]
+fn first_cut(costs: &[u32], plan: Plan, p: Numbered) -> Option<Parts>
+    requires { Choosable costs.now plan p }
+    ensures { (mode : Mode) (g : Grid) (r : Rule) (cells : List ℕ) → Costed mode g r costs.now cells plan → kind g (meant p.piece) ≡ mixed → MatchOption result (Uncut costs.now plan p) (λ h. cut_into h ≡ made g (meant p.piece) (choice mode g r (meant p.piece))) }
+{
+    let piece = p.piece;
+    let cost = costs[p.entry];
+    if let Some(found) = first_line(costs, p.upright(plan), cost) {
+        return Some(Parts {
+            low: Numbered {
+                piece: Piece {
+                    c: found.line,
+                    ..piece
+                },
+                entry: found.lower,
+            },
+            high: Numbered {
+                piece: Piece {
+                    a: found.line,
+                    ..piece
+                },
+                entry: found.upper,
+            },
+        });
     }
+    let found = first_line(costs, p.level(plan), cost)?;
+    Some(Parts {
+        low: Numbered {
+            piece: Piece {
+                d: found.line,
+                ..piece
+            },
+            entry: found.lower,
+        },
+        high: Numbered {
+            piece: Piece {
+                b: found.line,
+                ..piece
+            },
+            entry: found.upper,
+        },
+    })
 }
 
 // The sort of a piece. What costs nothing is outside; only of other pieces the cells are looked at.
@@ -152,63 +204,10 @@ pub fn sort_of(costs: &[u32], cells: &[u8], p: Numbered) -> Sort
     Sort::Mixed
 }
 
-// The parts of a mixed piece: its cut is the first, vertical ones first and the lower line first, whose parts cost together what the
-// piece costs. There always is one.
+// The parts of a mixed piece by straight cuts alone. There always is such a cut.
 pub fn halves(costs: &[u32], plan: Plan, p: Numbered) -> Parts
     requires { Cuttable costs.now plan p }
     ensures { (g : Grid) (r : Rule) (cells : List ℕ) → Costed Straight g r costs.now cells plan → kind g (meant p.piece) ≡ mixed → cut_into result ≡ made g (meant p.piece) (choice Straight g r (meant p.piece)) }
 {
-    let piece = p.piece;
-    let entry = p.entry;
-    let cost = costs[entry];
-    let a = piece.a;
-    let c = piece.c;
-    let upright = first_line(
-        costs,
-        Cuts {
-            last: plan.columns,
-            low: a,
-            high: c,
-            entry,
-            stride: plan.pairs,
-        },
-        cost,
-    );
-    let i = upright.line;
-    if i.0 < c.0 {
-        return Parts {
-            low: Numbered {
-                piece: Piece { c: i, ..piece },
-                entry: upright.lower,
-            },
-            high: Numbered {
-                piece: Piece { a: i, ..piece },
-                entry: upright.upper,
-            },
-        };
-    }
-    let b = piece.b;
-    let d = piece.d;
-    let level = first_line(
-        costs,
-        Cuts {
-            last: plan.rows,
-            low: b,
-            high: d,
-            entry: p.entry,
-            stride: 1,
-        },
-        cost,
-    );
-    let j = level.line;
-    Parts {
-        low: Numbered {
-            piece: Piece { d: j, ..piece },
-            entry: level.lower,
-        },
-        high: Numbered {
-            piece: Piece { b: j, ..piece },
-            entry: level.upper,
-        },
-    }
+    first_cut(costs, plan, p).unwrap()
 }

@@ -12,10 +12,10 @@ ghost use Rattle.piece.specs.Cuts.{wheel};
 ghost use Rattle.table.specs.Entry.{Valid};
 ghost use Rattle.verdict.specs.Memory.{Costed, Judgeable};
 ghost use Rattle.verdict.specs.Verdict.{placed, wheel_in, verdict_of};
-ghost use Rattle.verdict.specs.Search.{FirstWith};
-ghost use Rattle.verdict.specs.Pinwheels.{weight_of, Addable, Small, Huntable, Lines, Meets, WithM, WithK, WithL, Leads, Turnable, FirstWheel};
+ghost use Rattle.verdict.specs.Search.{FirstLine};
+ghost use Rattle.verdict.specs.Pinwheels.{weight_of, Addable, Small, Huntable, Lines, Meets, WithM, WithK, WithL, Leading, Turnable, FirstWheel};
 
-use super::{Cuts, Numbered, Plan, all_inside, first_line};
+use super::{Numbered, Plan, all_inside, first_cut};
 use outline::Line;
 use piece::{Piece, Turn};
 use table::numbering::entry;
@@ -118,86 +118,73 @@ fn weight_of(costs: &[u32], w: Wheel) -> u32
     costs[first] + costs[second] + costs[third] + costs[fourth] + costs[inner]
 }
 
-// The lowest m with the other three lines given, or the piece's high line where there is none.
-fn first_m(costs: &[u32], s: Sought, j: Line, l: Line, k: Line) -> Line
+// The lowest m with the other three lines given. Each line has a loop of its own: of one search that takes a test the proof did not learn
+// what the test says of a line.
+fn first_m(costs: &[u32], s: Sought, j: Line, l: Line, k: Line) -> Option<Line>
     requires huntable { Huntable costs.now s }
     requires a_lt_j { (s.piece.a.0 < j.0) × ((j.0 < l.0) × ((l.0 < s.piece.c.0) × ((s.piece.b.0 < k.0) × (k.0 < s.piece.d.0)))) }
-    ensures { FirstWith (Meets costs.now s j.0 l.0 k.0) (k.0 + 1) s.piece.d.0 result.0 }
+    ensures { FirstLine (Meets costs.now s j.0 l.0 k.0) (k.0 + 1) s.piece.d.0 result }
 {
-    let top = s.piece.d.0;
-    let cost = s.cost;
-    let mut m = k.0 + 1;
-    while m < top {
+    for m in k.0 + 1..s.piece.d.0 {
         let wheel = wheel_of(s, j, l, k, Line(m));
-        if weight_of(costs, wheel) == cost {
-            return Line(m);
+        if weight_of(costs, wheel) == s.cost {
+            return Some(Line(m));
         }
-        m += 1;
     }
-    Line(m)
+    None
 }
 
-// The lowest k with j and l given, or the piece's high line.
-fn first_k(costs: &[u32], s: Sought, j: Line, l: Line) -> Line
+// The lowest k with j and l given.
+fn first_k(costs: &[u32], s: Sought, j: Line, l: Line) -> Option<Line>
     requires huntable { Huntable costs.now s }
     requires a_lt_j { (s.piece.a.0 < j.0) × ((j.0 < l.0) × (l.0 < s.piece.c.0)) }
-    ensures { FirstWith (WithM costs.now s j.0 l.0) (s.piece.b.0 + 1) s.piece.d.0 result.0 }
+    ensures { FirstLine (WithM costs.now s j.0 l.0) (s.piece.b.0 + 1) s.piece.d.0 result }
 {
-    let top = s.piece.d.0;
-    let mut k = s.piece.b.0 + 1;
-    while k < top {
-        if first_m(costs, s, j, l, Line(k)).0 < top {
-            return Line(k);
+    for k in s.piece.b.0 + 1..s.piece.d.0 {
+        if first_m(costs, s, j, l, Line(k)).is_some() {
+            return Some(Line(k));
         }
-        k += 1;
     }
-    Line(k)
+    None
 }
 
-// The lowest l with j given, or the piece's right line.
-fn first_l(costs: &[u32], s: Sought, j: Line) -> Line
+// The lowest l with j given.
+fn first_l(costs: &[u32], s: Sought, j: Line) -> Option<Line>
     requires huntable { Huntable costs.now s }
     requires a_lt_j { (s.piece.a.0 < j.0) × (j.0 < s.piece.c.0) }
-    ensures { FirstWith (WithK costs.now s j.0) (j.0 + 1) s.piece.c.0 result.0 }
+    ensures { FirstLine (WithK costs.now s j.0) (j.0 + 1) s.piece.c.0 result }
 {
-    let top = s.piece.d.0;
-    let end = s.piece.c.0;
-    let mut l = j.0 + 1;
-    while l < end {
-        if first_k(costs, s, j, Line(l)).0 < top {
-            return Line(l);
+    for l in j.0 + 1..s.piece.c.0 {
+        if first_k(costs, s, j, Line(l)).is_some() {
+            return Some(Line(l));
         }
-        l += 1;
     }
-    Line(l)
+    None
 }
 
-// The lowest j, or the piece's right line.
-fn first_j(costs: &[u32], s: Sought) -> Line
+// The lowest j.
+fn first_j(costs: &[u32], s: Sought) -> Option<Line>
     requires { Huntable costs.now s }
-    ensures { FirstWith (WithL costs.now s) (s.piece.a.0 + 1) s.piece.c.0 result.0 }
+    ensures { FirstLine (WithL costs.now s) (s.piece.a.0 + 1) s.piece.c.0 result }
 {
-    let end = s.piece.c.0;
-    let mut j = s.piece.a.0 + 1;
-    while j < end {
-        if first_l(costs, s, Line(j)).0 < end {
-            return Line(j);
+    for j in s.piece.a.0 + 1..s.piece.c.0 {
+        if first_l(costs, s, Line(j)).is_some() {
+            return Some(Line(j));
         }
-        j += 1;
     }
-    Line(j)
+    None
 }
 
 // The pinwheel of the lowest j, then the lowest l, then k, then m.
-fn lowest_wheel(costs: &[u32], s: Sought, j: Line) -> Wheel
-    requires huntable { Huntable costs.now s }
-    requires first_with { FirstWith (WithL costs.now s) (s.piece.a.0 + 1) s.piece.c.0 j.0 × (j.0 < s.piece.c.0) }
-    ensures { Leads costs.now s result }
+fn lowest_wheel(costs: &[u32], s: Sought) -> Option<Wheel>
+    requires { Huntable costs.now s }
+    ensures { Leading costs.now s result }
 {
-    let l = first_l(costs, s, j);
-    let k = first_k(costs, s, j, l);
-    let m = first_m(costs, s, j, l, k);
-    wheel_of(s, j, l, k, m)
+    let j = first_j(costs, s)?;
+    let l = first_l(costs, s, j)?;
+    let k = first_k(costs, s, j, l)?;
+    let m = first_m(costs, s, j, l, k)?;
+    Some(wheel_of(s, j, l, k, m))
 }
 
 // The first pinwheel of a piece that costs so much: of the first turn, else of the second.
@@ -205,16 +192,14 @@ fn first_wheel(costs: &[u32], plan: Plan, piece: Piece, cost: u32) -> Wheel
     requires { Turnable costs.now plan piece cost }
     ensures { FirstWheel costs.now plan piece cost result }
 {
-    let end = piece.c.0;
     let first = Sought {
         plan,
         piece,
         turn: Turn::First,
         cost,
     };
-    let i = first_j(costs, first);
-    if i.0 < end {
-        return lowest_wheel(costs, first, i);
+    if let Some(wheel) = lowest_wheel(costs, first) {
+        return wheel;
     }
     let second = Sought {
         plan,
@@ -222,8 +207,7 @@ fn first_wheel(costs: &[u32], plan: Plan, piece: Piece, cost: u32) -> Wheel
         turn: Turn::Second,
         cost,
     };
-    let j = first_j(costs, second);
-    lowest_wheel(costs, second, j)
+    lowest_wheel(costs, second).unwrap()
 }
 
 // The verdict of a piece by pinwheels too: as by straight cuts, and where no straight cut costs what the piece costs the first such pinwheel.
@@ -240,58 +224,8 @@ pub fn judge(costs: &[u32], cells: &[u8], plan: Plan, p: Numbered) -> Turned
     if all_inside(cells, piece) {
         return Turned::Shot;
     }
-    let a = piece.a;
-    let c = piece.c;
-    let upright = first_line(
-        costs,
-        Cuts {
-            last: plan.columns,
-            low: a,
-            high: c,
-            entry,
-            stride: plan.pairs,
-        },
-        cost,
-    );
-    let i = upright.line;
-    if i.0 < c.0 {
-        return Turned::Cut(
-            Numbered {
-                piece: Piece { c: i, ..piece },
-                entry: upright.lower,
-            },
-            Numbered {
-                piece: Piece { a: i, ..piece },
-                entry: upright.upper,
-            },
-        );
+    match first_cut(costs, plan, p) {
+        Some(parts) => Turned::Cut(parts.low, parts.high),
+        None => Turned::Wheel(first_wheel(costs, plan, piece, cost)),
     }
-    let b = piece.b;
-    let d = piece.d;
-    let level = first_line(
-        costs,
-        Cuts {
-            last: plan.rows,
-            low: b,
-            high: d,
-            entry: p.entry,
-            stride: 1,
-        },
-        cost,
-    );
-    let j = level.line;
-    if j.0 < d.0 {
-        return Turned::Cut(
-            Numbered {
-                piece: Piece { d: j, ..piece },
-                entry: level.lower,
-            },
-            Numbered {
-                piece: Piece { b: j, ..piece },
-                entry: level.upper,
-            },
-        );
-    }
-    let wheel = first_wheel(costs, plan, piece, cost);
-    Turned::Wheel(wheel)
 }

@@ -7,7 +7,7 @@ ghost use Rattle.wheels.specs.Wheel.{wrapped, gathered, joined, lowered, spot_of
 
 use outline::Line;
 use table::numbering::pair_number;
-use table::runs::{LANES, lesser};
+use table::runs::LANES;
 
 // The strips of one width: the rows of cells and the pairs of y lines, the width in columns, and how many strips there are.
 #[derive(Clone, Copy)]
@@ -35,8 +35,7 @@ pub struct Arms {
 fn together(a: u32, b: u32, c: u32) -> u32
     ensures { result ≡ wrapped a b c }
 {
-    let two = std::num::wrapping_add_u32(a, b);
-    std::num::wrapping_add_u32(two, c)
+    a.wrapping_add(b).wrapping_add(c)
 }
 
 // Where the e-th piece of the strips v columns wide stands in the store, from the strip on that begins at the x line x.
@@ -63,11 +62,9 @@ fn gather(best: &mut [u32], store: &[u32], left: usize, right: usize, inner: usi
     requires { (lanes ≤ length best.old) × ((left + lanes ≤ length store.now) × ((right + lanes ≤ length store.now) × (inner + lanes ≤ length store.now))) }
     ensures { Wrote (gathered best.old store.now left right inner) 0 lanes best.old best.new }
 {
-    let mut l: usize = 0;
-    while l < lanes {
+    for l in 0..lanes {
         let sum = together(store[left + l], store[right + l], store[inner + l]);
-        best[l] = lesser(best[l], sum);
-        l += 1;
+        best[l] = best[l].min(sum);
     }
 }
 
@@ -81,13 +78,11 @@ fn gather_lines(best: &mut [u32], store: &[u32], s: Strips, arms: Arms, d: usize
     let near = pair_number(s.rows, Line(arms.near), Line(d));
     let far = pair_number(s.rows, Line(arms.far), Line(d));
     let middle = pair_number(s.rows, Line(arms.low), Line(arms.high));
-    let mut x = arms.after + 1;
-    while x < arms.before {
+    for x in arms.after + 1..arms.before {
         let left = spot(s.pairs, x, near, 0);
         let right = spot(s.pairs, s.width - x, far, x);
         let inner = inner_spot(s.pairs, arms.line, x, middle);
         gather(best, store, left, right, inner, lanes);
-        x += 1;
     }
 }
 
@@ -97,10 +92,8 @@ fn add(sums: &mut [u32], store: &[u32], left: usize, right: usize, best: &[u32],
     requires { (lanes ≤ length sums.old) × ((left + lanes ≤ length store.now) × ((right + lanes ≤ length store.now) × (lanes ≤ length best.now))) }
     ensures { Wrote (joined store.now left right best.now) 0 lanes sums.old sums.new }
 {
-    let mut l: usize = 0;
-    while l < lanes {
+    for l in 0..lanes {
         sums[l] = together(store[left + l], store[right + l], best[l]);
-        l += 1;
     }
 }
 
@@ -109,10 +102,8 @@ fn lower(side: &mut [u32], at: usize, sums: &[u32], lanes: usize)
     requires { (at + lanes ≤ length side.old) × (lanes ≤ length sums.now) }
     ensures { Wrote (lowered side.old at sums.now) at lanes side.old side.new }
 {
-    let mut l: usize = 0;
-    while l < lanes {
-        side[at + l] = lesser(side[at + l], sums[l]);
-        l += 1;
+    for l in 0..lanes {
+        side[at + l] = side[at + l].min(sums[l]);
     }
 }
 
@@ -132,8 +123,7 @@ fn lower_starts(
     ensures { Weighed s.count (Among 0 arms.low (StartAt store.now s arms d best.now)) side.old side.new }
 {
     let mut sums = [0u32; LANES];
-    let mut b: usize = 0;
-    while b < arms.low {
+    for b in 0..arms.low {
         let near = pair_number(s.rows, Line(b), Line(arms.near));
         let far = pair_number(s.rows, Line(b), Line(arms.far));
         let piece = pair_number(s.rows, Line(b), Line(d));
@@ -141,7 +131,6 @@ fn lower_starts(
         let right = spot(s.pairs, s.width - arms.line, far, arms.line);
         add(&mut sums, store, left, right, best, lanes);
         lower(side, LANES * piece, &sums, lanes);
-        b += 1;
     }
 }
 

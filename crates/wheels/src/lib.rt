@@ -23,7 +23,8 @@ use widths::settling;
 mod lanes;
 mod turning;
 
-// A grid of so many columns and rows at most has its costs in a small store, which is sooner cleared.
+// A grid of so many columns and rows at most has its costs in a small store, which is sooner cleared. As in `short`, which this crate does not
+// stand on.
 const SMALL: usize = 7;
 
 // Room for the costs of all strips of such a grid, and of any, in all lanes: LANES for each width and pair of y lines, and LANES more.
@@ -31,15 +32,13 @@ const SMALL_STORE: usize = 3152;
 
 const LARGE_STORE: usize = 28816;
 
-// Keeps the first n numbers of a side store, from the place `at` of the store on.
+// Keeps the first n numbers of a side store, from the place `at` of the store on. Said place by place (`Wrote`), as the fills say all they write.
 fn keep(store: &mut [u32], side: &[u32], at: usize, n: usize)
     requires { (at + n ≤ length store.old) × (n ≤ length side.now) }
     ensures { Wrote (listed side.now) at n store.old store.new }
 {
-    let mut i: usize = 0;
-    while i < n {
+    for i in 0..n {
         store[at + i] = side[i];
-        i += 1;
     }
 }
 
@@ -89,8 +88,7 @@ fn fill_by(
     let mut side = [0u32; SIDE];
     let mut wide = [0u32; LANES];
     measuring::measure(&mut unit, xs, ys, cells, columns, rows);
-    let mut w: usize = 1;
-    while w <= columns {
+    for w in 1..columns + 1 {
         let count = columns + 1 - w;
         let strips = lanes::Strips {
             rows,
@@ -107,12 +105,12 @@ fn fill_by(
         );
         keep_by(mode, store, &side, LANES * ((w - 1) * pairs), LANES * pairs);
         storing::store_strips(table, &side, columns, pairs, w);
-        w += 1;
     }
 }
 
-// The fill of a small grid.
-fn fill_small(
+// The same with a store of so many numbers.
+fn fill_in<const N: usize>(
+    mode: Mode,
     xs: &[u16],
     ys: &[u16],
     cells: &[u8],
@@ -122,48 +120,11 @@ fn fill_small(
     table: &mut [u32],
 )
     requires ready { Ready (stored columns rows xs.now ys.now cells.now) rule xs.now ys.now cells.now table.old }
-    requires columns_bound { (columns ≤ 7) × (rows ≤ 7) }
-    ensures { table.new ≡ costs Pinwheel (stored columns rows xs.now ys.now cells.now) rule ++ drop (length (costs Pinwheel (stored columns rows xs.now ys.now cells.now) rule)) table.old }
+    requires room { (N ≤ 28816) × (mode ≡ Pinwheel → 16 * (columns * pair_count rows) + 16 ≤ N) }
+    ensures { table.new ≡ costs mode (stored columns rows xs.now ys.now cells.now) rule ++ drop (length (costs mode (stored columns rows xs.now ys.now cells.now) rule)) table.old }
 {
-    let mut store = [0u32; SMALL_STORE];
-    fill_by(
-        Mode::Pinwheel,
-        xs,
-        ys,
-        cells,
-        columns,
-        rows,
-        rule,
-        table,
-        &mut store,
-    );
-}
-
-// The same of any grid.
-fn fill_large(
-    xs: &[u16],
-    ys: &[u16],
-    cells: &[u8],
-    columns: usize,
-    rows: usize,
-    rule: Rule,
-    table: &mut [u32],
-)
-    requires { Ready (stored columns rows xs.now ys.now cells.now) rule xs.now ys.now cells.now table.old }
-    ensures { table.new ≡ costs Pinwheel (stored columns rows xs.now ys.now cells.now) rule ++ drop (length (costs Pinwheel (stored columns rows xs.now ys.now cells.now) rule)) table.old }
-{
-    let mut store = [0u32; LARGE_STORE];
-    fill_by(
-        Mode::Pinwheel,
-        xs,
-        ys,
-        cells,
-        columns,
-        rows,
-        rule,
-        table,
-        &mut store,
-    );
+    let mut store = [0u32; N];
+    fill_by(mode, xs, ys, cells, columns, rows, rule, table, &mut store);
 }
 
 // Fills the table with the cost of every piece of the grid in the pinwheel mode, in the order of entries. What it held there has no
@@ -180,13 +141,11 @@ pub fn fill(
     requires { Ready (stored columns rows xs.now ys.now cells.now) rule xs.now ys.now cells.now table.old }
     ensures { table.new ≡ costs Pinwheel (stored columns rows xs.now ys.now cells.now) rule ++ drop (length (costs Pinwheel (stored columns rows xs.now ys.now cells.now) rule)) table.old }
 {
-    if columns <= SMALL {
-        if rows <= SMALL {
-            fill_small(xs, ys, cells, columns, rows, rule, table);
-            return;
-        }
+    if columns <= SMALL && rows <= SMALL {
+        fill_in::<SMALL_STORE>(Mode::Pinwheel, xs, ys, cells, columns, rows, rule, table);
+        return;
     }
-    fill_large(xs, ys, cells, columns, rows, rule, table);
+    fill_in::<LARGE_STORE>(Mode::Pinwheel, xs, ys, cells, columns, rows, rule, table);
 }
 
 // The same by straight cuts: no strip is kept, so one number is store enough.
@@ -202,16 +161,5 @@ pub fn fill_straight(
     requires { Ready (stored columns rows xs.now ys.now cells.now) rule xs.now ys.now cells.now table.old }
     ensures { table.new ≡ costs Straight (stored columns rows xs.now ys.now cells.now) rule ++ drop (length (costs Straight (stored columns rows xs.now ys.now cells.now) rule)) table.old }
 {
-    let mut store = [0u32; 1];
-    fill_by(
-        Mode::Straight,
-        xs,
-        ys,
-        cells,
-        columns,
-        rows,
-        rule,
-        table,
-        &mut store,
-    );
+    fill_in::<1>(Mode::Straight, xs, ys, cells, columns, rows, rule, table);
 }

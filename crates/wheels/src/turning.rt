@@ -15,10 +15,8 @@ fn weigh_turn(side: &mut [u32], store: &[u32], s: Strips, arms: Arms)
     if arms.before <= arms.after + 1 {
         return;
     }
-    let mut d = arms.high + 1;
-    while d <= s.rows {
+    for d in arms.high + 1..s.rows + 1 {
         lanes::weigh_some(side, store, s, arms, d);
-        d += 1;
     }
 }
 
@@ -29,8 +27,7 @@ fn weigh_pairs(side: &mut [u32], store: &[u32], s: Strips, line: usize, k: usize
     ensures { Weighed s.count (FromTo store.now s line k) side.old side.new }
 {
     let width = s.width;
-    let mut m = k + 1;
-    while m < s.rows {
+    for m in k + 1..s.rows {
         let first = Arms {
             line,
             after: 0,
@@ -51,7 +48,6 @@ fn weigh_pairs(side: &mut [u32], store: &[u32], s: Strips, line: usize, k: usize
         };
         weigh_turn(side, store, s, first);
         weigh_turn(side, store, s, second);
-        m += 1;
     }
 }
 
@@ -61,10 +57,8 @@ fn weigh_line(side: &mut [u32], store: &[u32], s: Strips, line: usize)
     requires all_fit { AllFit store.now s }
     ensures { Weighed s.count (OfLine store.now s line) side.old side.new }
 {
-    let mut k: usize = 1;
-    while k < s.rows {
+    for k in 1..s.rows {
         weigh_pairs(side, store, s, line, k);
-        k += 1;
     }
 }
 
@@ -74,10 +68,8 @@ fn weigh_lines(side: &mut [u32], store: &[u32], s: Strips, first: usize, end: us
     requires all_fit { AllFit store.now s }
     ensures { Weighed s.count (Among first end (OfLine store.now s)) side.old side.new }
 {
-    let mut line = first;
-    while line < end {
+    for line in first..end {
         weigh_line(side, store, s, line);
-        line += 1;
     }
 }
 

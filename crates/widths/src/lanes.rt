@@ -24,15 +24,13 @@ pub struct Level {
     pub height: u32,
 }
 
-// Copies n numbers, from the place `at` of one list to the front of another.
+// Copies n numbers, from the place `at` of one list to the front of another. A loop, as in `eights::cuts`: few numbers, which stay in registers.
 fn copy(to: &mut [u32], from: &[u32], at: usize, n: usize)
     requires { (n ≤ length to.old) × (at + n ≤ length from.now) }
     ensures { Wrote (copied from.now at) 0 n to.old to.new }
 {
-    let mut i: usize = 0;
-    while i < n {
+    for i in 0..n {
         to[i] = from[at + i];
-        i += 1;
     }
 }
 
@@ -42,10 +40,8 @@ fn add(to: &mut [u32], from: &[u32], at: usize, n: usize)
     requires by_index { (i : ℕ) → i < n → added to.old from.now at i < 2 ^ 32 }
     ensures { Wrote (added to.old from.now at) 0 n to.old to.new }
 {
-    let mut i: usize = 0;
-    while i < n {
-        to[i] = to[i] + from[at + i];
-        i += 1;
+    for i in 0..n {
+        to[i] += from[at + i];
     }
 }
 
@@ -55,10 +51,8 @@ fn add_flanks(to: &mut [u32], from: &[u32], widths: &[u32], rule: Rule, at: usiz
     requires by_index { (i : ℕ) → i < n → added to.old from.now at i < 2 ^ 32 }
     ensures { Wrote (narrowed rule widths.now to.old from.now at) 0 n to.old to.new }
 {
-    let mut i: usize = 0;
-    while i < n {
-        to[i] = to[i] + rule.narrow(widths[i], from[at + i]);
-        i += 1;
+    for i in 0..n {
+        to[i] += rule.narrow(widths[i], from[at + i]);
     }
 }
 
@@ -75,12 +69,10 @@ fn weigh_lanes(best: &mut [u32], side: &[u32], level: Level, lanes: usize)
     let first = level.first;
     let mut lower = LANES * first;
     let mut upper = LANES * (first + (rows - low) + (high - low) - 2);
-    let mut k = low + 1;
-    while k < high {
+    for k in low + 1..high {
         runs::weigh_apart(best, side, lower, upper, lanes);
         lower += LANES;
         upper += LANES * (rows - k - 1);
-        k += 1;
     }
 }
 
@@ -124,12 +116,10 @@ fn judge_lanes(
     let tall = rule.spares(height);
     let bottom = BOTTOMS + LANES * low;
     let top = TOPS + LANES * (high - 1);
-    let mut l: usize = 0;
-    while l < lanes {
+    for l in 0..lanes {
         let ends = sums[bottom + l] + sums[top + l];
         let sliver = rule.sliver_of_height(tall, widths[l], height, flanks[l], ends);
         side[at + l] = settled(count[l], cells, rule.charge(sliver), best[l]);
-        l += 1;
     }
 }
 

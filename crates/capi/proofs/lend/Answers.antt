@@ -4,10 +4,10 @@ use Rattle.fracture.specs.Told.{told}
 use Rattle.capi.specs.Lent.{fracture_lent}
 use Rattle.capi.proofs.lend.Goals as goal
 
-pub returns-in-Done : goal.returns-in-Done
+pub returns-in-Ok : goal.returns-in-Ok
 unfolding told
-returns-in-Done c = λ table list. sym (ap (λ a. told a table list) c.in-Done.is)
+returns-in-Ok c = λ table list. sym (ap (λ a. told a table list) c.in-Ok.is)
 
-pub returns-in-Refused : goal.returns-in-Refused
+pub returns-in-Err : goal.returns-in-Err
 unfolding told
-returns-in-Refused c = λ table list. ap (λ n. fracture_lent n c.in-Refused.needed 0 0 0 table list) c.refusal_no.ensures.settled ∙ sym (ap (λ a. told a table list) c.in-Refused.is)
+returns-in-Err c = λ table list. ap (λ n. fracture_lent n c.in-Err.denial.needed 0 0 0 table list) c.from.ensures ∙ sym (ap (λ a. told a table list) c.in-Err.is)

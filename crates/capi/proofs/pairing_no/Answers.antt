@@ -3,5 +3,5 @@ use mathlib.Core.Path.{◌∙◌, sym, ap}
 use Rattle.capi.specs.Lent.{pairing_no}
 use Rattle.capi.proofs.pairing_no.Goals as goal
 
-pub returns-in-Refused : goal.returns-in-Refused
-returns-in-Refused c = c.refusal_no.ensures.settled ∙ sym (ap pairing_no c.in-Refused.is)
+pub returns-in-Err : goal.returns-in-Err
+returns-in-Err c = c.from.ensures ∙ sym (ap pairing_no c.in-Err.is)

@@ -4,10 +4,10 @@ use Rattle.capi.specs.Lent.{cuts_lent}
 use Rattle.capi.proofs.Lent.{renumbered}
 use Rattle.capi.proofs.pw_cuts.Goals as goal
 
-pub returns-in-Cuts : goal.returns-in-Cuts
+pub returns-in-Ok : goal.returns-in-Ok
 unfolding ahead_told
-returns-in-Cuts c = record { settled = c.in-Cuts.ensures.settled }
+returns-in-Ok c = record { settled = c.in-Ok.ensures.settled }
 
-pub returns-in-Refused : goal.returns-in-Refused
+pub returns-in-Err : goal.returns-in-Err
 unfolding ahead_told
-returns-in-Refused c = record { settled = renumbered (λ k. cuts_lent k 0) c.refusal_no.ensures.settled (c.in-Refused.ensures.settled) }
+returns-in-Err c = record { settled = renumbered (λ k. cuts_lent k 0) c.from.ensures c.in-Err.ensures.settled }

@@ -4,27 +4,26 @@ use Rattle.capi.proofs.Lent.{renumbered, signed_lent}
 use Rattle.gdsii.specs.Calls.{plate_told}
 use Rattle.capi.specs.Lent.{plate_lent}
 use lib.IntN.{pos}
+use borrow.Author.Rules.{rules}
 use Rattle.capi.proofs.pw_gdsii_fracture.Goals as goal
 
-pub returns-in-Done : goal.returns-in-Done
-returns-in-Done c =
+pub returns-in-Ok : goal.returns-in-Ok
+returns-in-Ok c =
+    let p = c.in-Ok.plate in
     record {
       settled = signed_lent
-          (λ x y.
-          plate_lent 0 c.in-Done.found c.in-Done.charged c.in-Done.long c.in-Done.weighed x y 0 c.fracture_boundary.new.table c.fracture_boundary.new.list)
-          {x = c.in-Done.dx} {y = c.in-Done.dy} (record { sfits = c.in-Done.known_told-1-own.given.1.1.1.1.0.1 }) (record { sfits = c.in-Done.known_told-1-own.given.1.1.1.1.1.0.1 })
-          (told_as (λ t. plate_told t c.fracture_boundary.new.table c.fracture_boundary.new.list) c.in-Done.is
-          c.fracture_boundary.ensures.settled);
+          (λ x y. plate_lent 0 p.shots p.cost p.sliver p.cuts x y 0 c.fracture_boundary.new.table c.fracture_boundary.new.list)
+          {x = p.shift_x} {y = p.shift_y}
+          (search rules)
+          (search rules)
+          (told_as (λ t. plate_told t c.fracture_boundary.new.table c.fracture_boundary.new.list) c.in-Ok.is c.fracture_boundary.ensures.settled);
     }
 
-pub returns-in-Refused : goal.returns-in-Refused
-returns-in-Refused c =
+pub returns-in-Err : goal.returns-in-Err
+returns-in-Err c =
     record {
       settled = renumbered
-          (λ n.
-          plate_lent n c.in-Refused.wanted 0 0 0 (pos 0) (pos 0) c.in-Refused.p c.fracture_boundary.new.table
-          c.fracture_boundary.new.list)
-          c.refusal_no.ensures.settled
-          (told_as (λ t. plate_told t c.fracture_boundary.new.table c.fracture_boundary.new.list) c.in-Refused.is
-          c.fracture_boundary.ensures.settled);
+          (λ n. plate_lent n c.in-Err.none.needed 0 0 0 (pos 0) (pos 0) c.in-Err.none.at c.fracture_boundary.new.table c.fracture_boundary.new.list)
+          c.from.ensures
+          (told_as (λ t. plate_told t c.fracture_boundary.new.table c.fracture_boundary.new.list) c.in-Err.is c.fracture_boundary.ensures.settled);
     }

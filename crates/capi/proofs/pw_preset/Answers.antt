@@ -3,8 +3,8 @@ use Rattle.capi.specs.Lent.{preset_lent}
 use Rattle.capi.proofs.Lent.{renumbered}
 use Rattle.capi.proofs.pw_preset.Goals as goal
 
-pub returns-in-Row : goal.returns-in-Row
-returns-in-Row c = record { settled = c.in-Row.ensures.settled }
+pub returns-in-Ok : goal.returns-in-Ok
+returns-in-Ok c = record { settled = c.in-Ok.ensures.settled }
 
-pub returns-in-Refused : goal.returns-in-Refused
-returns-in-Refused c = record { settled = renumbered (λ n. preset_lent n 0 0) c.refusal_no.ensures.settled (c.in-Refused.ensures.settled) }
+pub returns-in-Err : goal.returns-in-Err
+returns-in-Err c = record { settled = renumbered (λ n. preset_lent n 0 0) c.from.ensures c.in-Err.ensures.settled }

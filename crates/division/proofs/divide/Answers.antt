@@ -1,4 +1,8 @@
 -- `division::divide` meets its contract: the shots are written aside, and delivered divided. Assumes nothing.
+use Rattle.std.specs.Prelude.{Err}
+use mathlib.Core.Path.{◌≡◌}
+use native.Mathlib.Omega.{arith}
+use Rattle.fracture.specs.Told.{denied}
 use Rattle.demands.specs.Promise.{Asked, asked}
 use Rattle.division.specs.Promise.{room_aside}
 use Rattle.division.proofs.Outcome.{Passed}
@@ -9,19 +13,20 @@ pub deliver-requires : goal.deliver-requires
 unfolding room_aside
 deliver-requires c =
     let question : Asked = asked c.args.mode c.args.corners.now c.args.lengths.now c.args.threshold c.args.weight c.args.table.now c.args.list.now in
-    let passed : Passed (question) c.args.largest = record { range = c.requires.0; fits = c.requires.1 } in
-    divisible (question) c.args.largest (passed) c.undivided-answer.ensures.words _ _ _ c.undivided-answer.ensures.settled _ _ _ _ c.in-Done.is
+    let passed : Passed question c.args.largest = record { range = c.requires.0; fits = c.requires.1 } in
+    divisible question c.args.largest passed c.undivided.ensures.words c.undivided.new.table _ c.in-Ok.before c.in-Ok.ensures.settled
 
-pub returns-in-Done : goal.returns-in-Done
+pub returns-in-Ok : goal.returns-in-Ok
 unfolding room_aside
-returns-in-Done c =
+returns-in-Ok c =
     let question : Asked = asked c.args.mode c.args.corners.now c.args.lengths.now c.args.threshold c.args.weight c.args.table.now c.args.list.now in
-    let passed : Passed (question) c.args.largest = record { range = c.requires.0; fits = c.requires.1 } in
-    told-after (question) c.args.largest (passed) c.undivided-answer.ensures.words _ _ _ c.undivided-answer.ensures.settled _ _ _ _ c.in-Done.is _ _ (c.deliver.ensures _)
+    let passed : Passed question c.args.largest = record { range = c.requires.0; fits = c.requires.1 } in
+    told-after question c.args.largest passed c.undivided.ensures.words c.undivided.new.table _ c.in-Ok.before c.in-Ok.ensures.settled _ _ (c.deliver.ensures _)
 
-pub returns-in-Refused : goal.returns-in-Refused
+pub returns-in-Err : goal.returns-in-Err
 unfolding room_aside
-returns-in-Refused c =
+returns-in-Err c =
     let question : Asked = asked c.args.mode c.args.corners.now c.args.lengths.now c.args.threshold c.args.weight c.args.table.now c.args.list.now in
-    let passed : Passed (question) c.args.largest = record { range = c.requires.0; fits = c.requires.1 } in
-    told-before (question) c.args.largest (passed) _ _ _ c.undivided-answer.ensures.settled _ _ c.in-Refused.is
+    let passed : Passed question c.args.largest = record { range = c.requires.0; fits = c.requires.1 } in
+    let handed : Err c.into.result ≡ denied c.in-Err.denial.why 0 = grind arith in
+    rw handed (told-before question c.args.largest passed c.undivided.new.table _ c.in-Err.denial c.in-Err.ensures.settled)

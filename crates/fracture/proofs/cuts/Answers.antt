@@ -1,29 +1,24 @@
 -- `fracture::cuts` meets its contract. Assumes nothing.
-use mathlib.Core.Path.{◌≡◌, sym}
-use Rattle.figure.specs.Figure.{figure}
-use Rattle.outline.specs.Promise.{refusal, sheet}
-use Rattle.outline.proofs.Memory.{drawing-lengths}
-use Rattle.fracture.proofs.Settled.{answered, laid-drawing, laid-shaded, ahead-figure, ahead-cuts}
+use Rattle.std.specs.Prelude.{Err}
+use mathlib.Core.Path.{◌≡◌}
+use native.Mathlib.Omega.{arith}
+use Rattle.fracture.proofs.Settled.{accepted, drawn-cells, drawn-laid, laid-shaded, ahead-refused, ahead-cuts}
 use Rattle.fracture.proofs.cuts.Goals as goal
 
 pub slice_bounds-cuts-end : goal.slice_bounds-cuts-end
-unfolding sheet
-slice_bounds-cuts-end c = sym (drawing-lengths _ (sheet _ _ _ _) c.draw-drawing.ensures).cells-length
+slice_bounds-cuts-end c = drawn-cells _ _ _ _ _ c.in_ok-drawing.ensures
 
 pub cuts-requires : goal.cuts-requires
-unfolding sheet
-cuts-requires c =
-    let accepted : (refusal (figure c.args.corners.now c.args.lengths.now) ≡ 0) = answered _ (sheet _ _ _ _) c.draw-drawing.ensures _ c.in-Accepted.is in
-    record { grid = _; shaded = laid-shaded _ _ (laid-drawing _ (sheet _ _ _ _) c.draw-drawing.ensures (accepted)) }
+cuts-requires c = record { grid = _; shaded = laid-shaded _ _ (drawn-laid _ _ _ _ _ c.in_ok-drawing.ensures) }
 
-pub returns-in-Accepted : goal.returns-in-Accepted
-unfolding sheet
-returns-in-Accepted c =
+pub returns : goal.returns
+returns c =
     record {
-      settled = let accepted : (refusal (figure c.args.corners.now c.args.lengths.now) ≡ 0) = answered _ (sheet _ _ _ _) c.draw-drawing.ensures _ c.in-Accepted.is in
-          ahead-cuts _ _ (accepted) (c.cuts.ensures _ (laid-shaded _ _ (laid-drawing _ (sheet _ _ _ _) c.draw-drawing.ensures (accepted))));
+      settled = ahead-cuts _ _ (accepted _ _ _ _ _ c.in_ok-drawing.ensures)
+          (c.cuts.ensures _ (laid-shaded _ _ (drawn-laid _ _ _ _ _ c.in_ok-drawing.ensures)));
     }
 
-pub returns-in-Refused : goal.returns-in-Refused
-unfolding sheet
-returns-in-Refused c = record { settled = ahead-figure _ (sheet _ _ _ _) c.draw-drawing.ensures _ c.in-Refused.is }
+pub returns-in_err-drawing : goal.returns-in_err-drawing
+returns-in_err-drawing c =
+    let handed : c.from_residual.result ≡ Err c.in_err-drawing.field-0.0 = grind arith in
+    record { settled = rw handed (ahead-refused _ _ _ _ _ c.in_err-drawing.ensures) }

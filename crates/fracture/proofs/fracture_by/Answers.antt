@@ -1,42 +1,31 @@
 -- `fracture::fracture_by` meets its contract. Assumes nothing.
-use mathlib.Core.Path.{◌≡◌, sym, ◌∙◌}
+use mathlib.Core.Path.{◌≡◌, ◌∙◌}
+use native.Mathlib.Omega.{arith}
 use Rattle.rule.proofs.Rules.{range_true}
-use Rattle.figure.specs.Figure.{figure}
-use Rattle.outline.specs.Promise.{refusal, sheet}
-use Rattle.outline.proofs.Memory.{drawing-lengths}
-use Rattle.piece.specs.declared.Mode.TheVariants.{Straight}
-use Rattle.demands.specs.Demands.{Words}
 use Rattle.demands.proofs.Demands.{words_typed}
-use Rattle.fracture.proofs.Settled.{answered, told-figure, laid-drawing, told-grid}
+use Rattle.fracture.specs.Told.{denied}
+use Rattle.fracture.proofs.Settled.{accepted, drawn-cells, told-refused, drawn-laid, told-grid}
 use Rattle.fracture.proofs.fracture_by.Goals as goal
 
-pub slice_bounds-fracture_grid-end : goal.slice_bounds-fracture_grid-end
-unfolding sheet
-slice_bounds-fracture_grid-end c = sym (drawing-lengths _ (sheet _ _ _ _) c.draw-drawing.ensures).cells-length
+pub slice_bounds-of_grid-end : goal.slice_bounds-of_grid-end
+slice_bounds-of_grid-end m c = drawn-cells _ _ _ _ _ c.in_ok-columns.ensures
 
-pub fracture_grid-requires : goal.fracture_grid-requires
-unfolding sheet
-fracture_grid-requires c =
-    let accepted : (refusal (figure c.args.corners.now c.args.lengths.now) ≡ 0) = answered _ (sheet _ _ _ _) c.draw-drawing.ensures _ c.in-Accepted.is in
+pub of_grid-requires : goal.of_grid-requires
+of_grid-requires m c =
+    record { grid = _; laid = drawn-laid _ _ _ _ _ c.in_ok-columns.ensures; weight = (range_true _ _ c.requires).1 }
+
+pub returns : goal.returns
+returns m c =
     record {
-      grid = _;
-      laid = laid-drawing _ (sheet _ _ _ _) c.draw-drawing.ensures (accepted);
-      weight = (range_true _ _ c.requires).1;
+      settled = c.of_grid.ensures _ (drawn-laid _ _ _ _ _ c.in_ok-columns.ensures)
+          ∙ told-grid m.M.Manner.mode _ _ _ _ (accepted _ _ _ _ _ c.in_ok-columns.ensures);
+      words = words_typed c.args.corners.now c.args.lengths.now (λ i. c.type_inv.corners i);
     }
 
-pub returns-in-Accepted : goal.returns-in-Accepted
-unfolding sheet
-returns-in-Accepted c =
-    let accepted : (refusal (figure c.args.corners.now c.args.lengths.now) ≡ 0) = answered _ (sheet _ _ _ _) c.draw-drawing.ensures _ c.in-Accepted.is in
-    let typed : (Words (figure c.args.corners.now c.args.lengths.now)) = words_typed c.args.corners.now c.args.lengths.now (λ i. c.shared_slice_known-1.given i) in
-    let h = accepted in record {
-      settled = c.fracture_grid.ensures _ (laid-drawing _ (sheet _ _ _ _) c.draw-drawing.ensures h)
-          ∙ told-grid Straight (figure c.args.corners.now c.args.lengths.now) c.args.rule c.args.table.now c.args.list.now h;
-      words = typed;
+pub returns-in_err-columns : goal.returns-in_err-columns
+returns-in_err-columns m c =
+    let handed : c.from_residual.result ≡ denied c.in_err-columns.field-0.0 0 = grind arith in
+    record {
+      settled = rw handed (told-refused _ _ _ _ _ c.in_err-columns.ensures m.M.Manner.mode _ _ _);
+      words = words_typed c.args.corners.now c.args.lengths.now (λ i. c.type_inv.corners i);
     }
-
-pub returns-in-Refused : goal.returns-in-Refused
-unfolding sheet
-returns-in-Refused c =
-    let typed : (Words (figure c.args.corners.now c.args.lengths.now)) = words_typed c.args.corners.now c.args.lengths.now (λ i. c.shared_slice_known-1.given i) in
-    record { settled = told-figure _ (sheet _ _ _ _) c.draw-drawing.ensures Straight _ _ _ _ c.in-Refused.is; words = typed }

@@ -1,18 +1,20 @@
 -- `join::join` meets its contract. Assumes nothing.
+use Rattle.std.proofs.lemmas.Result.{err_from_is_err_and}
 use Rattle.join.proofs.Calls.{fillable, pairable, pairs-fit}
-use Rattle.join.proofs.Promised.{call_ends}
+use Rattle.join.proofs.Promised.{call_refused, call_joined}
 use Rattle.join.proofs.join.Goals as goal
 
+pub returns-in_err-n : goal.returns-in_err-n
+returns-in_err-n c = let p = err_from_is_err_and c.from_residual.result c.from_residual.ensures.1 in rw (p.1, p.2) (record { settled = call_refused _ _ _ c.in_err-n.ensures })
+
 pub fill-requires : goal.fill-requires
-fill-requires c = fillable _ _ _ _ c.check-found.ensures c.to_join-n.ensures
+fill-requires c = fillable _ _ _ c.in_ok-n.ensures
 
 pub pair-pairs-requires : goal.pair-pairs-requires
-pair-pairs-requires c = pairable _ c.args.table.now _ _ c.check-found.ensures c.to_join-n.ensures _ c.fill.ensures
+pair-pairs-requires c = pairable _ _ _ c.in_ok-n.ensures _ c.fill.ensures
 
-pub tell-requires : goal.tell-requires
-tell-requires c = pairs-fit _ _ _ _ c.check-found.ensures c.to_join-n.ensures _ _ c.pair-pairs.ensures.0
+pub overflow_sub-result : goal.overflow_sub-result
+overflow_sub-result c = pairs-fit _ _ _ c.pair-pairs.ensures.0
 
 pub returns : goal.returns
-returns c = record {
-  settled = call_ends _ _ _ _ c.check-found.ensures c.to_join-n.ensures _ _ _ _ c.fill.ensures c.pair-pairs.ensures c.tell.ensures;
-}
+returns c = record { settled = call_joined _ _ _ c.in_ok-n.ensures _ _ _ c.fill.ensures c.pair-pairs.ensures }

@@ -1,25 +1,24 @@
 -- `join::mate` meets its contract. Assumes nothing.
-use mathlib.Core.Path.{refl, ◌∙◌}
-use native.Mathlib.Omega.{arith}
+use mathlib.Core.Path.{refl, sym, ◌∙◌}
 use Rattle.join.specs.Join.{at}
-use Rattle.join.proofs.Tables.{search_starts, search_goes, search_ends}
+use Rattle.join.proofs.Tables.{search_starts, search_goes, mate_paired, mate_found, mate_alone}
 use Rattle.join.proofs.mate.Goals as goal
 
-pub loop-j-init : goal.loop-j-init
+pub returns-then-a-i : goal.returns-then-a-i
 unfolding at
-loop-j-init c = search_starts _ _ _ _ _ c.limit-found.ensures
+returns-then-a-i c = mate_paired _ _ _ _ refl c.if-a-i.true
 
--- the entry that is looked at lies in the table
-pub bounds-table-j : goal.bounds-table-j
-bounds-table-j c = omega (arith, c.loop-j.invariant.most, c.requires.room)
+pub loop-j-init : goal.loop-j-init
+loop-j-init c = search_starts _ _ _ _
+
+pub returns-then-takes : goal.returns-then-takes
+unfolding at
+returns-then-takes c = mate_found _ _ _ _ refl _ c.if-a-i.false c.loop-j.invariant c.loop-j-test.true (sym c.takes.ensures ∙ c.if-takes.true)
 
 pub loop-j-preserved : goal.loop-j-preserved
 unfolding at
-loop-j-preserved c = search_goes _ _ _ _ _ _ _ c.loop-j.invariant c.loop-j-test.true c.nearer-found.ensures
-
-pub loop-j-smaller : goal.loop-j-smaller
-loop-j-smaller c = omega (arith, c.loop-j.invariant.most)
+loop-j-preserved c = search_goes _ _ _ _ _ c.loop-j.invariant c.loop-j-test.true (sym c.takes.ensures ∙ c.if-takes.false)
 
 pub returns : goal.returns
 unfolding at
-returns c = c.settle.ensures ∙ search_ends _ _ _ _ _ _ c.loop-j.invariant c.loop-j-test.false refl
+returns c = mate_alone _ _ _ _ refl _ c.if-a-i.false c.loop-j.invariant c.loop-j-test.false

@@ -4,9 +4,6 @@ use Rattle.table.proofs.Fill.{beyond-none, beyond_trans}
 use Rattle.lowering.proofs.Steps.{lowering_first, lowering_down, lowering_all}
 use Rattle.lowering.proofs.lower.Goals as goal
 
-pub overflow_sub-a : goal.overflow_sub-a
-overflow_sub-a c = omega (arith, c.requires.sized.columns-some)
-
 pub loop-a-init : goal.loop-a-init
 loop-a-init c = (omega arith, λ g r w. lowering_first g r _ _ _ w c.requires.sized, beyond-none _ _)
 

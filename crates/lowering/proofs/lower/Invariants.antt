@@ -13,6 +13,3 @@ abbrev pub invariant-loop-a : goal.invariant-loop-a
 invariant-loop-a l = (l.a ≤ l.columns - 2)
     × ((g : Grid) (r : Rule) → Costed Straight g r l.initial.table l.cells l.plan → Lowering g r l.table l.cells l.plan l.a (l.plan.columns + 1))
     × Beyond (entry_count l.plan.columns l.plan.rows) l.initial.table l.table
-
-abbrev pub decreases-loop-a : goal.decreases-loop-a
-decreases-loop-a l = l.a

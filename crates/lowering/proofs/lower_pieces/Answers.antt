@@ -20,9 +20,6 @@ pair_number-requires c = ((plan-small _ _ _ _ _ c.requires.here.between).0, (c.r
 pub overflow_mul-strip : goal.overflow_mul-strip
 overflow_mul-strip c = omega (arith, strip_few c.args.plan.pairs c.args.plan.rows _ c.requires.here.between.sized.rows-most c.requires.here.between.pairs c.pair_number.ensures.1)
 
-pub overflow_add-d : goal.overflow_add-d
-overflow_add-d c = omega (arith, c.requires.room, c.requires.here.between.sized.rows-most)
-
 pub loop-d-init : goal.loop-d-init
 loop-d-init c = (omega arith, omega (arith, c.requires.room), λ g r s. s, beyond-none _ _)
 
@@ -43,7 +40,7 @@ offset_bounds-best-number c = omega (arith, c.pair_number-number.ensures.1)
 pub bounds-best-number : goal.bounds-best-number
 bounds-best-number c =
     let above : c.args.b.0 < c.loop-d.d = omega (arith, c.loop-d.invariant.0) in
-    number-few c.args.plan.rows c.args.b.0 c.loop-d.d _ c.requires.here.between.sized.rows-most (above) c.loop-d-test.true
+    number-few c.args.plan.rows c.args.b.0 c.loop-d.d _ c.requires.here.between.sized.rows-most (above) (omega (arith, c.loop-d-test.true))
     c.pair_number-number.ensures.0
 
 pub lower_piece-requires : goal.lower_piece-requires
@@ -60,12 +57,9 @@ lower_piece-requires c =
       here =
           at_piece c.requires.grid c.requires.rule c.args.cells.now c.args.plan c.loop-d.table c.args.best.now
           c.args.a c.args.c c.args.b (record { 0 = c.loop-d.d }) _ _
-          (c.loop-d.invariant.2 c.requires.grid c.requires.rule c.requires.here) c.requires.ac c.requires.cx (above) c.loop-d-test.true
+          (c.loop-d.invariant.2 c.requires.grid c.requires.rule c.requires.here) c.requires.ac c.requires.cx (above) (omega (arith, c.loop-d-test.true))
           (entry_here) (wheel-here);
     }
-
-pub overflow_add-d-in-loop-d : goal.overflow_add-d-in-loop-d
-overflow_add-d-in-loop-d c = omega (arith, c.loop-d-test.true, c.requires.here.between.sized.rows-most)
 
 pub loop-d-preserved : goal.loop-d-preserved
 loop-d-preserved c =
@@ -81,7 +75,7 @@ loop-d-preserved c =
     = λ g r w.
     piece_step g r c.args.cells.now c.args.plan c.loop-d.table c.args.best.now
     c.args.a c.args.c c.args.b (record { 0 = c.loop-d.d }) _ _ c.lower_piece.new.table
-    c.requires.ac c.requires.cx (above) c.loop-d-test.true
+    c.requires.ac c.requires.cx (above) (omega (arith, c.loop-d-test.true))
     (entry_here) (wheel-here) (c.lower_piece.ensures g r) (c.loop-d.invariant.2 g r w) in (
       omega (arith, above),
       omega (arith, c.loop-d-test.true),

@@ -1,5 +1,5 @@
 -- `lowering::lower_pieces` meets its contract. The loop's invariant: the pieces that begin at b and end below d are lowered. Assumes nothing.
-use Prim.Native.Nat.{◌+◌, ◌-◌, ◌≤◌}
+use Prim.Native.Nat.{◌+◌, ◌≤◌}
 use Rattle.outline.specs.Grid.{Grid}
 use Rattle.rule.specs.declared.Rule.{Rule}
 use Rattle.table.specs.Entry.{entry_count}
@@ -12,6 +12,3 @@ invariant-loop-d l = (l.low + 3 ≤ l.d)
     × (l.d ≤ l.rows + 1)
     × ((g : Grid) (r : Rule) → Standing g r l.initial.table l.cells l.best l.plan l.a.0 l.c.0 l.b.0 (l.b.0 + 3) → Standing g r l.table l.cells l.best l.plan l.a.0 l.c.0 l.b.0 l.d)
     × Beyond (entry_count l.plan.columns l.plan.rows) l.initial.table l.table
-
-abbrev pub decreases-loop-d : goal.decreases-loop-d
-decreases-loop-d l = l.rows + 1 - l.d

@@ -1,12 +1,8 @@
 -- `lowering::lower_strips` meets its contract. The loop's invariant: the strips that begin at a and end below c are lowered. Assumes nothing.
 use native.Mathlib.Omega.{arith}
 use Rattle.table.proofs.Fill.{beyond-none, beyond_trans}
-use Rattle.lowering.proofs.Costs.{plan-small}
 use Rattle.lowering.proofs.Steps.{lowering_last}
 use Rattle.lowering.proofs.lower_strips.Goals as goal
-
-pub overflow_add-c : goal.overflow_add-c
-overflow_add-c c = omega (arith, c.requires.room, (plan-small _ _ _ _ _ c.requires.here.between).0)
 
 pub loop-c-init : goal.loop-c-init
 loop-c-init c = (omega arith, omega (arith, c.requires.room), λ g r w. w, beyond-none _ _)
@@ -20,9 +16,6 @@ lower_strip-requires c =
       ac = omega (arith, c.loop-c.invariant.0);
       cx = omega (arith, c.loop-c-test.true);
     }
-
-pub overflow_add-c-in-loop-c : goal.overflow_add-c-in-loop-c
-overflow_add-c-in-loop-c c = omega (arith, c.loop-c-test.true, (plan-small _ _ _ _ _ c.requires.here.between).0)
 
 pub loop-c-preserved : goal.loop-c-preserved
 loop-c-preserved c = (

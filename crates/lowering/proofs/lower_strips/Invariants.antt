@@ -1,5 +1,5 @@
 -- `lowering::lower_strips` meets its contract. The loop's invariant: the strips that begin at a and end below c are lowered. Assumes nothing.
-use Prim.Native.Nat.{◌+◌, ◌-◌, ◌≤◌}
+use Prim.Native.Nat.{◌+◌, ◌≤◌}
 use Rattle.outline.specs.Grid.{Grid}
 use Rattle.rule.specs.declared.Rule.{Rule}
 use Rattle.table.specs.Entry.{entry_count}
@@ -12,6 +12,3 @@ invariant-loop-c l = (l.low + 3 ≤ l.c)
     × (l.c ≤ l.columns + 1)
     × ((g : Grid) (r : Rule) → Lowering g r l.initial.table l.cells l.plan l.a.0 (l.a.0 + 3) → Lowering g r l.table l.cells l.plan l.a.0 l.c)
     × Beyond (entry_count l.plan.columns l.plan.rows) l.initial.table l.table
-
-abbrev pub decreases-loop-c : goal.decreases-loop-c
-decreases-loop-c l = l.columns + 1 - l.c

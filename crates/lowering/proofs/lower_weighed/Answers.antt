@@ -4,9 +4,6 @@ use Rattle.table.proofs.Fill.{beyond-none, beyond_trans}
 use Rattle.lowering.proofs.Steps.{standing-high, standing_down, standing-all}
 use Rattle.lowering.proofs.lower_weighed.Goals as goal
 
-pub overflow_sub-b : goal.overflow_sub-b
-overflow_sub-b c = omega (arith, c.requires.here.between.sized.rows-some)
-
 pub loop-b-init : goal.loop-b-init
 loop-b-init c = (omega arith, λ g r w. standing-high g r _ _ _ _ _ _ w, beyond-none _ _)
 

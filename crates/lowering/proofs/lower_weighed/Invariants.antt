@@ -12,6 +12,3 @@ invariant-loop-b l = (l.b ≤ l.rows - 2)
     × ((g : Grid) (r : Rule) → Standing g r l.initial.table l.cells l.best l.plan l.a.0 l.c.0 l.plan.rows (l.plan.rows + 1)
     → Standing g r l.table l.cells l.best l.plan l.a.0 l.c.0 l.b (l.plan.rows + 1))
     × Beyond (entry_count l.plan.columns l.plan.rows) l.initial.table l.table
-
-abbrev pub decreases-loop-b : goal.decreases-loop-b
-decreases-loop-b l = l.b

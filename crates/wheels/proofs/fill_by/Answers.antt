@@ -19,6 +19,9 @@ measure-requires c = record { laid = laid-here c.args.columns c.args.rows c.args
 pub loop-w-init : goal.loop-w-init
 loop-w-init c = (omega arith, (omega (arith, fill_limits c.args.columns c.args.rows c.args.xs.now c.args.ys.now c.args.cells.now c.args.rule c.args.table.now c.requires.ready), (refl, (grown-none _ c.requires.ready.sound, (state_none _ _ _ _, (λ q. kept-none _ _ _ _ _ (room_at _ c.args.rows _ _ c.pair_count-pairs.ensures.0 (c.requires.rows_in_bounds q)), refl))))))
 
+pub overflow_add-w-end : goal.overflow_add-w-end
+overflow_add-w-end c = record { fits = omega (arith, fill_limits c.args.columns c.args.rows c.args.xs.now c.args.ys.now c.args.cells.now c.args.rule c.args.table.now c.requires.ready) }
+
 pub overflow_add-count : goal.overflow_add-count
 overflow_add-count c = record { fits = omega (arith, fill_limits c.args.columns c.args.rows c.args.xs.now c.args.ys.now c.args.cells.now c.args.rule c.args.table.now c.requires.ready) }
 
@@ -27,61 +30,61 @@ overflow_sub-count c = omega (arith, c.loop-w.invariant.1.0)
 
 pub grow-requires : goal.grow-requires
 grow-requires c =
-    let m : c.loop-w.w ≤ c.args.columns = c.loop-w-test.true in
+    let m : c.loop-w.w ≤ c.args.columns = omega (arith, c.loop-w-test.true) in
     growable_at c.args.columns c.args.rows c.args.xs.now c.args.ys.now c.args.cells.now (laid-here c.args.columns c.args.rows c.args.xs.now c.args.ys.now c.args.cells.now c.args.rule c.args.table.now c.requires.ready) _ c.measure.ensures c.loop-w.w c.loop-w.invariant.0 m c.loop-w.sums c.loop-w.invariant.1.1.1.0
 
 pub widths-requires : goal.widths-requires
 widths-requires c =
-    let m : c.loop-w.w ≤ c.args.columns = c.loop-w-test.true in
+    let m : c.loop-w.w ≤ c.args.columns = omega (arith, c.loop-w-test.true) in
     (c.loop-w.invariant.1.1.0, rising-at c.args.columns c.args.rows c.args.xs.now c.args.ys.now c.args.cells.now (laid-here c.args.columns c.args.rows c.args.xs.now c.args.ys.now c.args.cells.now c.args.rule c.args.table.now c.requires.ready) c.loop-w.w m)
 
 pub weigh_strips-requires : goal.weigh_strips-requires
 weigh_strips-requires c =
-    let m : c.loop-w.w ≤ c.args.columns = c.loop-w-test.true in
+    let m : c.loop-w.w ≤ c.args.columns = omega (arith, c.loop-w-test.true) in
     record { columns_bound = (asks_weigh c.args.mode c.args.columns c.args.rows c.args.xs.now c.args.ys.now c.args.cells.now c.args.rule c.args.table.now c.requires.ready c.loop-w.w c.loop-w.invariant.0 m c.loop-w.table c.loop-w.side c.loop-w.invariant.1.1.1.1.0 _ c.pair_count-pairs.ensures.0).0; le_w = (asks_weigh c.args.mode c.args.columns c.args.rows c.args.xs.now c.args.ys.now c.args.cells.now c.args.rule c.args.table.now c.requires.ready c.loop-w.w c.loop-w.invariant.0 m c.loop-w.table c.loop-w.side c.loop-w.invariant.1.1.1.1.0 _ c.pair_count-pairs.ensures.0).1.0; by_index = (asks_weigh c.args.mode c.args.columns c.args.rows c.args.xs.now c.args.ys.now c.args.cells.now c.args.rule c.args.table.now c.requires.ready c.loop-w.w c.loop-w.invariant.0 m c.loop-w.table c.loop-w.side c.loop-w.invariant.1.1.1.1.0 _ c.pair_count-pairs.ensures.0).1.1 }
 
 pub slice_bounds-weigh_by-end : goal.slice_bounds-weigh_by-end
 slice_bounds-weigh_by-end c =
-    let m : c.loop-w.w ≤ c.args.columns = c.loop-w-test.true in
+    let m : c.loop-w.w ≤ c.args.columns = omega (arith, c.loop-w-test.true) in
     sym (c.weigh_strips.ensures.long ∙ c.loop-w.invariant.1.1.1.1.0.side-long)
 
 pub weigh_by-requires : goal.weigh_by-requires
 weigh_by-requires c =
-    let m : c.loop-w.w ≤ c.args.columns = c.loop-w-test.true in
+    let m : c.loop-w.w ≤ c.args.columns = omega (arith, c.loop-w-test.true) in
     asks_by c.args.mode c.args.columns c.args.rows c.args.xs.now c.args.ys.now c.args.cells.now c.args.rule c.args.table.now c.requires.ready c.loop-w.w c.loop-w.invariant.0 m c.loop-w.table c.loop-w.side c.loop-w.invariant.1.1.1.1.0 _ c.pair_count-pairs.ensures.0 c.loop-w.store c.loop-w.invariant.1.1.1.1.1.0 _ refl _ c.weigh_strips.ensures
 
 pub slice_bounds-settle-end : goal.slice_bounds-settle-end
 slice_bounds-settle-end c =
-    let m : c.loop-w.w ≤ c.args.columns = c.loop-w-test.true in
+    let m : c.loop-w.w ≤ c.args.columns = omega (arith, c.loop-w-test.true) in
     sym (c.weigh_by.ensures.long ∙ c.weigh_strips.ensures.long ∙ c.loop-w.invariant.1.1.1.1.0.side-long)
 
 pub slice_bounds-settle-end-in-loop-w : goal.slice_bounds-settle-end-in-loop-w
 slice_bounds-settle-end-in-loop-w c =
-    let m : c.loop-w.w ≤ c.args.columns = c.loop-w-test.true in
+    let m : c.loop-w.w ≤ c.args.columns = omega (arith, c.loop-w-test.true) in
     let grown = grown-at c.args.columns c.args.rows c.args.xs.now c.args.ys.now c.args.cells.now (laid-here c.args.columns c.args.rows c.args.xs.now c.args.ys.now c.args.cells.now c.args.rule c.args.table.now c.requires.ready) _ c.measure.ensures c.loop-w.w c.loop-w.invariant.0 m c.loop-w.sums c.loop-w.invariant.1.1.1.0 _ c.grow.ensures in
     sym grown.0.long
 
 pub slice_bounds-settle-end-in-loop-w-2 : goal.slice_bounds-settle-end-in-loop-w-2
 slice_bounds-settle-end-in-loop-w-2 c =
-    let m : c.loop-w.w ≤ c.args.columns = c.loop-w-test.true in
+    let m : c.loop-w.w ≤ c.args.columns = omega (arith, c.loop-w-test.true) in
     let wide = widths-at c.args.columns c.args.rows c.args.xs.now c.args.ys.now c.args.cells.now (laid-here c.args.columns c.args.rows c.args.xs.now c.args.ys.now c.args.cells.now c.args.rule c.args.table.now c.requires.ready) c.loop-w.w _ c.widths.ensures in
     sym wide.long
 
 pub overflow_cast-w : goal.overflow_cast-w
 overflow_cast-w c =
-    let m : c.loop-w.w ≤ c.args.columns = c.loop-w-test.true in
+    let m : c.loop-w.w ≤ c.args.columns = omega (arith, c.loop-w-test.true) in
     record { fits = omega (arith, m, fill_limits c.args.columns c.args.rows c.args.xs.now c.args.ys.now c.args.cells.now c.args.rule c.args.table.now c.requires.ready) }
 
 pub settle-requires : goal.settle-requires
 settle-requires c =
-    let m : c.loop-w.w ≤ c.args.columns = c.loop-w-test.true in
+    let m : c.loop-w.w ≤ c.args.columns = omega (arith, c.loop-w-test.true) in
     let grown = grown-at c.args.columns c.args.rows c.args.xs.now c.args.ys.now c.args.cells.now (laid-here c.args.columns c.args.rows c.args.xs.now c.args.ys.now c.args.cells.now c.args.rule c.args.table.now c.requires.ready) _ c.measure.ensures c.loop-w.w c.loop-w.invariant.0 m c.loop-w.sums c.loop-w.invariant.1.1.1.0 _ c.grow.ensures in
     let wide = widths-at c.args.columns c.args.rows c.args.xs.now c.args.ys.now c.args.cells.now (laid-here c.args.columns c.args.rows c.args.xs.now c.args.ys.now c.args.cells.now c.args.rule c.args.table.now c.requires.ready) c.loop-w.w _ c.widths.ensures in
     record { measured = (asks_settle c.args.mode c.args.columns c.args.rows c.args.xs.now c.args.ys.now c.args.cells.now c.args.rule c.args.table.now c.requires.ready c.loop-w.w c.loop-w.invariant.0 m c.loop-w.table c.loop-w.side c.loop-w.invariant.1.1.1.1.0 _ c.pair_count-pairs.ensures.0 _ _ grown wide _ (c.weigh_by.ensures.long ∙ c.weigh_strips.ensures.long ∙ c.loop-w.invariant.1.1.1.1.0.side-long) _ refl (start-by c.args.mode c.args.columns c.args.rows c.args.xs.now c.args.ys.now c.args.cells.now c.args.rule c.args.table.now c.requires.ready c.loop-w.w c.loop-w.invariant.0 m c.loop-w.table c.loop-w.side c.loop-w.invariant.1.1.1.1.0 _ c.pair_count-pairs.ensures.0 c.loop-w.store c.loop-w.invariant.1.1.1.1.1.0 _ refl _ _ grown wide _ c.weigh_strips.ensures _ c.weigh_by.ensures)).0; pairs_value = (asks_settle c.args.mode c.args.columns c.args.rows c.args.xs.now c.args.ys.now c.args.cells.now c.args.rule c.args.table.now c.requires.ready c.loop-w.w c.loop-w.invariant.0 m c.loop-w.table c.loop-w.side c.loop-w.invariant.1.1.1.1.0 _ c.pair_count-pairs.ensures.0 _ _ grown wide _ (c.weigh_by.ensures.long ∙ c.weigh_strips.ensures.long ∙ c.loop-w.invariant.1.1.1.1.0.side-long) _ refl (start-by c.args.mode c.args.columns c.args.rows c.args.xs.now c.args.ys.now c.args.cells.now c.args.rule c.args.table.now c.requires.ready c.loop-w.w c.loop-w.invariant.0 m c.loop-w.table c.loop-w.side c.loop-w.invariant.1.1.1.1.0 _ c.pair_count-pairs.ensures.0 c.loop-w.store c.loop-w.invariant.1.1.1.1.1.0 _ refl _ _ grown wide _ c.weigh_strips.ensures _ c.weigh_by.ensures)).1.0; priceable = (asks_settle c.args.mode c.args.columns c.args.rows c.args.xs.now c.args.ys.now c.args.cells.now c.args.rule c.args.table.now c.requires.ready c.loop-w.w c.loop-w.invariant.0 m c.loop-w.table c.loop-w.side c.loop-w.invariant.1.1.1.1.0 _ c.pair_count-pairs.ensures.0 _ _ grown wide _ (c.weigh_by.ensures.long ∙ c.weigh_strips.ensures.long ∙ c.loop-w.invariant.1.1.1.1.0.side-long) _ refl (start-by c.args.mode c.args.columns c.args.rows c.args.xs.now c.args.ys.now c.args.cells.now c.args.rule c.args.table.now c.requires.ready c.loop-w.w c.loop-w.invariant.0 m c.loop-w.table c.loop-w.side c.loop-w.invariant.1.1.1.1.0 _ c.pair_count-pairs.ensures.0 c.loop-w.store c.loop-w.invariant.1.1.1.1.1.0 _ refl _ _ grown wide _ c.weigh_strips.ensures _ c.weigh_by.ensures)).1.1 }
 
 pub slice_bounds-keep_by-end : goal.slice_bounds-keep_by-end
 slice_bounds-keep_by-end c =
-    let m : c.loop-w.w ≤ c.args.columns = c.loop-w-test.true in
+    let m : c.loop-w.w ≤ c.args.columns = omega (arith, c.loop-w-test.true) in
     sym (c.settle.auto.side ∙ c.weigh_by.ensures.long ∙ c.weigh_strips.ensures.long ∙ c.loop-w.invariant.1.1.1.1.0.side-long)
 
 pub overflow_sub-w : goal.overflow_sub-w
@@ -89,12 +92,12 @@ overflow_sub-w c = c.loop-w.invariant.0
 
 pub overflow_mul-w : goal.overflow_mul-w
 overflow_mul-w c =
-    let m : c.loop-w.w ≤ c.args.columns = c.loop-w-test.true in
+    let m : c.loop-w.w ≤ c.args.columns = omega (arith, c.loop-w-test.true) in
     record { fits = omega (arith, m, row-most (c.loop-w.w - 1) _ (omega (arith, m, fill_limits c.args.columns c.args.rows c.args.xs.now c.args.ys.now c.args.cells.now c.args.rule c.args.table.now c.requires.ready)) c.pair_count-pairs.ensures.1) }
 
 pub overflow_mul-w-in-loop-w : goal.overflow_mul-w-in-loop-w
 overflow_mul-w-in-loop-w c =
-    let m : c.loop-w.w ≤ c.args.columns = c.loop-w-test.true in
+    let m : c.loop-w.w ≤ c.args.columns = omega (arith, c.loop-w-test.true) in
     record { fits = omega (arith, m, row-most (c.loop-w.w - 1) _ (omega (arith, m, fill_limits c.args.columns c.args.rows c.args.xs.now c.args.ys.now c.args.cells.now c.args.rule c.args.table.now c.requires.ready)) c.pair_count-pairs.ensures.1) }
 
 pub overflow_mul-pairs : goal.overflow_mul-pairs
@@ -102,29 +105,19 @@ overflow_mul-pairs c = record { fits = omega (arith, c.pair_count-pairs.ensures.
 
 pub keep_by-requires : goal.keep_by-requires
 keep_by-requires c =
-    let m : c.loop-w.w ≤ c.args.columns = c.loop-w-test.true in
+    let m : c.loop-w.w ≤ c.args.columns = omega (arith, c.loop-w-test.true) in
     λ q.
     let k = asks_keep_by c.args.mode c.args.columns c.args.rows c.args.xs.now c.args.ys.now c.args.cells.now c.args.rule c.args.table.now c.requires.ready c.loop-w.w c.loop-w.invariant.0 m c.loop-w.table c.loop-w.side c.loop-w.invariant.1.1.1.1.0 _ c.pair_count-pairs.ensures.0 c.loop-w.store c.loop-w.invariant.1.1.1.1.1.0 _ refl q in
     (omega (arith, k.0), omega (arith, k.1, c.settle.auto.side ∙ c.weigh_by.ensures.long ∙ c.weigh_strips.ensures.long ∙ c.loop-w.invariant.1.1.1.1.0.side-long))
 
 pub store_strips-requires : goal.store_strips-requires
 store_strips-requires c =
-    let m : c.loop-w.w ≤ c.args.columns = c.loop-w-test.true in
+    let m : c.loop-w.w ≤ c.args.columns = omega (arith, c.loop-w-test.true) in
     record { columns_bound = (asks_weigh c.args.mode c.args.columns c.args.rows c.args.xs.now c.args.ys.now c.args.cells.now c.args.rule c.args.table.now c.requires.ready c.loop-w.w c.loop-w.invariant.0 m c.loop-w.table c.loop-w.side c.loop-w.invariant.1.1.1.1.0 _ c.pair_count-pairs.ensures.0).0; le_w = (c.loop-w.invariant.0, m) }
-
-pub overflow_add-w : goal.overflow_add-w
-overflow_add-w c =
-    let m : c.loop-w.w ≤ c.args.columns = c.loop-w-test.true in
-    record { fits = omega (arith, m, fill_limits c.args.columns c.args.rows c.args.xs.now c.args.ys.now c.args.cells.now c.args.rule c.args.table.now c.requires.ready) }
-
-pub loop-w-smaller : goal.loop-w-smaller
-loop-w-smaller c =
-    let m : c.loop-w.w ≤ c.args.columns = c.loop-w-test.true in
-    omega (arith, m)
 
 pub loop-w-preserved : goal.loop-w-preserved
 loop-w-preserved c =
-    let m : c.loop-w.w ≤ c.args.columns = c.loop-w-test.true in
+    let m : c.loop-w.w ≤ c.args.columns = omega (arith, c.loop-w-test.true) in
     let grown = grown-at c.args.columns c.args.rows c.args.xs.now c.args.ys.now c.args.cells.now (laid-here c.args.columns c.args.rows c.args.xs.now c.args.ys.now c.args.cells.now c.args.rule c.args.table.now c.requires.ready) _ c.measure.ensures c.loop-w.w c.loop-w.invariant.0 m c.loop-w.sums c.loop-w.invariant.1.1.1.0 _ c.grow.ensures in
     let wide = widths-at c.args.columns c.args.rows c.args.xs.now c.args.ys.now c.args.cells.now (laid-here c.args.columns c.args.rows c.args.xs.now c.args.ys.now c.args.cells.now c.args.rule c.args.table.now c.requires.ready) c.loop-w.w _ c.widths.ensures in
     let start = (start-by c.args.mode c.args.columns c.args.rows c.args.xs.now c.args.ys.now c.args.cells.now c.args.rule c.args.table.now c.requires.ready c.loop-w.w c.loop-w.invariant.0 m c.loop-w.table c.loop-w.side c.loop-w.invariant.1.1.1.1.0 _ c.pair_count-pairs.ensures.0 c.loop-w.store c.loop-w.invariant.1.1.1.1.1.0 _ refl _ _ grown wide _ c.weigh_strips.ensures _ c.weigh_by.ensures) in (
@@ -148,4 +141,4 @@ loop-w-preserved c =
     )
 
 pub returns : goal.returns
-returns c = state_all c.args.mode c.args.columns c.args.rows c.args.xs.now c.args.ys.now c.args.cells.now c.args.rule c.args.table.now c.requires.ready c.loop-w.w c.loop-w.table c.loop-w.side c.loop-w-test.false c.loop-w.invariant.1.1.1.1.0
+returns c = state_all c.args.mode c.args.columns c.args.rows c.args.xs.now c.args.ys.now c.args.cells.now c.args.rule c.args.table.now c.requires.ready c.loop-w.w c.loop-w.table c.loop-w.side (omega (arith, c.loop-w-test.false)) c.loop-w.invariant.1.1.1.1.0

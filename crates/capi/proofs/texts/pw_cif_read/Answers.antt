@@ -2,8 +2,8 @@
 use Rattle.capi.proofs.TextLent.{read-shots, read-refused}
 use Rattle.capi.proofs.texts.pw_cif_read.Goals as goal
 
-pub returns-in-Shots : goal.returns-in-Shots
-returns-in-Shots c = record { settled = read-shots c.read.ensures c.in-Shots.is }
+pub returns-in-Ok : goal.returns-in-Ok
+returns-in-Ok c = record { settled = read-shots c.read.ensures c.in-Ok.is }
 
-pub returns-in-Refused : goal.returns-in-Refused
-returns-in-Refused c = record { settled = read-refused c.read.ensures c.in-Refused.is c.refusal_no.ensures.settled }
+pub returns-in-Err : goal.returns-in-Err
+returns-in-Err c = record { settled = read-refused c.read.ensures c.in-Err.is c.refuse.ensures.number c.refuse.ensures.place }

@@ -4,8 +4,8 @@ use lib.ListN.{length}
 use Rattle.cif.proofs.Boxing.{Walked}
 use Rattle.cif.proofs.reading.boxes.Given as goal
 
-abbrev pub invariant-loop-past : goal.invariant-loop-past
-invariant-loop-past l = Walked l.text l.from l.count l.next
+abbrev pub invariant-loop-found : goal.invariant-loop-found
+invariant-loop-found l = Walked l.text l.from l.count l.next
 
-abbrev pub decreases-loop-past : goal.decreases-loop-past
-decreases-loop-past l = length l.text - l.next
+abbrev pub decreases-loop-found : goal.decreases-loop-found
+decreases-loop-found l = length l.text - l.next

@@ -14,4 +14,4 @@ pub bounds-list-at-4 : goal.bounds-list-at-4
 bounds-list-at-4 c = simp length-set (omega arith)
 
 pub returns : goal.returns
-returns c = shot-put c.args.list.now c.args.at c.args.x_low c.args.y_low c.args.x_high c.args.y_high
+returns c = shot-put c.args.list.now c.args.at c.args.shot.x_low c.args.shot.y_low c.args.shot.x_high c.args.shot.y_high

@@ -4,6 +4,3 @@ use Rattle.count.proofs.corners.spared.Given as goal
 
 abbrev pub invariant-loop-column : goal.invariant-loop-column
 invariant-loop-column l = Widening l.cells l.columns l.rows l.column l.reaches l.sum
-
-abbrev pub decreases-loop-column : goal.decreases-loop-column
-decreases-loop-column l = l.column

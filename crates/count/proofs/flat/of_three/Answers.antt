@@ -9,36 +9,36 @@ returns-then-middle-low c = (three-apart _ _ _ _ _ _ _ c.if-middle-low.true (ome
 
 pub overflow_mul-lower : goal.overflow_mul-lower
 overflow_mul-lower c =
-    let lower : c.least-two.result * (c.least-two.result + 1) ≤ 240 = (product _ _ 16 (omega (arith, c.least-two.ensures, c.requires.0.1)) (omega (arith, c.least-two.ensures, c.requires.0.1))) in
+    let lower : c.min-two.result * (c.min-two.result + 1) ≤ 240 = (product _ _ 16 (omega (arith, c.min-two.ensures, c.requires.0.1)) (omega (arith, c.min-two.ensures, c.requires.0.1))) in
     omega (arith, lower)
 
 pub overflow_add-lower-2 : goal.overflow_add-lower-2
 overflow_add-lower-2 c =
-    let lower : c.least-two.result * (c.least-two.result + 1) ≤ 240 = (product _ _ 16 (omega (arith, c.least-two.ensures, c.requires.0.1)) (omega (arith, c.least-two.ensures, c.requires.0.1))) in
+    let lower : c.min-two.result * (c.min-two.result + 1) ≤ 240 = (product _ _ 16 (omega (arith, c.min-two.ensures, c.requires.0.1)) (omega (arith, c.min-two.ensures, c.requires.0.1))) in
     omega (arith, lower, c.of_one.ensures.1, c.of_two.ensures.1)
 
 pub returns-then-high-low : goal.returns-then-high-low
 returns-then-high-low c =
-    let lower : c.least-two.result * (c.least-two.result + 1) ≤ 240 = (product _ _ 16 (omega (arith, c.least-two.ensures, c.requires.0.1)) (omega (arith, c.least-two.ensures, c.requires.0.1))) in (
-      three-lower _ _ _ _ _ _ _ _ c.if-middle-low.false c.if-high-low.true (omega (arith, c.of_one.ensures.0, c.of_two.ensures.0)) c.least-two.ensures,
+    let lower : c.min-two.result * (c.min-two.result + 1) ≤ 240 = (product _ _ 16 (omega (arith, c.min-two.ensures, c.requires.0.1)) (omega (arith, c.min-two.ensures, c.requires.0.1))) in (
+      three-lower _ _ _ _ _ _ _ _ c.if-middle-low.false c.if-high-low.true (omega (arith, c.of_one.ensures.0, c.of_two.ensures.0)) c.min-two.ensures,
       omega (arith, c.of_one.ensures.1, c.of_two.ensures.1, lower),
     )
 
 pub overflow_mul-result : goal.overflow_mul-result
 overflow_mul-result c =
-    let all : c.least-three.result * (c.least-three.result + 3) ≤ 270 = (product _ _ 18 (omega (arith, c.least-three.ensures, c.requires.1.1.1)) (omega (arith, c.least-three.ensures, c.requires.1.1.1))) in
+    let all : c.min-three.result * (c.min-three.result + 3) ≤ 270 = (product _ _ 18 (omega (arith, c.min-three.ensures, c.requires.1.1.1)) (omega (arith, c.min-three.ensures, c.requires.1.1.1))) in
     omega (arith, all)
 
 pub overflow_add-result-2 : goal.overflow_add-result-2
 overflow_add-result-2 c =
-    let lower : c.least-two.result * (c.least-two.result + 1) ≤ 240 = (product _ _ 16 (omega (arith, c.least-two.ensures, c.requires.0.1)) (omega (arith, c.least-two.ensures, c.requires.0.1))) in
-    let all : c.least-three.result * (c.least-three.result + 3) ≤ 270 = (product _ _ 18 (omega (arith, c.least-three.ensures, c.requires.1.1.1)) (omega (arith, c.least-three.ensures, c.requires.1.1.1))) in
+    let lower : c.min-two.result * (c.min-two.result + 1) ≤ 240 = (product _ _ 16 (omega (arith, c.min-two.ensures, c.requires.0.1)) (omega (arith, c.min-two.ensures, c.requires.0.1))) in
+    let all : c.min-three.result * (c.min-three.result + 3) ≤ 270 = (product _ _ 18 (omega (arith, c.min-three.ensures, c.requires.1.1.1)) (omega (arith, c.min-three.ensures, c.requires.1.1.1))) in
     (omega (arith, lower, all, c.of_one.ensures.1, c.of_two.ensures.1))
 
 pub returns : goal.returns
 returns c =
-    let lower : c.least-two.result * (c.least-two.result + 1) ≤ 240 = (product _ _ 16 (omega (arith, c.least-two.ensures, c.requires.0.1)) (omega (arith, c.least-two.ensures, c.requires.0.1))) in
-    let all : c.least-three.result * (c.least-three.result + 3) ≤ 270 = (product _ _ 18 (omega (arith, c.least-three.ensures, c.requires.1.1.1)) (omega (arith, c.least-three.ensures, c.requires.1.1.1))) in (
-      three-alike _ _ _ _ _ _ _ _ _ c.if-middle-low.false c.if-high-low.false (omega (arith, c.of_one.ensures.0, c.of_two.ensures.0)) c.least-two.ensures c.least-three.ensures,
+    let lower : c.min-two.result * (c.min-two.result + 1) ≤ 240 = (product _ _ 16 (omega (arith, c.min-two.ensures, c.requires.0.1)) (omega (arith, c.min-two.ensures, c.requires.0.1))) in
+    let all : c.min-three.result * (c.min-three.result + 3) ≤ 270 = (product _ _ 18 (omega (arith, c.min-three.ensures, c.requires.1.1.1)) (omega (arith, c.min-three.ensures, c.requires.1.1.1))) in (
+      three-alike _ _ _ _ _ _ _ _ _ c.if-middle-low.false c.if-high-low.false (omega (arith, c.of_one.ensures.0, c.of_two.ensures.0)) c.min-two.ensures c.min-three.ensures,
       omega (arith, c.of_one.ensures.1, c.of_two.ensures.1, lower, all),
     )

@@ -6,6 +6,3 @@ use Rattle.count.proofs.flat.spared_of_three.Given as goal
 
 abbrev pub invariant-loop-column : goal.invariant-loop-column
 invariant-loop-column l = Passing l.cells l.columns 3 l.column l.sum × (l.low ≡ reach_at l.cells l.columns l.column 0) × (l.middle ≡ reach_at l.cells l.columns l.column 1) × (l.high ≡ reach_at l.cells l.columns l.column 2)
-
-abbrev pub decreases-loop-column : goal.decreases-loop-column
-decreases-loop-column l = l.column

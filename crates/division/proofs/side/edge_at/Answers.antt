@@ -9,16 +9,16 @@ overflow_mul-result c = record { fits = omega arith }
 
 pub overflow_add-result : goal.overflow_add-result
 unfolding edge
-overflow_add-result c = record { fits = omega (arith, c.lesser.ensures) }
+overflow_add-result c = record { fits = omega (arith, c.min.ensures) }
 
 pub overflow_add-result-2 : goal.overflow_add-result-2
 unfolding edge
-overflow_add-result-2 c = record { fits = omega (arith, c.lesser.ensures) }
+overflow_add-result-2 c = record { fits = omega (arith, c.min.ensures) }
 
 pub overflow_cast-result : goal.overflow_cast-result
 unfolding edge
-overflow_cast-result c = omega (arith, c.lesser.ensures)
+overflow_cast-result c = omega (arith, c.min.ensures)
 
 pub returns : goal.returns
 unfolding edge
-returns c = omega (arith, c.lesser.ensures)
+returns c = omega (arith, c.min.ensures)

@@ -8,4 +8,4 @@ use Rattle.division.proofs.side.side_of.Goals as goal
 
 pub returns : goal.returns
 unfolding side_of part_count
-returns c = (refl, omega (arith, edge-last c.args.largest c.args.low c.args.high c.requires.1.0 c.requires.0))
+returns c = rw c.from-from.ensures (rw c.from.ensures (refl, omega (arith, edge-last c.args.largest c.args.low c.args.high c.requires.1.0 c.requires.0)))

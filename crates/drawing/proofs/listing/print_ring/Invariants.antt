@@ -1,10 +1,6 @@
--- `print_ring` forgets no failure: no corner does. The loop passes each corner once. Assumes nothing.
-use Prim.Native.Nat.{◌-◌}
+-- A write that failed is remembered from each corner to the next.
 use Rattle.terminal.specs.Output.{Remembers}
 use Rattle.drawing.proofs.listing.print_ring.Given as goal
 
-abbrev pub invariant-loop-k : goal.invariant-loop-k
-invariant-loop-k l = Remembers l.initial.next l.next
-
-abbrev pub decreases-loop-k : goal.decreases-loop-k
-decreases-loop-k l = l.to - l.k
+abbrev pub invariant-loop-x : goal.invariant-loop-x
+invariant-loop-x l = Remembers l.fn.out l.next

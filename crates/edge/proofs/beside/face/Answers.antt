@@ -1,15 +1,20 @@
 -- `edge::beside::face` meets its contract. Assumes nothing.
+use Rattle.edge.specs.Steps.{side_no}
 use Rattle.edge.proofs.Laws.{face_both, face_low, face_high, face_none}
 use Rattle.edge.proofs.beside.face.Goals as goal
 
 pub returns-then-beneath : goal.returns-then-beneath
-returns-then-beneath c = face_both _ _ _ c.if-beyond.true c.if-beneath.true
+unfolding side_no
+returns-then-beneath c n = face_both _ _ n c.if-beyond.true c.if-beneath.true
 
 pub returns-then-beyond : goal.returns-then-beyond
-returns-then-beyond c = face_low _ _ _ c.if-beyond.true c.if-beneath.false
+unfolding side_no
+returns-then-beyond c n = face_low _ _ n c.if-beyond.true c.if-beneath.false
 
 pub returns-then-beneath-2 : goal.returns-then-beneath-2
-returns-then-beneath-2 c = face_high _ _ _ c.if-beyond.false c.if-beneath-2.true
+unfolding side_no
+returns-then-beneath-2 c n = face_high _ _ n c.if-beyond.false c.if-beneath-2.true
 
 pub returns : goal.returns
-returns c = face_none _ _ _ c.if-beyond.false c.if-beneath-2.false
+unfolding side_no
+returns c n = face_none _ _ n c.if-beyond.false c.if-beneath-2.false

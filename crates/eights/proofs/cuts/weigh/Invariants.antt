@@ -1,11 +1,7 @@
 -- `eights::cuts::weigh` meets its contract: the lanes before the l-th have the cut weighed. Assumes nothing.
-use Prim.Native.Nat.{◌-◌, ◌≤◌}
 use Rattle.table.specs.Run.{Wrote}
 use Rattle.eights.specs.Store.{weighed}
 use Rattle.eights.proofs.cuts.weigh.Given as goal
 
 abbrev pub invariant-loop-l : goal.invariant-loop-l
-invariant-loop-l l = (l.l ≤ 8) × Wrote (weighed l.initial.best l.store l.low l.high) 0 l.l l.initial.best l.best
-
-abbrev pub decreases-loop-l : goal.decreases-loop-l
-decreases-loop-l l = 8 - l.l
+invariant-loop-l l = Wrote (weighed l.initial.best l.store l.low l.high) 0 l.l l.initial.best l.best

@@ -3,9 +3,6 @@ use native.Mathlib.Omega.{arith}
 use Rattle.eights.proofs.Cut.{level_most, level_first, level_base, level_behind, level_small, stacks_none, stacks_room, next_fits, stacks_more, stacks_all}
 use Rattle.eights.proofs.cuts.weigh_horizontal.Goals as goal
 
-pub overflow_mul-first : goal.overflow_mul-first
-overflow_mul-first c = record { fits = omega (arith, level_most c.args.level c.requires.stands.0) }
-
 pub overflow_add-first : goal.overflow_add-first
 overflow_add-first c = record { fits = omega (arith, level_most c.args.level c.requires.stands.0, level_first c.args.level c.requires.stands.0) }
 
@@ -32,29 +29,26 @@ loop-k-init c = stacks_none _ _ _ _ _ _ _ _ c.requires.stands.0.low-high c.requi
 
 pub weigh-requires : goal.weigh-requires
 weigh-requires c =
-    let m = stacks_room _ _ _ _ _ c.loop-k.k c.loop-k.lower c.loop-k.upper c.loop-k.invariant.some c.loop-k-test.true c.requires.stands.0.high-rows c.loop-k.invariant.low-at c.loop-k.invariant.high-at _
+    let m = stacks_room _ _ _ _ _ c.loop-k.k c.loop-k.lower c.loop-k.upper c.loop-k.invariant.some (omega arith) c.requires.stands.0.high-rows c.loop-k.invariant.low-at c.loop-k.invariant.high-at _
     c.requires.stands.1.1 (level_behind c.args.level c.args.store.now _ (level_base c.args.level c.requires.stands.0) c.requires.stands.0 c.requires.stands.1.0) in
     (c.loop-k.invariant.long, m)
 
 pub overflow_add-lower-in-loop-k : goal.overflow_add-lower-in-loop-k
 overflow_add-lower-in-loop-k c =
-    let m = stacks_room _ _ _ _ _ c.loop-k.k c.loop-k.lower c.loop-k.upper c.loop-k.invariant.some c.loop-k-test.true c.requires.stands.0.high-rows c.loop-k.invariant.low-at c.loop-k.invariant.high-at _
+    let m = stacks_room _ _ _ _ _ c.loop-k.k c.loop-k.lower c.loop-k.upper c.loop-k.invariant.some (omega arith) c.requires.stands.0.high-rows c.loop-k.invariant.low-at c.loop-k.invariant.high-at _
     c.requires.stands.1.1 (level_behind c.args.level c.args.store.now _ (level_base c.args.level c.requires.stands.0) c.requires.stands.0 c.requires.stands.1.0) in
     record { fits = omega (arith, m.0) }
 
-pub overflow_mul-upper-in-loop-k : goal.overflow_mul-upper-in-loop-k
-overflow_mul-upper-in-loop-k c = record { fits = omega (arith, c.requires.stands.0.rows-most) }
-
 pub overflow_add-upper-in-loop-k : goal.overflow_add-upper-in-loop-k
 overflow_add-upper-in-loop-k c =
-    let m = stacks_room _ _ _ _ _ c.loop-k.k c.loop-k.lower c.loop-k.upper c.loop-k.invariant.some c.loop-k-test.true c.requires.stands.0.high-rows c.loop-k.invariant.low-at c.loop-k.invariant.high-at _
+    let m = stacks_room _ _ _ _ _ c.loop-k.k c.loop-k.lower c.loop-k.upper c.loop-k.invariant.some (omega arith) c.requires.stands.0.high-rows c.loop-k.invariant.low-at c.loop-k.invariant.high-at _
     c.requires.stands.1.1 (level_small c.args.level _ (level_base c.args.level c.requires.stands.0) c.requires.stands.0) in
     record { fits = next_fits _ _ _ c.requires.stands.0.rows-most m.1 }
 
 pub loop-k-preserved : goal.loop-k-preserved
 loop-k-preserved c =
-    stacks_more _ _ _ _ _ c.loop-k.k c.loop-k.lower c.loop-k.upper c.loop-k.invariant.some c.loop-k-test.true c.requires.stands.0.high-rows c.loop-k.invariant.low-at c.loop-k.invariant.high-at _ _ c.loop-k.best _
+    stacks_more _ _ _ _ _ c.loop-k.k c.loop-k.lower c.loop-k.upper c.loop-k.invariant.some (omega arith) c.requires.stands.0.high-rows c.loop-k.invariant.low-at c.loop-k.invariant.high-at _ _ c.loop-k.best _
     c.weigh.ensures c.loop-k.invariant
 
 pub returns : goal.returns
-returns c = stacks_all _ _ _ _ _ _ _ _ _ c.loop-k.k c.loop-k.lower c.loop-k.upper _ (level_base c.args.level c.requires.stands.0) (omega (arith, c.loop-k-test.false)) c.loop-k.invariant
+returns c = stacks_all _ _ _ _ _ _ _ _ _ c.loop-k.k c.loop-k.lower c.loop-k.upper _ (level_base c.args.level c.requires.stands.0) (omega arith) c.loop-k.invariant

@@ -6,6 +6,3 @@ use Rattle.eights.proofs.cuts.weigh_horizontal.Given as goal
 
 abbrev pub invariant-loop-k : goal.invariant-loop-k
 invariant-loop-k l = Stacks l.store l.initial.best l.rows (l.first - pairs_below l.rows l.low) l.g l.low l.high l.k l.lower l.upper l.best
-
-abbrev pub decreases-loop-k : goal.decreases-loop-k
-decreases-loop-k l = l.high - l.k

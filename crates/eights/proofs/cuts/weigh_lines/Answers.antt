@@ -1,29 +1,6 @@
 -- `eights::cuts::weigh_lines` meets its contract: the pieces before the e-th have both cuts weighed. Assumes nothing.
-use mathlib.Core.Path.{◌∙◌}
-use native.Mathlib.Omega.{arith}
-use Rattle.eights.proofs.Lines.{laid_none, laid_more, laid_end, lines-row}
+use Rattle.eights.proofs.Lines.{laid_more, lines-row}
 use Rattle.eights.proofs.cuts.weigh_lines.Goals as goal
 
-pub loop-e-init : goal.loop-e-init
-loop-e-init c = (omega arith, laid_none _ _ _ _)
-
-pub eight_at-best-requires : goal.eight_at-best-requires
-eight_at-best-requires c = omega (arith, c.requires.pairs_in_bounds.0, c.loop-e.invariant.1.long, c.loop-e-test.true)
-
-pub weigh-requires : goal.weigh-requires
-weigh-requires c = (c.eight_at-best.ensures.result_len, (omega (arith, c.requires.pairs_in_bounds.1.0, c.loop-e.invariant.1.long, c.loop-e-test.true), omega (arith, c.requires.pairs_in_bounds.1.1, c.loop-e.invariant.1.long, c.loop-e-test.true)))
-
-pub weigh-requires-in-loop-e : goal.weigh-requires-in-loop-e
-weigh-requires-in-loop-e c = (c.weigh.ensures.long ∙ c.eight_at-best.ensures.result_len, (omega (arith, c.requires.pairs_in_bounds_2.0, c.loop-e.invariant.1.long, c.loop-e-test.true), omega (arith, c.requires.pairs_in_bounds_2.1, c.loop-e.invariant.1.long, c.loop-e-test.true)))
-
-pub put-requires : goal.put-requires
-put-requires c = omega (arith, c.requires.pairs_in_bounds.0, c.loop-e.invariant.1.long, c.loop-e-test.true)
-
 pub loop-e-preserved : goal.loop-e-preserved
-loop-e-preserved c = (
-  omega (arith, c.loop-e-test.true),
-  laid_more _ _ _ c.loop-e.e _ _ c.loop-e.store _ (lines-row _ _ c.loop-e.e _ _ _ _ c.loop-e.store c.eight_at-best.result _ c.loop-e.invariant.1 c.eight_at-best.ensures.by_index c.weigh.ensures _ _ _ c.weigh-in-loop-e.ensures) c.put.ensures c.loop-e.invariant.1,
-)
-
-pub returns : goal.returns
-returns c = laid_end _ _ _ _ _ _ _ c.loop-e.invariant.0 c.loop-e-test.false c.loop-e.invariant.1
+loop-e-preserved c = laid_more _ _ _ c.loop-e.e _ _ c.loop-e.store _ (lines-row _ _ c.loop-e.e _ _ _ _ c.loop-e.store c.eight_at-best.result _ c.loop-e.invariant c.eight_at-best.ensures.by_index c.weigh.ensures _ _ _ c.weigh-in-loop-e.ensures) c.put.ensures c.loop-e.invariant

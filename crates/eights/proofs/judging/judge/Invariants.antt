@@ -1,10 +1,6 @@
 -- `eights::judging::judge` meets its contract: the pieces in the lanes below l are settled. Assumes nothing.
-use Prim.Native.Nat.{◌-◌, ◌≤◌}
 use Rattle.eights.proofs.Judge.{Lanes}
 use Rattle.eights.proofs.judging.judge.Given as goal
 
 abbrev pub invariant-loop-l : goal.invariant-loop-l
-invariant-loop-l l = (l.l ≤ 8) × Lanes l.price l.cells l.count l.sliver l.best l.at l.l l.initial.store l.store
-
-abbrev pub decreases-loop-l : goal.decreases-loop-l
-decreases-loop-l l = 8 - l.l
+invariant-loop-l l = Lanes l.price l.cells l.count l.sliver l.best l.at l.l l.initial.store l.store

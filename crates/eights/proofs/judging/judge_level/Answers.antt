@@ -7,9 +7,6 @@ use Rattle.eights.proofs.judging.judge_level.Goals as goal
 pub overflow_add-e : goal.overflow_add-e
 overflow_add-e c = record { fits = omega (arith, number_at c.args.level c.requires.stands.0, number-below c.args.level c.requires.stands.0, pairs-most c.args.level c.requires.stands.0) }
 
-pub overflow_mul-at : goal.overflow_mul-at
-overflow_mul-at c = record { fits = omega (arith, place-fits c.args.level c.requires.stands.0) }
-
 pub overflow_add-at : goal.overflow_add-at
 overflow_add-at c = record { fits = omega (arith, place-fits c.args.level c.requires.stands.0, number_at c.args.level c.requires.stands.0, number-below c.args.level c.requires.stands.0, pairs-most c.args.level c.requires.stands.0) }
 

@@ -5,4 +5,4 @@ use Rattle.eights.proofs.Judge.{longer-made}
 use Rattle.eights.proofs.judging.longer.Goals as goal
 
 pub returns : goal.returns
-returns c = longer-made _ _ _ _ _ (c.greater.ensures ∙ ap₂ max c.counted.ensures c.counted-2.ensures)
+returns c = longer-made _ _ _ _ _ (c.max.ensures ∙ ap₂ max c.counted.ensures c.counted-2.ensures)

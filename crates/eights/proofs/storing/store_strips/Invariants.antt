@@ -1,12 +1,9 @@
 -- `eights::storing::store_strips` meets its contract: the strips that begin below the line a are stored. Assumes nothing.
-use Prim.Native.Nat.{◌+◌, ◌-◌, ◌≤◌}
+use Prim.Native.Nat.{◌+◌, ◌-◌}
 use mathlib.Core.Path.{◌≡◌}
 use Rattle.table.specs.Entry.{pairs_below}
 use Rattle.eights.proofs.Rows.{Rows}
 use Rattle.eights.proofs.storing.store_strips.Given as goal
 
 abbrev pub invariant-loop-a : goal.invariant-loop-a
-invariant-loop-a l = (l.a + l.w ≤ l.columns + 1) × ((l.row ≡ pairs_below l.columns l.a + (l.w - 1)) × Rows l.columns l.pairs l.w l.weight l.store l.initial.table l.a l.table)
-
-abbrev pub decreases-loop-a : goal.decreases-loop-a
-decreases-loop-a l = l.columns + 1 - l.a
+invariant-loop-a l = (l.row ≡ pairs_below l.columns l.a + (l.w - 1)) × Rows l.columns l.pairs l.w l.weight l.store l.initial.table l.a l.table

@@ -1,18 +1,28 @@
--- `emission::measuring::line_at` meets its contract. The invariant: no line passed lies at the place. Assumes nothing.
-use mathlib.Core.Path.{sym, ◌∙◌}
-use native.Mathlib.Omega.{arith}
+-- `emission::measuring::line_at` meets its contract: by what a walk over the lines tells. Assumes nothing.
+use Prim.Native.Nat.{ℕ}
+use Rattle.std.specs.Prelude.{Option}
+use mathlib.Core.Path.{◌≡◌, subst}
 use borrow.Author.Rules.{rules}
-use Rattle.verdict.proofs.Search.{passed_none, passed-more, first-here, first-none}
+use borrow.Author.Tests.{tests}
+use Rattle.std.proofs.lemmas.Iterator.{IsFirst-from_position, YieldsList-from_slice}
+use Rattle.emission.proofs.Measured.{Walked, line-walked}
 use Rattle.emission.proofs.measuring.line_at.Goals as goal
 
-pub loop-i-init : goal.loop-i-init
-loop-i-init c = (search rules, passed_none _ _)
-
-pub returns-then-place_of-sought : goal.returns-then-place_of-sought
-returns-then-place_of-sought c = first-here _ _ _ _ (omega arith) (omega arith) c.loop-i.invariant.1 (sym c.place_of.ensures ∙ c.if-place_of-sought.true)
-
-pub loop-i-preserved : goal.loop-i-preserved
-loop-i-preserved c = (search rules, passed-more _ _ _ c.loop-i.invariant.1 (λ q. c.if-place_of-sought.false (c.place_of.ensures ∙ q)))
-
 pub returns : goal.returns
-returns c = first-none _ _ _ _ (omega arith) (omega arith) (omega arith) (λ k h i. c.loop-i.invariant.1 k h (omega arith))
+returns c =
+    subst (λ (o : Option ℕ). Walked c.args.lines.now c.args.place.0 o) c.in_ok-at.was
+    (line-walked c.args.lines.now c.args.place.0 c.position.result
+    (IsFirst-from_position _ _ _ (λ x. x ≡ c.args.place.0) (λ x. x ≡ c.args.place.0 → ⊥) c.position.ensures.ran
+    (YieldsList-from_slice c.args.lines.now c.iter.ensures.rest)
+    (λ x q k. search (rules, tests))
+    (λ x q k. search (rules, tests))))
+
+pub returns-in_err-at : goal.returns-in_err-at
+returns-in_err-at c =
+    rw c.from_residual.ensures
+    (subst (λ (o : Option ℕ). Walked c.args.lines.now c.args.place.0 o) c.in_err-at.was
+    (line-walked c.args.lines.now c.args.place.0 c.position.result
+    (IsFirst-from_position _ _ _ (λ x. x ≡ c.args.place.0) (λ x. x ≡ c.args.place.0 → ⊥) c.position.ensures.ran
+    (YieldsList-from_slice c.args.lines.now c.iter.ensures.rest)
+    (λ x q k. search (rules, tests))
+    (λ x q k. search (rules, tests)))))

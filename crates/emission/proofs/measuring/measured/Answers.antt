@@ -11,7 +11,7 @@ pub overflow_mul-k : goal.overflow_mul-k
 overflow_mul-k c = omega (arith, c.requires.listed.most, c.loop-k-test.true)
 
 pub shot_at-shot-requires : goal.shot_at-shot-requires
-shot_at-shot-requires c = (c.requires.listed.each _ c.loop-k-test.true).room
+shot_at-shot-requires c = record { grid = c.requires.grid; cells = c.args.cells.now; shot = _; stands = c.requires.listed.each _ c.loop-k-test.true }
 
 pub sliver_of-sum-requires : goal.sliver_of-sum-requires
 sliver_of-sum-requires c =
@@ -35,9 +35,6 @@ overflow_add-sum c =
           (c.loop-k.invariant w.grid w.shots w.listed),
       w.listed.few,
     )
-
-pub overflow_add-k : goal.overflow_add-k
-overflow_add-k c = omega (arith, c.requires.listed.most, c.loop-k-test.true)
 
 pub returns : goal.returns
 returns c g l z = omega (arith, c.loop-k.invariant g l z, left-none (sliver g c.args.rule) l c.loop-k.k (omega (arith, z.count, c.loop-k-test.false)))

@@ -1,5 +1,6 @@
 -- `fracture::pinwheel::fracture_few` meets its contract. Assumes nothing.
 use Prim.Native.Nat.{◌≤◌}
+use Rattle.std.specs.Prelude.{Err}
 use native.Mathlib.Omega.{arith}
 use lib.ListN.{length}
 use mathlib.Core.Path.{◌≡◌}
@@ -10,6 +11,8 @@ use Rattle.verdict.specs.declared.Plan.{Plan}
 use Rattle.verdict.specs.Memory.{Costed}
 use Rattle.demands.specs.Promise.{written}
 use Rattle.fracture.specs.Delivery.{Laid}
+use Rattle.refusal.specs.declared.Refusal.TheVariants.{Table}
+use Rattle.fracture.specs.Told.{denied}
 use Rattle.fracture.proofs.Gridded.{laid-few, laid-ready, laid_filled, laid-walk, laid-lowered, gridded-table, gridded-delivered}
 use Rattle.fracture.proofs.pinwheel.fracture_few.Goals as goal
 
@@ -17,7 +20,9 @@ pub entries-requires : goal.entries-requires
 entries-requires c = laid-few _ _ c.requires.fillable.laid
 
 pub returns-then-table-entries : goal.returns-then-table-entries
-returns-then-table-entries c g w = gridded-table Pinwheel g _ w _ _ _ (omega (arith, c.if-table-entries.true, c.entries.ensures))
+returns-then-table-entries c g w =
+    let made : Err c.into.result ≡ denied Table 0 = grind arith in
+    rw made (gridded-table Pinwheel g _ w _ _ _ (omega (arith, c.if-table-entries.true, c.entries.ensures)))
 
 pub fill-requires : goal.fill-requires
 fill-requires c =

@@ -1,12 +1,8 @@
 -- `highest` meets its contract: the highest so far, and the points still to come. Assumes nothing.
 use mathlib.Core.Path.{◌≡◌}
-use Prim.Native.Nat.{◌+◌, ◌*◌, ◌≤◌}
-use lib.ListN.{length}
-use Rattle.gdsii.specs.Boundary.{highest_from, highest, points_from}
+use Prim.Native.Nat.{◌+◌, ◌*◌, ◌-◌}
+use Rattle.gdsii.specs.Boundary.{highest_from, highest, points_from, points}
 use Rattle.gdsii.proofs.places.highest.Given as goal
 
-abbrev pub invariant-loop-left : goal.invariant-loop-left
-invariant-loop-left l = (l.at + 8 * l.left ≤ length l.element) × (highest_from l.axis l.high (points_from l.element l.at l.left) ≡ highest l.axis (points_from l.element l.initial.at l.initial.left))
-
-abbrev pub decreases-loop-left : goal.decreases-loop-left
-decreases-loop-left l = l.left
+abbrev pub invariant-loop-i : goal.invariant-loop-i
+invariant-loop-i l = highest_from l.axis l.high (points_from l.element (l.run.first + 8 * l.i) (l.run.count - l.i)) ≡ highest l.axis (points l.element l.run)

@@ -1,16 +1,14 @@
 -- `heading` meets its contract: BOUNDARY, ELFLAGS, PLEX, the first fault deciding. Assumes nothing.
+use Rattle.number.proofs.Number.{passed}
+use Rattle.gdsii.specs.Steps.{past_told}
 use Rattle.gdsii.proofs.Records.{heading-first, heading-second, heading-third}
 use Rattle.gdsii.proofs.stream.heading.Goals as goal
 
-pub returns-in-Stopped : goal.returns-in-Stopped
-returns-in-Stopped c = heading-first _ (c.in-Stopped.ensures)
+pub returns-in_err-flags : goal.returns-in_err-flags
+returns-in_err-flags c = passed past_told c.from_residual.ensures.1 (heading-first _ c.in_err-flags.ensures)
 
-pub returns-in-Stopped-optional : goal.returns-in-Stopped-optional
-returns-in-Stopped-optional c =
-    heading-second _ (c.in-At.ensures)
-    (c.in-Stopped-optional.ensures)
+pub returns-in_err-plex : goal.returns-in_err-plex
+returns-in_err-plex c = passed past_told c.from_residual-in_err-plex.ensures.1 (heading-second _ c.in_ok-flags.ensures c.in_err-plex.ensures)
 
-pub returns-in-At-optional : goal.returns-in-At-optional
-returns-in-At-optional c =
-    heading-third _ (c.in-At.ensures)
-    (c.in-At-optional.ensures) c.optional-in-At-optional.ensures
+pub returns : goal.returns
+returns c = heading-third _ c.in_ok-flags.ensures c.in_ok-plex.ensures c.optional-2.ensures

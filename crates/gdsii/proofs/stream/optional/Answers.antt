@@ -4,7 +4,7 @@ use Rattle.gdsii.proofs.Records.{short_false, optional-short, optional-there, op
 use Rattle.gdsii.proofs.stream.optional.Goals as goal
 
 pub returns-then-cut_short : goal.returns-then-cut_short
-returns-then-cut_short c = optional-short _ _ _ _ _ (sym c.if-cut_short.true ∙ c.cut_short.ensures)
+returns-then-cut_short c = rw c.at.ensures (optional-short _ _ _ _ _ (sym c.if-cut_short.true ∙ c.cut_short.ensures))
 
 pub has_type-requires : goal.has_type-requires
 has_type-requires c = (short_false _ _ (sym c.cut_short.ensures ∙ c.if-cut_short.false)).0

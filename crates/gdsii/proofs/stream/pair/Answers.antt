@@ -1,7 +1,8 @@
 -- `pair` meets its contract: the high byte counts 256 times. Assumes nothing.
-use mathlib.Core.Path.{refl}
+use Prim.Native.Nat.{◌+◌, ◌*◌}
+use mathlib.Core.Path.{ap₂}
 use native.Mathlib.Omega.{arith}
 use Rattle.gdsii.proofs.stream.pair.Goals as goal
 
 pub returns : goal.returns
-returns c = (refl, omega arith)
+returns c = (ap₂ (λ h l. 256 * h + l) c.from.ensures c.from-2.ensures, omega (arith, c.from.ensures, c.from-2.ensures))

@@ -5,13 +5,13 @@ use Rattle.gdsii.proofs.Records.{short_false, is-size, required-short, required-
 use Rattle.gdsii.proofs.stream.required.Goals as goal
 
 pub returns-then-cut_short : goal.returns-then-cut_short
-returns-then-cut_short c = required-short _ _ _ _ _ (sym c.if-cut_short.true ∙ c.cut_short.ensures)
+returns-then-cut_short c = rw c.at.ensures (required-short _ _ _ _ _ (sym c.if-cut_short.true ∙ c.cut_short.ensures))
 
 pub is-requires : goal.is-requires
 is-requires c = (short_false _ _ (sym c.cut_short.ensures ∙ c.if-cut_short.false)).0
 
-pub overflow_add-next : goal.overflow_add-next
-overflow_add-next c =
+pub overflow_add-result : goal.overflow_add-result
+overflow_add-result c =
     omega
     (arith, (short_false _ _ (sym c.cut_short.ensures ∙ c.if-cut_short.false)).1, is-size _ _ _ _ _ (sym c.is.ensures ∙ c.if-is.true))
 
@@ -19,4 +19,4 @@ pub returns-then-is : goal.returns-then-is
 returns-then-is c = required-is _ _ _ _ _ (sym c.if-cut_short.false ∙ c.cut_short.ensures) (sym c.if-is.true ∙ c.is.ensures)
 
 pub returns : goal.returns
-returns c = required-wrong _ _ _ _ _ (sym c.if-cut_short.false ∙ c.cut_short.ensures) (sym c.if-is.false ∙ c.is.ensures)
+returns c = rw c.at-2.ensures (required-wrong _ _ _ _ _ (sym c.if-cut_short.false ∙ c.cut_short.ensures) (sym c.if-is.false ∙ c.is.ensures))

@@ -6,20 +6,20 @@ use lib.Seq.{length-sets}
 use Rattle.index.proofs.Anew.{parts-length, parts-put}
 use Rattle.index.proofs.changing.put_parts.Goals as goal
 
-pub put_bytes-requires : goal.put_bytes-requires
-put_bytes-requires c = omega (arith, parts-length c.args.head.now c.args.front.now c.args.back.now)
+pub put-requires : goal.put-requires
+put-requires c = omega (arith, parts-length c.args.head.now c.args.front.now c.args.back.now)
 
-pub put_bytes-requires-2 : goal.put_bytes-requires-2
-put_bytes-requires-2 c = omega (arith, parts-length c.args.head.now c.args.front.now c.args.back.now, simp length-sets at (ap length c.put_bytes.ensures))
+pub put-requires-2 : goal.put-requires-2
+put-requires-2 c = omega (arith, parts-length c.args.head.now c.args.front.now c.args.back.now, simp length-sets at (ap length c.put.ensures))
 
-pub put_bytes-requires-3 : goal.put_bytes-requires-3
-put_bytes-requires-3 c =
+pub put-requires-3 : goal.put-requires-3
+put-requires-3 c =
     omega (
       arith,
       parts-length c.args.head.now c.args.front.now c.args.back.now,
-      simp length-sets at (ap length c.put_bytes.ensures),
-      simp length-sets at (ap length c.put_bytes-2.ensures),
+      simp length-sets at (ap length c.put.ensures),
+      simp length-sets at (ap length c.put-2.ensures),
     )
 
 pub returns : goal.returns
-returns c = parts-put c.args.head.now c.args.front.now c.args.back.now c.args.out.now _ _ _ refl refl c.put_bytes.ensures c.put_bytes-2.ensures c.put_bytes-3.ensures
+returns c = parts-put c.args.head.now c.args.front.now c.args.back.now c.args.out.now _ _ _ refl refl c.put.ensures c.put-2.ensures c.put-3.ensures

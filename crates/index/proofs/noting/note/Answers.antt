@@ -1,25 +1,29 @@
 -- `note` meets its contract: those read so far are read in a row, and their starts are stored. Assumes nothing.
 use mathlib.Core.Path.{refl}
 use native.Mathlib.Omega.{arith}
+use lib.ListN.{length-take}
+use Rattle.number.proofs.Number.{passed}
+use Rattle.job.specs.Steps.{past_told}
 use Rattle.index.proofs.Starts.{noting_start, noting_more, noting_fault, noting_done, here-within}
-use borrow.Author.Rules.{rules}
 use Rattle.index.proofs.noting.note.Goals as goal
 
-pub loop-i-init : goal.loop-i-init
-loop-i-init c = (omega arith, refl, noting_start _ _ _)
+pub loop-start-init : goal.loop-start-init
+loop-start-init c = noting_start _ _ _
 
-pub returns-in-Fault : goal.returns-in-Fault
-returns-in-Fault c = record { result_value = (noting_fault _ _ _ _ _ _ c.loop-i.invariant.2 _ (c.in-Fault.ensures) (omega arith)).0; noted = (noting_fault _ _ _ _ _ _ c.loop-i.invariant.2 _ (c.in-Fault.ensures) (omega arith)).1 }
+pub returns-in_err-part : goal.returns-in_err-part
+returns-in_err-part c =
+    let size = length-take c.args.count c.args.starts.now in
+    let stop = noting_fault _ _ _ _ _ _ c.loop-start.invariant _ c.in_err-part.ensures (omega arith) _ _ in
+    record { result_value = passed past_told c.from_residual.ensures.1 stop.0; noted = stop.1 }
 
-pub overflow_cast-starts : goal.overflow_cast-starts
-overflow_cast-starts c = omega (arith, here-within _ _ (c.in-Part.ensures))
+pub overflow_cast-start : goal.overflow_cast-start
+overflow_cast-start c = omega (arith, here-within _ _ c.in_ok-part.ensures)
 
-pub loop-i-preserved : goal.loop-i-preserved
-loop-i-preserved c = (
-  omega arith,
-  search rules,
-  noting_more _ _ _ _ _ _ c.loop-i.invariant.2 (c.in-Part.ensures),
-)
+pub loop-start-preserved : goal.loop-start-preserved
+loop-start-preserved c = noting_more _ _ _ _ _ _ c.loop-start.invariant c.in_ok-part.ensures
 
 pub returns : goal.returns
-returns c = record { result_value = (noting_done _ _ _ _ _ _ c.loop-i.invariant.2 _ (omega arith) (omega arith)).0; noted = (noting_done _ _ _ _ _ _ c.loop-i.invariant.2 _ (omega arith) (omega arith)).1 }
+returns c =
+    let size = length-take c.args.count c.args.starts.now in
+    let done = noting_done _ _ _ _ _ _ c.loop-start.invariant _ (omega arith) (omega arith) c.args.starts.now refl (omega arith) in
+    record { result_value = done.0; noted = done.1 }

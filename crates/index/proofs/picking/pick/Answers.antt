@@ -1,23 +1,25 @@
 -- `pick` meets its contract: what `find` tells, as that part of the job's own bytes. Assumes nothing.
+use mathlib.Core.Path.{refl}
 use native.Mathlib.Omega.{arith}
-use Rattle.index.proofs.Starts.{picked-fault, picked-part, picked-within, at-fault, at_part}
+use Rattle.number.proofs.Number.{passed}
+use Rattle.job.specs.Calls.{take_told}
+use Rattle.index.proofs.Starts.{picked-fault, picked-part, picked-within, at_part}
 use Rattle.index.proofs.picking.pick.Goals as goal
 
-pub slice_bounds-result-count-in-Part : goal.slice_bounds-result-count-in-Part
-slice_bounds-result-count-in-Part c = omega (arith, picked-within _ _ _ _ (c.in-Part.ensures.settled))
+pub returns-in_err-part-clause-settled : goal.returns-in_err-part-clause-settled
+returns-in_err-part-clause-settled c = passed take_told c.from_residual.ensures.1 (picked-fault _ _ _ _ c.in_err-part.ensures.settled refl)
 
-pub slice_bounds-result-start-in-Part : goal.slice_bounds-result-start-in-Part
-slice_bounds-result-start-in-Part c = omega (arith, picked-within _ _ _ _ (c.in-Part.ensures.settled))
+pub slice_bounds-result-count : goal.slice_bounds-result-count
+slice_bounds-result-count c = omega (arith, picked-within _ _ _ _ c.in_ok-part.ensures.settled)
 
-pub slice_bounds-result-end-in-Part : goal.slice_bounds-result-end-in-Part
-slice_bounds-result-end-in-Part c = omega (arith, picked-within _ _ _ _ (c.in-Part.ensures.settled))
+pub slice_bounds-result-start : goal.slice_bounds-result-start
+slice_bounds-result-start c = omega (arith, picked-within _ _ _ _ c.in_ok-part.ensures.settled)
 
-pub returns-in-Fault : goal.returns-in-Fault
-returns-in-Fault c =
-    let e = c.in-Fault.ensures.settled in
-    record { settled = picked-fault _ _ _ _ e c.refusal_no.ensures.settled; placed = at-fault _ _ _ _ e _ _ }
+pub slice_bounds-result-end : goal.slice_bounds-result-end
+slice_bounds-result-end c = omega (arith, picked-within _ _ _ _ c.in_ok-part.ensures.settled)
 
-pub returns-in-Part : goal.returns-in-Part
-returns-in-Part c =
-    let e = c.in-Part.ensures.settled in
-    record { settled = picked-part _ _ _ _ e; placed = at_part _ _ _ _ e _ _ }
+pub returns-clause-settled : goal.returns-clause-settled
+returns-clause-settled c = picked-part _ _ _ _ c.in_ok-part.ensures.settled
+
+pub returns-clause-placed : goal.returns-clause-placed
+returns-clause-placed c = at_part _ _ _ _ c.in_ok-part.ensures.settled _ _

@@ -1,9 +1,9 @@
 -- `announces` meets its contract: a byte 0 stands there, or the bytes end. Assumes nothing.
-use Rattle.job.proofs.Job.{announces-none, announces_byte}
+use Rattle.job.proofs.Job.{announces-short, announces_byte}
 use Rattle.job.proofs.read.announces.Goals as goal
 
-pub returns-then-at-job : goal.returns-then-at-job
-returns-then-at-job c = announces_byte _ _ c.if-at-job.true
+pub returns-then-from-job : goal.returns-then-from-job
+returns-then-from-job c = announces_byte _ _ c.if-from-job.true
 
-pub returns : goal.returns
-returns c = announces-none _ _ c.if-at-job.false
+pub returns-else-from-job : goal.returns-else-from-job
+returns-else-from-job c = announces-short _ _ c.if-from-job.false

@@ -4,8 +4,8 @@ use native.Mathlib.Omega.{arith}
 use Rattle.job.proofs.Job.{announces_true, begun-many, begun-one}
 use Rattle.job.proofs.read.begin.Goals as goal
 
-pub overflow_add-next : goal.overflow_add-next
-overflow_add-next c = omega (arith, announces_true _ _ (sym c.announces.ensures ∙ c.if-announces.true))
+pub overflow_add-from : goal.overflow_add-from
+overflow_add-from c = omega (arith, announces_true _ _ (sym c.announces.ensures ∙ c.if-announces.true))
 
 pub returns-then-announces : goal.returns-then-announces
 returns-then-announces c = c.value.ensures ∙ begun-many _ _ (sym c.announces.ensures ∙ c.if-announces.true)

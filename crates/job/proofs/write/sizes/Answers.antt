@@ -7,16 +7,12 @@ use lib.ListN.{length}
 use Rattle.job.proofs.Writing.{sizes_more, coordinates-done}
 use Rattle.job.proofs.write.sizes.Goals as goal
 
-pub loop-i-init : goal.loop-i-init
-loop-i-init c = (omega arith, omega arith, omega arith)
-
-pub loop-i-preserved : goal.loop-i-preserved
-loop-i-preserved c =
+pub loop-x-preserved : goal.loop-x-preserved
+loop-x-preserved c =
     let numbers : List ℕ = c.args.numbers.now in (
-      omega arith,
-      sizes_more numbers c.loop-i.i _ _ _ _ c.wide.ensures c.size-total.ensures.0 c.loop-i.invariant.1 (omega arith),
+      sizes_more numbers c.loop-x.x-index _ _ _ _ c.from.ensures c.size-total.ensures.0 c.loop-x.invariant.0 (omega arith),
       omega arith,
     )
 
 pub returns : goal.returns
-returns c = omega (arith, ap length (coordinates-done c.args.numbers.now c.loop-i.i (omega arith)))
+returns c = omega (arith, ap length (coordinates-done c.args.numbers.now c.loop-x.x-index (omega arith)))

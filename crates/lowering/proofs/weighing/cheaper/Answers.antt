@@ -63,7 +63,7 @@ overflow_add-result c =
       md = c.pair_number-md.ensures.0;
       km = c.pair_number-km.ensures.0;
     }) in
-    record { fits = cheaper_fits _ _ _ c.requires.0 c.requires.1 (numbers) c.four-first.ensures c.four-second.ensures c.lesser.ensures }
+    record { fits = cheaper_fits _ _ _ c.requires.0 c.requires.1 (numbers) c.four-first.ensures c.four-second.ensures c.min.ensures }
 
 pub returns : goal.returns
 returns c =
@@ -74,4 +74,4 @@ returns c =
       md = c.pair_number-md.ensures.0;
       km = c.pair_number-km.ensures.0;
     }) in
-    cheaper_is _ _ _ c.requires.0 c.requires.1 (numbers) c.four-first.ensures c.four-second.ensures c.lesser.ensures
+    cheaper_is _ _ _ c.requires.0 c.requires.1 (numbers) c.four-first.ensures c.four-second.ensures c.min.ensures

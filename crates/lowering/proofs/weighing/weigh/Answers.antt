@@ -7,17 +7,11 @@ use Rattle.lowering.proofs.Weighed.{among_none, among-more, among-end}
 use Rattle.lowering.proofs.Wheels.{least-wheel}
 use Rattle.lowering.proofs.weighing.weigh.Goals as goal
 
-pub overflow_add-j : goal.overflow_add-j
-overflow_add-j c = record { fits = omega (arith, c.requires.weighable.ac, c.requires.weighable.cx, c.requires.weighable.columns-most) }
-
 pub loop-j-init : goal.loop-j-init
 loop-j-init c = (omega arith, (omega (arith, c.requires.weighable.ac), among_none _ _ _ _ (omega arith)))
 
 pub weigh_line-requires : goal.weigh_line-requires
 weigh_line-requires c = record { weighable = c.requires.weighable; pairs_value = (c.requires.pairs_value.0, (c.loop-j.invariant.1.1.long ∙ c.requires.pairs_value.1, (omega (arith, c.loop-j.invariant.0), c.loop-j-test.true))) }
-
-pub overflow_add-j-in-loop-j : goal.overflow_add-j-in-loop-j
-overflow_add-j-in-loop-j c = record { fits = omega (arith, c.loop-j-test.true, c.requires.weighable.cx, c.requires.weighable.columns-most) }
 
 pub loop-j-smaller : goal.loop-j-smaller
 loop-j-smaller c = omega (arith, c.loop-j-test.true)

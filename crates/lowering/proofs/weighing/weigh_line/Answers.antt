@@ -19,9 +19,6 @@ pair_number-requires-2 c = (c.requires.weighable.columns-most, (c.requires.pairs
 pub overflow_mul-right : goal.overflow_mul-right
 overflow_mul-right c = row_fits c.requires.weighable.rows-most c.requires.pairs_value.0 c.pair_number-2.ensures.1
 
-pub overflow_add-l : goal.overflow_add-l
-overflow_add-l c = record { fits = omega (arith, c.requires.pairs_value.1.1.1, c.requires.weighable.cx, c.requires.weighable.columns-most) }
-
 pub loop-l-init : goal.loop-l-init
 loop-l-init c = (omega arith, (omega (arith, c.requires.pairs_value.1.1.1), among_none _ _ _ _ (omega arith)))
 
@@ -56,9 +53,6 @@ weigh_rows-requires c =
       placed_in _ _ _ _ _ (standing) c.requires.weighable c.requires.pairs_value.1.1.0 (omega (arith, c.loop-l.invariant.0)) c.loop-l-test.true,
       (c.requires.weighable.rows-some, c.loop-l.invariant.1.1.long ∙ c.requires.pairs_value.1.0),
     )
-
-pub overflow_add-l-in-loop-l : goal.overflow_add-l-in-loop-l
-overflow_add-l-in-loop-l c = record { fits = omega (arith, c.loop-l-test.true, c.requires.weighable.cx, c.requires.weighable.columns-most) }
 
 pub loop-l-smaller : goal.loop-l-smaller
 loop-l-smaller c = omega (arith, c.loop-l-test.true)

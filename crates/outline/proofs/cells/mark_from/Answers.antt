@@ -1,4 +1,5 @@
 -- `outline::cells::mark_from` meets its contract. The invariant: the walls passed are marked, and the next edge is one. Assumes nothing.
+use native.Mathlib.Omega.{arith}
 use borrow.Author.Rules.{rules}
 use Rattle.outline.proofs.Marking.{edges-start, edges-upright, edges_more, edges-end}
 use Rattle.outline.proofs.cells.mark_from.Goals as goal
@@ -17,3 +18,9 @@ loop-edge-preserved c = (search rules, edges_more _ _ _ _ _ _ _ c.requires.ruled
 
 pub returns : goal.returns
 returns c = edges-end _ _ _ _ _ _ _ c.requires.ruled c.loop-edge.invariant.1 c.loop-edge-test.false
+
+pub returns-2 : goal.returns-2
+returns-2 c =
+    edges-end _ _ _ _ _ _ _ c.requires.ruled
+    (edges_more _ _ _ _ _ _ _ c.requires.ruled c.loop-edge.invariant.1 _ (search rules) c.mark.ensures)
+    (omega (arith, c.loop-edge-test.true))

@@ -1,10 +1,6 @@
--- `print_shots` is safe and ends, and forgets no failure: no line of a shot does. Assumes nothing.
-use Prim.Native.Nat.{◌-◌, ◌≤◌}
+-- `print_shots` forgets no failure: no line of a shot does. Assumes nothing.
 use Rattle.terminal.specs.Output.{Remembers}
 use Rattle.preparation.proofs.lines.print_shots.Given as goal
 
-abbrev pub invariant-loop-i : goal.invariant-loop-i
-invariant-loop-i l = (l.i ≤ l.shots) × Remembers l.initial.next l.next
-
-abbrev pub decreases-loop-i : goal.decreases-loop-i
-decreases-loop-i l = l.shots - l.i
+abbrev pub invariant-loop-shot : goal.invariant-loop-shot
+invariant-loop-shot l = Remembers l.initial.next l.next

@@ -28,5 +28,5 @@ returns-after-loop-k c =
     let all : c.loop-k.k ≡ c.args.header.outlines = omega arith in
     record { fact = inr (c.loop-k.invariant.3 ∙ ap (any_refused _) all); remembers = c.loop-k.invariant.4 }
 
-pub returns-then-failed : goal.returns-then-failed
-returns-then-failed c = record { fact = inl c.if-failed.true; remembers = λ e. c.run_outline-ran.ensures.remembers (c.loop-k.invariant.4 e) }
+pub returns-then-next : goal.returns-then-next
+returns-then-next c = record { fact = inl c.if-next.true; remembers = λ e. c.run_outline-ran.ensures.remembers (c.loop-k.invariant.4 e) }

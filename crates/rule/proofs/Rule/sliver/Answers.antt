@@ -4,4 +4,4 @@ use Rattle.rule.proofs.Charge.{sliver-made}
 use Rattle.rule.proofs.Rule.sliver.Goals as goal
 
 pub returns : goal.returns
-returns c = c.counted.ensures.0 ∙ sliver-made _ _ _ _ _ _ _ c.lesser.ensures c.longer.ensures
+returns c = c.counted.ensures.0 ∙ sliver-made _ _ _ _ _ _ _ c.min.ensures c.longer.ensures

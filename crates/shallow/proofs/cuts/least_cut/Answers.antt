@@ -8,23 +8,11 @@ use Rattle.shallow.proofs.cuts.least_cut.Goals as goal
 pub overflow_add-lower : goal.overflow_add-lower
 overflow_add-lower c = omega (arith, c.requires.1, c.requires.0.pairs-most, start_small _ _ c.requires.0)
 
-pub overflow_sub-upper : goal.overflow_sub-upper
-overflow_sub-upper c = (omega (arith, c.requires.0.ac, c.requires.0.cx))
-
-pub overflow_sub-upper-2 : goal.overflow_sub-upper-2
-overflow_sub-upper-2 c = (omega (arith, c.requires.0.ac, c.requires.0.cx))
-
-pub overflow_mul-upper : goal.overflow_mul-upper
-overflow_mul-upper c = (omega (arith, start_small _ _ c.requires.0))
-
 pub overflow_add-upper : goal.overflow_add-upper
 overflow_add-upper c = (omega (arith, start_small _ _ c.requires.0))
 
 pub overflow_add-upper-2 : goal.overflow_add-upper-2
 overflow_add-upper-2 c = omega (arith, c.requires.1, c.requires.0.pairs-most, start_small _ _ c.requires.0)
-
-pub overflow_add-j : goal.overflow_add-j
-overflow_add-j c = (omega (arith, c.requires.0.ac, c.requires.0.cx, c.requires.0.columns-most))
 
 pub loop-j-init : goal.loop-j-init
 loop-j-init c = ((at-start _ _ c.requires.0 _, lowest-none _ _ _))
@@ -35,29 +23,14 @@ parts-requires c = (at_read _ _ c.requires.0 _ _ _ _ c.loop-j-test.true c.loop-j
 pub overflow_add-lower-in-loop-j : goal.overflow_add-lower-in-loop-j
 overflow_add-lower-in-loop-j c = omega (arith, at_small _ _ c.requires.0 _ _ _ _ c.loop-j-test.true c.loop-j.invariant.0 c.requires.1, c.requires.0.pairs-most)
 
-pub overflow_sub-upper-in-loop-j : goal.overflow_sub-upper-in-loop-j
-overflow_sub-upper-in-loop-j c = omega (arith, c.loop-j-test.true, c.requires.0.cx)
-
-pub overflow_sub-upper-in-loop-j-2 : goal.overflow_sub-upper-in-loop-j-2
-overflow_sub-upper-in-loop-j-2 c = omega (arith, c.loop-j-test.true, c.requires.0.cx)
-
-pub overflow_mul-upper-in-loop-j : goal.overflow_mul-upper-in-loop-j
-overflow_mul-upper-in-loop-j c = omega (arith, at_small _ _ c.requires.0 _ _ _ _ c.loop-j-test.true c.loop-j.invariant.0 c.requires.1)
-
 pub overflow_add-upper-in-loop-j : goal.overflow_add-upper-in-loop-j
 overflow_add-upper-in-loop-j c = omega (arith, at_small _ _ c.requires.0 _ _ _ _ c.loop-j-test.true c.loop-j.invariant.0 c.requires.1)
-
-pub overflow_add-j-in-loop-j : goal.overflow_add-j-in-loop-j
-overflow_add-j-in-loop-j c = omega (arith, c.loop-j-test.true, c.requires.0.cx, c.requires.0.columns-most)
-
-pub loop-j-smaller : goal.loop-j-smaller
-loop-j-smaller c = (omega (arith, c.loop-j-test.true))
 
 pub loop-j-preserved : goal.loop-j-preserved
 loop-j-preserved c =
     let r = at_read _ _ c.requires.0 _ _ _ _ c.loop-j-test.true c.loop-j.invariant.0 c.args.i c.loop-j.lower c.loop-j.upper c.requires.1 refl refl in (
       at_more _ _ c.requires.0 _ _ _ _ c.loop-j-test.true c.loop-j.invariant.0,
-      rw c.lesser-best.ensures (lowest-more _ _ _ _ _ _ c.loop-j.invariant.0.above (c.parts.ensures ∙ r.0) c.loop-j.invariant.1),
+      rw c.min-best.ensures (lowest-more _ _ _ _ _ _ c.loop-j.invariant.0.above (c.parts.ensures ∙ r.0) c.loop-j.invariant.1),
     )
 
 pub returns : goal.returns

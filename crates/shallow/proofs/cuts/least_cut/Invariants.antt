@@ -1,5 +1,4 @@
 -- `shallow::cuts::least_cut` meets its contract: the cuts below the line j are weighed. Assumes nothing.
-use Prim.Native.Nat.{◌-◌}
 use Rattle.table.specs.Run.{Lowest}
 use Rattle.table.specs.Cuts.{uncut}
 use Rattle.table.specs.Cuts.{parted}
@@ -8,6 +7,3 @@ use Rattle.shallow.proofs.cuts.least_cut.Given as goal
 
 abbrev pub invariant-loop-j : goal.invariant-loop-j
 invariant-loop-j l = At l.columns l.pairs l.low l.high l.i l.j l.lower l.upper × Lowest (parted l.table l.columns l.pairs l.low l.high l.i) l.low l.j uncut l.best
-
-abbrev pub decreases-loop-j : goal.decreases-loop-j
-decreases-loop-j l = l.high - l.j

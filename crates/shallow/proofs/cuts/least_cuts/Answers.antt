@@ -9,23 +9,11 @@ use Rattle.shallow.proofs.cuts.least_cuts.Goals as goal
 pub overflow_add-lower : goal.overflow_add-lower
 overflow_add-lower c = omega (arith, c.requires.1, c.requires.0.pairs-most, start_small _ _ c.requires.0)
 
-pub overflow_sub-upper : goal.overflow_sub-upper
-overflow_sub-upper c = (omega (arith, c.requires.0.ac, c.requires.0.cx))
-
-pub overflow_sub-upper-2 : goal.overflow_sub-upper-2
-overflow_sub-upper-2 c = (omega (arith, c.requires.0.ac, c.requires.0.cx))
-
-pub overflow_mul-upper : goal.overflow_mul-upper
-overflow_mul-upper c = (omega (arith, start_small _ _ c.requires.0))
-
 pub overflow_add-upper : goal.overflow_add-upper
 overflow_add-upper c = (omega (arith, start_small _ _ c.requires.0))
 
 pub overflow_add-upper-2 : goal.overflow_add-upper-2
 overflow_add-upper-2 c = omega (arith, c.requires.1, c.requires.0.pairs-most, start_small _ _ c.requires.0)
-
-pub overflow_add-j : goal.overflow_add-j
-overflow_add-j c = (omega (arith, c.requires.0.ac, c.requires.0.cx, c.requires.0.columns-most))
 
 pub loop-j-init : goal.loop-j-init
 loop-j-init c = (at-start _ _ c.requires.0 _, (lowest-none _ _ _, (lowest-none _ _ _, lowest-none _ _ _)))
@@ -54,23 +42,8 @@ parts-requires-in-loop-j-2 c = (at_read _ _ c.requires.0 _ _ _ _ c.loop-j-test.t
 pub overflow_add-lower-in-loop-j-3 : goal.overflow_add-lower-in-loop-j-3
 overflow_add-lower-in-loop-j-3 c = omega (arith, at_small _ _ c.requires.0 _ _ _ _ c.loop-j-test.true c.loop-j.invariant.0 (omega (arith, c.requires.1)), c.requires.0.pairs-most)
 
-pub overflow_sub-upper-in-loop-j : goal.overflow_sub-upper-in-loop-j
-overflow_sub-upper-in-loop-j c = omega (arith, c.loop-j-test.true, c.requires.0.cx)
-
-pub overflow_sub-upper-in-loop-j-2 : goal.overflow_sub-upper-in-loop-j-2
-overflow_sub-upper-in-loop-j-2 c = omega (arith, c.loop-j-test.true, c.requires.0.cx)
-
-pub overflow_mul-upper-in-loop-j : goal.overflow_mul-upper-in-loop-j
-overflow_mul-upper-in-loop-j c = omega (arith, at_small _ _ c.requires.0 _ _ _ _ c.loop-j-test.true c.loop-j.invariant.0 (omega (arith, c.requires.1)))
-
 pub overflow_add-upper-in-loop-j-3 : goal.overflow_add-upper-in-loop-j-3
 overflow_add-upper-in-loop-j-3 c = omega (arith, at_small _ _ c.requires.0 _ _ _ _ c.loop-j-test.true c.loop-j.invariant.0 (omega (arith, c.requires.1)))
-
-pub overflow_add-j-in-loop-j : goal.overflow_add-j-in-loop-j
-overflow_add-j-in-loop-j c = omega (arith, c.loop-j-test.true, c.requires.0.cx, c.requires.0.columns-most)
-
-pub loop-j-smaller : goal.loop-j-smaller
-loop-j-smaller c = (omega (arith, c.loop-j-test.true))
 
 pub loop-j-preserved : goal.loop-j-preserved
 loop-j-preserved c =
@@ -80,10 +53,10 @@ loop-j-preserved c =
     let r₃ = r (c.args.i + 2) (c.loop-j.lower + 2) (c.loop-j.upper + 2) (omega (arith, c.requires.1)) (omega arith) (omega arith) in (
       at_more _ _ c.requires.0 _ _ _ _ c.loop-j-test.true c.loop-j.invariant.0,
       (
-        rw c.lesser-first.ensures (lowest-more _ _ _ _ _ _ c.loop-j.invariant.0.above (c.parts.ensures ∙ r₁.0) c.loop-j.invariant.1.0),
+        rw c.min-first.ensures (lowest-more _ _ _ _ _ _ c.loop-j.invariant.0.above (c.parts.ensures ∙ r₁.0) c.loop-j.invariant.1.0),
         (
-          rw c.lesser-second.ensures (lowest-more _ _ _ _ _ _ c.loop-j.invariant.0.above (c.parts-in-loop-j.ensures ∙ r₂.0) c.loop-j.invariant.1.1.0),
-          rw c.lesser-third.ensures (lowest-more _ _ _ _ _ _ c.loop-j.invariant.0.above (c.parts-in-loop-j-2.ensures ∙ r₃.0) c.loop-j.invariant.1.1.1),
+          rw c.min-second.ensures (lowest-more _ _ _ _ _ _ c.loop-j.invariant.0.above (c.parts-in-loop-j.ensures ∙ r₂.0) c.loop-j.invariant.1.1.0),
+          rw c.min-third.ensures (lowest-more _ _ _ _ _ _ c.loop-j.invariant.0.above (c.parts-in-loop-j-2.ensures ∙ r₃.0) c.loop-j.invariant.1.1.1),
         ),
       ),
     )

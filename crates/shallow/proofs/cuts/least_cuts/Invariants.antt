@@ -1,5 +1,5 @@
 -- `shallow::cuts::least_cuts` meets its contract: the cuts below the line j are weighed. Assumes nothing.
-use Prim.Native.Nat.{◌+◌, ◌-◌}
+use Prim.Native.Nat.{◌+◌}
 use Rattle.table.specs.Run.{Lowest}
 use Rattle.table.specs.Cuts.{uncut}
 use Rattle.table.specs.Cuts.{parted}
@@ -11,6 +11,3 @@ invariant-loop-j l = At l.columns l.pairs l.low l.high l.i l.j l.lower l.upper
     × (Lowest (parted l.table l.columns l.pairs l.low l.high l.i) l.low l.j uncut l.first
     × (Lowest (parted l.table l.columns l.pairs l.low l.high (l.i + 1)) l.low l.j uncut l.second
     × Lowest (parted l.table l.columns l.pairs l.low l.high (l.i + 2)) l.low l.j uncut l.third))
-
-abbrev pub decreases-loop-j : goal.decreases-loop-j
-decreases-loop-j l = l.high - l.j

@@ -30,6 +30,6 @@ pub returns : goal.returns
 returns c g b w =
     piece_cost g _ _ _ w.placed b (up5 b) _ _ _ _ _ (omega arith) w.within w.sums w.entry-is
     c.least_cut-best.ensures
-    (across-more _ _ _ _ b _ (up4 b) _ _ _ _ _ (omega arith) w.low-is w.high_is c.lesser-cut.ensures
+    (across-more _ _ _ _ b _ (up4 b) _ _ _ _ _ (omega arith) w.low-is w.high_is c.min-cut.ensures
     (rw c.three_cuts-lower.ensures (across-three _ _ _ _ b _ _ _ _ w.below-costs w.above-costs)))
     c.settled.ensures

@@ -83,7 +83,7 @@ overflow_add-second c =
     (whole-stacked g w.placed.sound _ _ _ b (suc b) (up2 b) _ _ (omega arith) (omega arith) w.low_sums w.middle-sums)) in
     let second_is : (g : Grid) → (b : ℕ) → Of g b → c.settled-second.result ≡ Price g b (up2 b) = λ g b w. (piece_cost g _ _ _ w.placed b (up2 b) _ _ _ _ _ (omega arith) (omega (arith, w.within)) (two-are g b w) (next-pairs g.rows b _ w.entry-is).0
     c.least_cuts-least.ensures.second
-    (across-more _ _ _ _ b _ _ _ _ _ _ _ (omega arith) (first-is g b w) w.above-costs.first-is c.lesser-cut.ensures (across-none _ _ _ _ _ _ _))
+    (across-more _ _ _ _ b _ _ _ _ _ _ _ (omega arith) (first-is g b w) w.above-costs.first-is c.min-cut.ensures (across-none _ _ _ _ _ _ _))
     c.settled-second.ensures) in
     record {
       fits =
@@ -114,7 +114,7 @@ returns c g b w =
     (whole-stacked g w.placed.sound _ _ _ b (suc b) (up2 b) _ _ (omega arith) (omega arith) w.low_sums w.middle-sums)) in
     let second_is : (g : Grid) → (b : ℕ) → Of g b → c.settled-second.result ≡ Price g b (up2 b) = λ g b w. (piece_cost g _ _ _ w.placed b (up2 b) _ _ _ _ _ (omega arith) (omega (arith, w.within)) (two-are g b w) (next-pairs g.rows b _ w.entry-is).0
     c.least_cuts-least.ensures.second
-    (across-more _ _ _ _ b _ _ _ _ _ _ _ (omega arith) (first-is g b w) w.above-costs.first-is c.lesser-cut.ensures (across-none _ _ _ _ _ _ _))
+    (across-more _ _ _ _ b _ _ _ _ _ _ _ (omega arith) (first-is g b w) w.above-costs.first-is c.min-cut.ensures (across-none _ _ _ _ _ _ _))
     c.settled-second.ensures) in
     let all_are : (g : Grid) → (b : ℕ) → Of g b → Adds g b (up3 b) c.stacked-all.result = λ g b w. (subst (Whole g _ _ _ b (up3 b)) (sym c.stacked-all.ensures)
     (whole-stacked g w.placed.sound _ _ _ b (up2 b) (up3 b) _ _ (omega arith) (omega arith) (two-are g b w) w.high_sums)) in
@@ -126,8 +126,8 @@ returns c g b w =
       third-is =
           piece_cost g _ _ _ w.placed b (up3 b) _ _ _ _ _ (omega arith) w.within (all_are g b w) (next-pairs g.rows b _ w.entry-is).1
           c.least_cuts-least.ensures.third
-          (across-more _ _ _ _ b _ _ _ _ _ _ _ (omega arith) z w.above-costs.third-is c.lesser-upper.ensures
-          (across-more _ _ _ _ b _ _ _ _ _ _ _ (omega arith) y w.above-costs.second_is c.lesser-lower.ensures
+          (across-more _ _ _ _ b _ _ _ _ _ _ _ (omega arith) z w.above-costs.third-is c.min-upper.ensures
+          (across-more _ _ _ _ b _ _ _ _ _ _ _ (omega arith) y w.above-costs.second_is c.min-lower.ensures
           (across-none _ _ _ _ _ _ _)))
           c.settled-third.ensures;
     }

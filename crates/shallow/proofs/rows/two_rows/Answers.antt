@@ -80,7 +80,7 @@ returns c g b w =
           piece_cost g _ _ _ w.placed b (up2 b) _ _ _ _ _ (omega arith) (omega (arith, w.rows_are)) (both-are g b w)
           (omega (arith, w.placed.pairs_are, top-pairs g.rows b w.rows_are))
           c.least_cuts-least.ensures.second
-          (across-more _ _ _ _ b _ _ _ _ _ _ _ (omega arith) y z c.lesser-cut.ensures (across-none _ _ _ _ _ _ _))
+          (across-more _ _ _ _ b _ _ _ _ _ _ _ (omega arith) y z c.min-cut.ensures (across-none _ _ _ _ _ _ _))
           c.settled-second.ensures;
       third-is = z;
     }

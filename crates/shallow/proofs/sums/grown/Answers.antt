@@ -1,10 +1,6 @@
 -- `shallow::sums::grown` meets its contract. Assumes nothing.
-use native.Mathlib.Omega.{arith}
 use Rattle.shallow.proofs.Summing.{grown-made}
 use Rattle.shallow.proofs.sums.grown.Goals as goal
-
-pub overflow_add-result-4 : goal.overflow_add-result-4
-overflow_add-result-4 c = omega (arith, c.exposed-top.ensures.1, c.requires.small.0.top, c.requires.small.1)
 
 pub returns : goal.returns
 returns c =

@@ -5,26 +5,23 @@ use Rattle.shares.proofs.Measured.{shares-none, shares-end, due_none, due_more, 
 use Rattle.shares.proofs.measuring.measure.Goals as goal
 
 pub loop-j-init : goal.loop-j-init
-loop-j-init c = (omega arith, (shares-none _ _ _ _ (omega arith) c.requires.short_value.0, (due_none _, omega arith)))
+loop-j-init c = (shares-none _ _ _ _ (omega arith) c.requires.short_value.0, (due_none _, omega arith))
 
 pub measure_row-due-requires : goal.measure_row-due-requires
 measure_row-due-requires c =
     let h = limits_at _ _ _ _ _ c.requires.laid in
-    record { short_len = (c.loop-j.invariant.1.0.long, (c.requires.short_value.1, h.0)); by_index = λ i q. measurable _ _ _ _ _ c.requires.laid i c.loop-j.j q c.loop-j-test.true }
+    record { short_len = (c.loop-j.invariant.0.long, (c.requires.short_value.1, h.0)); by_index = λ i q. measurable _ _ _ _ _ c.requires.laid i c.loop-j.j q (omega arith) }
 
 pub overflow_add-due : goal.overflow_add-due
 overflow_add-due c =
     let h = limits_at _ _ _ _ _ c.requires.laid in
-    record { fits = omega (arith, c.loop-j.invariant.0, c.loop-j.invariant.1.1.1, h.1, c.measure_row-due.ensures.value.1) }
+    record { fits = omega (arith, c.loop-j.invariant.1.1, h.1, c.measure_row-due.ensures.value.1) }
 
 pub loop-j-preserved : goal.loop-j-preserved
 loop-j-preserved c = (
-  omega (arith, c.loop-j-test.true),
-  (
-    c.measure_row-due.ensures.shares_to _ (row_at _ _ _ _ _ c.requires.laid c.loop-j.j c.loop-j-test.true) c.loop-j.invariant.1.0,
-    (due_more _ _ _ _ c.loop-j.invariant.1.1.0 c.measure_row-due.ensures.value.0, omega (arith, c.loop-j.invariant.1.1.1, c.measure_row-due.ensures.value.1)),
-  ),
+  c.measure_row-due.ensures.shares_to _ (row_at _ _ _ _ _ c.requires.laid c.loop-j.j (omega arith)) c.loop-j.invariant.0,
+  (due_more _ _ _ _ c.loop-j.invariant.1.0 c.measure_row-due.ensures.value.0, omega (arith, c.loop-j.invariant.1.1, c.measure_row-due.ensures.value.1)),
 )
 
 pub returns : goal.returns
-returns c = record { shares = shares-end _ _ _ _ _ c.requires.laid _ _ _ c.loop-j-test.false c.loop-j.invariant.1.0; value = dues_end _ _ _ _ _ c.requires.laid _ _ _ _ c.loop-j.invariant.0 c.loop-j-test.false c.loop-j.invariant.1.1.0 }
+returns c = record { shares = shares-end _ _ _ _ _ c.requires.laid _ _ _ (omega arith) c.loop-j.invariant.0; value = dues_end _ _ _ _ _ c.requires.laid _ _ _ _ (omega arith) (omega arith) c.loop-j.invariant.1.0 }

@@ -4,25 +4,16 @@ use Rattle.shares.proofs.Measured.{shares_at, shares-more, shares-row, due_none,
 use Rattle.shares.proofs.measuring.measure_row.Goals as goal
 
 pub loop-i-init : goal.loop-i-init
-loop-i-init c = (omega arith, (c.requires.short_len.0, (λ g row w. shares_at _ _ _ _ _ (omega arith) w, (due_none _, omega arith))))
-
-pub measure_cell-due-requires : goal.measure_cell-due-requires
-measure_cell-due-requires c = record { short_len = (c.loop-i.invariant.1.0, c.requires.short_len.1.0); measurable = c.requires.by_index c.loop-i.i c.loop-i-test.true }
-
-pub overflow_add-due : goal.overflow_add-due
-overflow_add-due c = record { fits = omega (arith, c.loop-i.invariant.0, c.loop-i.invariant.1.1.1.1, c.requires.short_len.1.1, c.measure_cell-due.ensures.value.1) }
+loop-i-init c = (c.requires.short_len.0, (λ g row w. shares_at _ _ _ _ _ (omega arith) w, (due_none _, omega arith)))
 
 pub loop-i-preserved : goal.loop-i-preserved
 loop-i-preserved c = (
-  omega (arith, c.loop-i-test.true),
+  c.measure_cell-due.ensures.put.long ∙ c.loop-i.invariant.0,
   (
-    c.measure_cell-due.ensures.put.long ∙ c.loop-i.invariant.1.0,
-    (
-      λ g row w. shares-more _ _ _ _ _ _ _ row _ _ _ c.loop-i-test.true c.measure_cell-due.ensures.put (c.loop-i.invariant.1.1.0 g row w),
-      (due_more _ _ _ _ c.loop-i.invariant.1.1.1.0 c.measure_cell-due.ensures.value.0, omega (arith, c.loop-i.invariant.1.1.1.1, c.measure_cell-due.ensures.value.1)),
-    ),
+    λ g row w. shares-more _ _ _ _ _ _ _ row _ _ _ (omega arith) c.measure_cell-due.ensures.put (c.loop-i.invariant.1.0 g row w),
+    (due_more _ _ _ _ c.loop-i.invariant.1.1.0 c.measure_cell-due.ensures.value.0, omega (arith, c.loop-i.invariant.1.1.1, c.measure_cell-due.ensures.value.1)),
   ),
 )
 
 pub returns : goal.returns
-returns c = record { shares_to = λ g row w. shares-row _ _ _ _ _ _ _ row _ _ c.loop-i.invariant.0 c.loop-i-test.false (c.loop-i.invariant.1.1.0 g row w); value = (due_end _ _ _ _ c.loop-i.invariant.0 c.loop-i-test.false c.loop-i.invariant.1.1.1.0, omega (arith, c.loop-i.invariant.0, c.loop-i.invariant.1.1.1.1, c.requires.short_len.1.1)) }
+returns c = record { shares_to = λ g row w. shares-row _ _ _ _ _ _ _ row _ _ (omega arith) (omega arith) (c.loop-i.invariant.1.0 g row w); value = (due_end _ _ _ _ (omega arith) (omega arith) c.loop-i.invariant.1.1.0, omega (arith, c.loop-i.invariant.1.1.1, c.requires.short_len.1.1)) }

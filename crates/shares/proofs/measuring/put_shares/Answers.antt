@@ -3,4 +3,4 @@ use Rattle.tally.proofs.Shares.{put_five}
 use Rattle.shares.proofs.measuring.put_shares.Goals as goal
 
 pub returns : goal.returns
-returns c = put_five _ _ _ _ _ _ _ c.requires.short_len.0 c.requires.short_len.1
+returns c = rw c.from.ensures (put_five _ _ _ _ _ _ _ c.requires.short_len.0 c.requires.short_len.1)

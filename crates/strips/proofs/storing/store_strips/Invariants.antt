@@ -7,6 +7,3 @@ use Rattle.strips.proofs.storing.store_strips.Given as goal
 
 abbrev pub invariant-loop-a : goal.invariant-loop-a
 invariant-loop-a l = (l.a + l.w ≤ l.columns + 1) × ((l.row ≡ pairs_below l.columns l.a + (l.w - 1)) × Rows l.columns l.pairs l.w l.side l.initial.table l.a l.table)
-
-abbrev pub decreases-loop-a : goal.decreases-loop-a
-decreases-loop-a l = l.columns + 1 - l.a

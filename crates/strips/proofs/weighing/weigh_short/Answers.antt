@@ -12,8 +12,8 @@ weigh_chunk-requires-2 c = record { weighable = c.requires.weighable; side_len =
 
 pub returns : goal.returns
 returns c =
-    chunk_end _ _ _ _ _ (c.args.pairs - 8 + 8) _ _ (omega (arith, c.requires.side_len.1.0))
-    (chunk_more _ _ _ _ _ 8 (c.args.pairs - 8) 8 _ _ _ (lane_most _ _ _ _ _ _ c.requires.weighable)
+    chunk_end _ _ _ _ _ (c.args.s.pairs - 8 + 8) _ _ (omega (arith, c.requires.side_len.1.0))
+    (chunk_more _ _ _ _ _ 8 (c.args.s.pairs - 8) 8 _ _ _ (lane_most _ _ _ _ _ _ c.requires.weighable)
     (omega (arith, c.requires.side_len.1.1))
     (omega (arith, c.requires.side_len.1.0))
     c.weigh_chunk.ensures

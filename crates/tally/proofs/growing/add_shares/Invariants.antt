@@ -1,11 +1,7 @@
 -- `tally::growing::add_shares` meets its contract: the sums before the l-th have their share. Assumes nothing.
-use Prim.Native.Nat.{◌-◌, ◌≤◌}
 use Rattle.table.specs.Run.{Wrote}
 use Rattle.tally.specs.Growth.{added}
 use Rattle.tally.proofs.growing.add_shares.Given as goal
 
 abbrev pub invariant-loop-l : goal.invariant-loop-l
-invariant-loop-l l = (l.l ≤ 16) × Wrote (added l.initial.sums l.unit l.at l.from) l.at l.l l.initial.sums l.sums
-
-abbrev pub decreases-loop-l : goal.decreases-loop-l
-decreases-loop-l l = 16 - l.l
+invariant-loop-l l = Wrote (added l.initial.sums l.unit l.at l.from) l.at l.l l.initial.sums l.sums

@@ -2,5 +2,5 @@
 use Rattle.terminal.specs.Output.{Remembers}
 use Rattle.terminal.proofs.output.print.Given as goal
 
-abbrev pub invariant-loop-i : goal.invariant-loop-i
-invariant-loop-i l = Remembers l.fn.out l.next
+abbrev pub invariant-loop-byte : goal.invariant-loop-byte
+invariant-loop-byte l = Remembers l.fn.out l.next

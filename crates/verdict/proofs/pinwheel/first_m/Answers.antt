@@ -6,11 +6,8 @@ use Rattle.verdict.proofs.Search.{passed_none, passed-more, first-here, first-no
 use Rattle.verdict.proofs.Hunting.{lines_of, addable, meets_so, meets-not}
 use Rattle.verdict.proofs.pinwheel.first_m.Goals as goal
 
-pub overflow_add-m : goal.overflow_add-m
-overflow_add-m c = omega (arith, c.requires.huntable.small.rows, c.requires.huntable.valid.dy, c.requires.a_lt_j.1.1.1.1)
-
 pub loop-m-init : goal.loop-m-init
-loop-m-init c = (omega arith, omega (arith, c.requires.a_lt_j.1.1.1.1), passed_none _ _)
+loop-m-init c = passed_none _ _
 
 pub wheel_of-wheel-requires : goal.wheel_of-wheel-requires
 wheel_of-wheel-requires c =
@@ -19,7 +16,7 @@ wheel_of-wheel-requires c =
       jl = c.requires.a_lt_j.1.0;
       lc = c.requires.a_lt_j.1.1.0;
       bk = c.requires.a_lt_j.1.1.1.0;
-      km = omega (arith, c.loop-m.invariant.0);
+      km = omega arith;
       md = c.loop-m-test.true;
     }) in
     lines_of _ _ c.requires.huntable (lines)
@@ -31,22 +28,17 @@ weight_of-requires c =
       jl = c.requires.a_lt_j.1.0;
       lc = c.requires.a_lt_j.1.1.0;
       bk = c.requires.a_lt_j.1.1.1.0;
-      km = omega (arith, c.loop-m.invariant.0);
+      km = omega arith;
       md = c.loop-m-test.true;
     }) in
     addable _ _ c.requires.huntable (lines) c.wheel_of-wheel.ensures
 
-pub returns-then-weight_of-cost : goal.returns-then-weight_of-cost
-returns-then-weight_of-cost c =
-    first-here _ _ _ _ c.loop-m.invariant.0 c.loop-m-test.true c.loop-m.invariant.2
-    (meets_so _ _ _ _ _ _ c.wheel_of-wheel.ensures c.weight_of.ensures c.if-weight_of-cost.true)
+pub returns-then-weight_of-s : goal.returns-then-weight_of-s
+returns-then-weight_of-s c =
+    (first-here _ _ _ _ (omega arith) c.loop-m-test.true c.loop-m.invariant (meets_so _ _ _ _ _ _ c.wheel_of-wheel.ensures c.weight_of.ensures c.if-weight_of-s.true), c.loop-m-test.true)
 
 pub loop-m-preserved : goal.loop-m-preserved
-loop-m-preserved c = (
-  omega (arith, c.loop-m.invariant.0),
-  omega (arith, c.loop-m-test.true),
-  passed-more _ _ _ c.loop-m.invariant.2 (meets-not _ _ _ _ _ _ c.wheel_of-wheel.ensures c.weight_of.ensures c.if-weight_of-cost.false),
-)
+loop-m-preserved c = passed-more _ _ _ c.loop-m.invariant (meets-not _ _ _ _ _ _ c.wheel_of-wheel.ensures c.weight_of.ensures c.if-weight_of-s.false)
 
 pub returns : goal.returns
-returns c = first-none _ _ _ _ (omega arith) (omega arith) (omega arith) c.loop-m.invariant.2
+returns c = first-none _ _ _ _ (omega (arith, c.requires)) (omega arith) (omega arith) (λ i h k. c.loop-m.invariant i h (omega arith))

@@ -1,11 +1,8 @@
 -- `verdict::pinwheel::first_m` meets its contract. The invariant: no line passed does. Assumes nothing.
-use Prim.Native.Nat.{◌≤◌, ◌-◌}
+use Prim.Native.Nat.{◌+◌}
 use Rattle.verdict.specs.Pinwheels.{Meets}
 use Rattle.verdict.proofs.Search.{Passed}
 use Rattle.verdict.proofs.pinwheel.first_m.Given as goal
 
 abbrev pub invariant-loop-m : goal.invariant-loop-m
-invariant-loop-m l = (l.initial.m ≤ l.m) × (l.m ≤ l.top) × Passed (Meets l.costs l.s l.j.0 l.l.0 l.k.0) l.initial.m l.m
-
-abbrev pub decreases-loop-m : goal.decreases-loop-m
-decreases-loop-m l = l.top - l.m
+invariant-loop-m l = Passed (Meets l.costs l.s l.j.0 l.l.0 l.k.0) (l.k.0 + 1) l.m

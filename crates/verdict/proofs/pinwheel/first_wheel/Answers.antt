@@ -1,22 +1,13 @@
 -- `verdict::pinwheel::first_wheel` meets its contract. Assumes nothing.
 use mathlib.Core.Logic.{inl, inr}
-use Rattle.verdict.proofs.Hunting.{none_of, second-found}
+use Rattle.verdict.proofs.Search.{some-of, some-said}
 use Rattle.verdict.proofs.pinwheel.first_wheel.Goals as goal
 
-pub first_j-i-requires : goal.first_j-i-requires
-first_j-i-requires c = c.requires.first
+pub returns-in-Some : goal.returns-in-Some
+returns-in-Some c = inl c.in-Some.ensures
 
-pub lowest_wheel-requires : goal.lowest_wheel-requires
-lowest_wheel-requires c = record { huntable = c.requires.first; first_with = (c.first_j-i.ensures, c.if-i-end.true) }
-
-pub returns-then-i-end : goal.returns-then-i-end
-returns-then-i-end c = inl c.lowest_wheel.ensures
-
-pub first_j-j-requires : goal.first_j-j-requires
-first_j-j-requires c = c.requires.second
-
-pub lowest_wheel-requires-2 : goal.lowest_wheel-requires-2
-lowest_wheel-requires-2 c = record { huntable = c.requires.second; first_with = (c.first_j-j.ensures, second-found _ _ _ _ c.requires c.first_j-i.ensures c.if-i-end.false c.first_j-j.ensures) }
+pub unwrap-requires : goal.unwrap-requires
+unwrap-requires c = some-of _ _ (λ n. c.requires.some c.in_default.ensures n) c.lowest_wheel-2.ensures
 
 pub returns : goal.returns
-returns c = inr (none_of _ _ c.first_j-i.ensures c.if-i-end.false, c.lowest_wheel-2.ensures)
+returns c = inr (c.in_default.ensures, some-said _ _ _ _ c.unwrap.ensures c.lowest_wheel-2.ensures)

@@ -8,7 +8,7 @@ pub loop-l-init : goal.loop-l-init
 loop-l-init c = (omega arith, wrote_none _ _ _)
 
 pub loop-l-preserved : goal.loop-l-preserved
-loop-l-preserved c = (omega arith, gathered-more _ _ c.loop-l.best _ _ _ c.args.lanes c.loop-l.l _ _ c.requires.0 (omega arith) c.together-sum.ensures c.lesser.ensures c.loop-l.invariant.1)
+loop-l-preserved c = (omega arith, gathered-more _ _ c.loop-l.best _ _ _ c.args.lanes c.loop-l.l _ _ c.requires.0 (omega arith) c.together-sum.ensures c.min.ensures c.loop-l.invariant.1)
 
 pub returns : goal.returns
 returns c = wrote_end _ _ _ _ _ _ c.loop-l.invariant.0 c.loop-l-test.false c.loop-l.invariant.1

@@ -13,9 +13,6 @@ pair_number-far-requires c = (c.requires.ground.0.rows-most, (omega (arith, c.re
 pub pair_number-middle-requires : goal.pair_number-middle-requires
 pair_number-middle-requires c = (c.requires.ground.0.rows-most, (c.requires.ground.1.0.low-high, omega (arith, c.requires.ground.1.0.high-most)))
 
-pub overflow_add-x : goal.overflow_add-x
-overflow_add-x c = record { fits = omega (arith, c.requires.ground.1.0.some-between, c.requires.ground.1.0.before-most, c.requires.ground.0.width-most) }
-
 pub loop-x-init : goal.loop-x-init
 loop-x-init c = (omega arith, (omega (arith, c.requires.ground.1.0.some-between), (refl, lines_none _ _ _ _ _ _)))
 
@@ -42,12 +39,6 @@ gather-requires c = (
     ),
   ),
 )
-
-pub overflow_add-x-in-loop-x : goal.overflow_add-x-in-loop-x
-overflow_add-x-in-loop-x c = record { fits = omega (arith, c.loop-x-test.true, c.requires.ground.1.0.before-most, c.requires.ground.0.width-most) }
-
-pub loop-x-smaller : goal.loop-x-smaller
-loop-x-smaller c = omega (arith, c.loop-x-test.true)
 
 pub loop-x-preserved : goal.loop-x-preserved
 loop-x-preserved c = (

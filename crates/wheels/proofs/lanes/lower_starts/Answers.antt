@@ -53,12 +53,6 @@ lower-requires c =
     let p = pair_in c.args.s c.args.store.now c.loop-b.b c.args.d _ c.requires.ground.0 (omega (arith, c.loop-b-test.true, c.requires.ground.1.0.low-high, c.requires.ground.1.1)) c.requires.ground.1.1.1 c.pair_number-piece.ensures.0 in
     (omega (arith, p, c.requires.ground.0.pairs-all, pairs_small c.args.s.rows c.requires.ground.0.rows-most, c.loop-b.invariant.1.1.long, c.requires.side_len), omega (arith, c.add.ensures.long, c.loop-b.invariant.1.0, c.requires.side_len))
 
-pub overflow_add-b : goal.overflow_add-b
-overflow_add-b c = record { fits = omega (arith, c.loop-b-test.true, c.requires.ground.1.0.low-high, c.requires.ground.1.0.high-most, c.requires.ground.0.rows-most) }
-
-pub loop-b-smaller : goal.loop-b-smaller
-loop-b-smaller c = omega (arith, c.loop-b-test.true)
-
 pub loop-b-preserved : goal.loop-b-preserved
 loop-b-preserved c = (
   omega (arith, c.loop-b-test.true),

@@ -11,12 +11,6 @@ loop-k-init c = (omega arith, (c.requires.ground.0.rows-some, among_none _ _ _ _
 pub weigh_pairs-requires : goal.weigh_pairs-requires
 weigh_pairs-requires c = record { ground = (c.requires.ground.0, (c.loop-k.invariant.1.1.long ∙ c.requires.ground.1.0, (c.requires.ground.1.1.0, (c.requires.ground.1.1.1, (c.loop-k.invariant.0, c.loop-k-test.true))))); all_fit = c.requires.all_fit }
 
-pub overflow_add-k : goal.overflow_add-k
-overflow_add-k c = record { fits = omega (arith, c.loop-k-test.true, c.requires.ground.0.rows-most) }
-
-pub loop-k-smaller : goal.loop-k-smaller
-loop-k-smaller c = omega (arith, c.loop-k-test.true)
-
 pub loop-k-preserved : goal.loop-k-preserved
 loop-k-preserved c = (omega arith, (omega (arith, c.loop-k-test.true), among-more c.args.s.count 1 c.loop-k.k (FromTo c.args.store.now c.args.s c.args.line) c.args.side.now c.loop-k.side _ c.loop-k.invariant.0 c.loop-k.invariant.1.1 c.weigh_pairs.ensures))
 

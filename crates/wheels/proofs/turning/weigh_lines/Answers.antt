@@ -10,12 +10,6 @@ loop-line-init c = (omega arith, (c.requires.ground.1.1.1.0, among_none _ _ _ _ 
 pub weigh_line-requires : goal.weigh_line-requires
 weigh_line-requires c = record { ground = (c.requires.ground.0, (c.loop-line.invariant.1.1.long ∙ c.requires.ground.1.0, (omega (arith, c.requires.ground.1.1.0, c.loop-line.invariant.0), omega (arith, c.loop-line-test.true, c.requires.ground.1.1.1.1)))); all_fit = c.requires.all_fit }
 
-pub overflow_add-line : goal.overflow_add-line
-overflow_add-line c = record { fits = omega (arith, c.loop-line-test.true, c.requires.ground.1.1.1.1, c.requires.ground.0.width-most) }
-
-pub loop-line-smaller : goal.loop-line-smaller
-loop-line-smaller c = omega (arith, c.loop-line-test.true)
-
 pub loop-line-preserved : goal.loop-line-preserved
 loop-line-preserved c = (
   omega (arith, c.loop-line.invariant.0),

@@ -4,9 +4,6 @@ use Rattle.wheels.proofs.Weighed.{among_none}
 use Rattle.wheels.proofs.Turns.{first_turning, second_turning, first_fitting, second_fitting, both-more, pairs_end}
 use Rattle.wheels.proofs.turning.weigh_pairs.Goals as goal
 
-pub overflow_add-m : goal.overflow_add-m
-overflow_add-m c = record { fits = omega (arith, c.requires.ground.1.1.1.1.1, c.requires.ground.0.rows-most) }
-
 pub loop-m-init : goal.loop-m-init
 loop-m-init c = (omega arith, (omega (arith, c.requires.ground.1.1.1.1.1), among_none _ _ _ _ _ (omega arith)))
 
@@ -15,12 +12,6 @@ weigh_turn-requires c = record { ground = (c.requires.ground.0, (first_turning c
 
 pub weigh_turn-requires-in-loop-m : goal.weigh_turn-requires-in-loop-m
 weigh_turn-requires-in-loop-m c = record { ground = (c.requires.ground.0, (second_turning c.args.s c.args.line c.args.k c.loop-m.m c.requires.ground.1.1.0 c.requires.ground.1.1.1.0 c.requires.ground.1.1.1.1.0 c.loop-m.invariant.0 c.loop-m-test.true, c.weigh_turn.ensures.long ∙ c.loop-m.invariant.1.1.long ∙ c.requires.ground.1.0)); fitting = second_fitting _ c.args.s c.args.line c.args.k c.loop-m.m c.requires.ground.1.1.0 c.requires.ground.1.1.1.0 c.requires.ground.1.1.1.1.0 c.loop-m.invariant.0 c.loop-m-test.true c.requires.all_fit }
-
-pub overflow_add-m-in-loop-m : goal.overflow_add-m-in-loop-m
-overflow_add-m-in-loop-m c = record { fits = omega (arith, c.loop-m-test.true, c.requires.ground.0.rows-most) }
-
-pub loop-m-smaller : goal.loop-m-smaller
-loop-m-smaller c = omega (arith, c.loop-m-test.true)
 
 pub loop-m-preserved : goal.loop-m-preserved
 loop-m-preserved c = (omega (arith, c.loop-m.invariant.0), (omega (arith, c.loop-m-test.true), both-more c.args.store.now c.args.side.now c.loop-m.side _ _ c.args.s c.args.line c.args.k c.loop-m.m c.loop-m.invariant.0 c.loop-m.invariant.1.1 c.weigh_turn.ensures c.weigh_turn-in-loop-m.ensures))

@@ -21,15 +21,6 @@ charge-requires c =
     let e = ends-here c.args.sums.now c.loop-l.l c.args.level.low c.args.level.high _ _ refl refl in
     (sliver-fits _ _ _ _ _ _ c.sliver_of_height-sliver.ensures m.0 (omega (arith, m.1, e)), c.requires.low_lt_high.1.1.1.1)
 
-pub overflow_add-side : goal.overflow_add-side
-overflow_add-side c = record { fits = omega (arith, c.requires.low_lt_high) }
-
-pub offset_bounds-side-at : goal.offset_bounds-side-at
-offset_bounds-side-at c = record { fits = omega (arith, c.requires.low_lt_high) }
-
-pub bounds-side-at : goal.bounds-side-at
-bounds-side-at c = omega (arith, c.loop-l.invariant.1.long, c.requires.low_lt_high)
-
 pub loop-l-preserved : goal.loop-l-preserved
 loop-l-preserved c =
     let e = ends-here c.args.sums.now c.loop-l.l c.args.level.low c.args.level.high _ _ refl refl in (

@@ -9,6 +9,3 @@ use Rattle.widths.proofs.lanes.weigh_lanes.Given as goal
 
 abbrev pub invariant-loop-k : goal.invariant-loop-k
 invariant-loop-k now = (now.low < now.k) × ((now.k ≤ now.high) × ((length now.best ≡ length now.initial.best) × ((now.lower ≡ 16 * (pairs_below now.rows now.low + (now.k - now.low - 1))) × ((now.upper ≡ 16 * (pairs_below now.rows now.k + (now.high - now.k) - 1)) × ((l : ℕ) → l < now.lanes → Lowest (parts_at now.side now.rows l now.low now.high) now.low now.k (get_or now.initial.best l 0) (get_or now.best l 0))))))
-
-abbrev pub decreases-loop-k : goal.decreases-loop-k
-decreases-loop-k l = l.high - l.k

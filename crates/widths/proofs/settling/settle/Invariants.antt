@@ -8,6 +8,3 @@ use Rattle.widths.proofs.settling.settle.Given as goal
 
 abbrev pub invariant-loop-b : goal.invariant-loop-b
 invariant-loop-b l = (l.b ≤ l.rows) × ((l.first ≡ pairs_below l.rows l.b) × ((length l.side ≡ length l.initial.side) × ((s : ℕ → ℕ → ℕ → ℕ) → Priced s (sheet l.sums l.widths l.ys l.rule l.rows l.w l.n) l.initial.side l.rows (l.rows + 1) → Priced s (sheet l.sums l.widths l.ys l.rule l.rows l.w l.n) l.side l.b (l.rows + 1))))
-
-abbrev pub decreases-loop-b : goal.decreases-loop-b
-decreases-loop-b l = l.b

@@ -3,7 +3,7 @@ use Prim.Native.Nat.{ℕ, ◌+◌, ◌*◌, ◌-◌}
 use mathlib.Core.Path.{◌≡◌, refl, sym, ◌∙◌, ap}
 use native.Mathlib.Omega.{arith}
 use native.Mathlib.Nat.{zero-mul}
-use Rattle.table.proofs.Pairs.{cells-more, cells-most}
+use Rattle.table.proofs.Pairs.{cells-more}
 use Rattle.widths.specs.Price.{sheet}
 use Rattle.widths.proofs.Price.{running_none, running_more, running_on, running_most, priced-fits, price_step, priced-end}
 use Rattle.widths.proofs.settling.settle_from.Goals as goal
@@ -26,9 +26,6 @@ loop-high-init c = (
   ),
 )
 
-pub overflow_add-cells : goal.overflow_add-cells
-overflow_add-cells c = record { fits = omega (arith, cells-more c.args.low c.loop-high.high c.args.w c.loop-high.cells c.loop-high.invariant.0 c.loop-high.invariant.1.1.0, cells-most c.args.low c.loop-high.high c.args.w c.args.rows c.loop-high-test.true c.requires.measured.rows-most c.requires.measured.width-most) }
-
 pub span-height-requires : goal.span-height-requires
 span-height-requires c = (omega (arith, c.requires.measured.ys-length, c.requires.measured.rows-most, c.requires.low_lt_rows), (omega (arith, c.requires.measured.ys-length, c.requires.measured.rows-most), c.requires.measured.ys-up c.args.low c.loop-high.high (omega (arith, c.loop-high.invariant.0)) c.loop-high-test.true))
 
@@ -48,7 +45,7 @@ loop-high-preserved c =
             c.settle_some.auto.side ∙ c.loop-high.invariant.1.1.1.0,
             (
               running_on _ _ _ _ _ _ _ _ w,
-              λ f k. price_step f (sheet c.args.sums.now c.args.widths.now c.args.ys.now c.args.rule c.args.rows c.args.w c.args.n) c.loop-high.side _ c.args.low c.loop-high.high _ _ c.loop-high.count _ c.loop-high.flanks _ c.requires.measured (c.loop-high.invariant.1.1.1.1.1 f k) c.loop-high.invariant.0 c.loop-high-test.true ec c.span-height.ensures w c.settle_some.ensures,
+              λ f k. price_step f (sheet c.args.sums.now c.args.widths.now c.args.ys.now c.args.rule c.args.rows c.args.w c.args.n) c.loop-high.side _ c.args.low c.loop-high.high _ _ c.loop-high.count _ c.loop-high.flanks _ c.requires.measured (c.loop-high.invariant.1.1.1.1.1 f k) c.loop-high.invariant.0 c.loop-high-test.true ec c.span-height.ensures.0 w c.settle_some.ensures,
             ),
           ),
         ),

@@ -1,9 +1,0 @@
--- `fill::fill_small` meets its contract. Assumes nothing.
-use Rattle.fill.proofs.Filled.{filled-short, filled-long}
-use Rattle.fill.proofs.fill_small.Goals as goal
-
-pub returns-then-fill : goal.returns-then-fill
-returns-then-fill c = filled-short _ _ _ _ c.fill.result c.if-fill.true c.fill.ensures
-
-pub returns : goal.returns
-returns c = filled-long _ _ _ _ _ c.fill.result c.if-fill.false c.fill.ensures c.fill_straight.ensures

@@ -1,9 +1,0 @@
--- The loop passes each turn once. Assumes nothing.
-use Prim.Native.Nat.{◌-◌}
-use Rattle.picture.proofs.shots.each_shot.Given as goal
-
-abbrev pub invariant-loop-n : goal.invariant-loop-n
-invariant-loop-n l = Unit {0}
-
-abbrev pub decreases-loop-n : goal.decreases-loop-n
-decreases-loop-n l = l.shots - l.n
