@@ -1,5 +1,5 @@
 // The words that a program is started with, numbered from 1, and the files that they name.
-ghost use Rattle.std.specs.Prelude.{length, IfSome, ◌≤◌};
+ghost use Rattle.std.specs.Prelude.{length, MatchResult, ◌≤◌};
 
 use crate::errors::{complain, say};
 use crate::host::Host;
@@ -55,15 +55,15 @@ fn say_unread(err: Stderr, program: &[u8], path: &[u8], unread: Unread) {
     say(err, b": ");
     say(err, path);
     say(err, b": ");
-    if let Unread::Because(why) = unread {
+    if let Some(why) = unread.why {
         say_reason(err, why);
     }
     say(err, b"\n");
 }
 
-// Standard input, as much of it as the buffer holds: how many bytes; none where reading failed, and that is told.
-pub fn read_standard<H: Host>(host: &H, program: &[u8], buffer: &mut [u8]) -> Option<usize>
-    ensures { IfSome result (λ n. n ≤ length buffer.new) }
+// Standard input, as much of it as the buffer holds: how many bytes; where reading failed, that is told.
+pub fn read_standard<H: Host>(host: &H, program: &[u8], buffer: &mut [u8]) -> Result<usize, Unread>
+    ensures { MatchResult result (λ n. n ≤ length buffer.new) (λ unread. unread.bytes ≤ length buffer.new) }
 {
     let console = host.console();
     let mut input = console.input;
@@ -72,20 +72,23 @@ pub fn read_standard<H: Host>(host: &H, program: &[u8], buffer: &mut [u8]) -> Op
         say(console.err, program);
         complain(console.err, b": reading failed\n");
     }
-    read.ok()
+    read
 }
 
 // A file, in the same way.
-pub fn read_file<H: Host>(host: &H, program: &[u8], path: &[u8], buffer: &mut [u8]) -> Option<usize>
-    ensures { IfSome result (λ n. n ≤ length buffer.new) }
+pub fn read_file<H: Host>(
+    host: &H,
+    program: &[u8],
+    path: &[u8],
+    buffer: &mut [u8],
+) -> Result<usize, Unread>
+    ensures { MatchResult result (λ n. n ≤ length buffer.new) (λ unread. unread.bytes ≤ length buffer.new) }
 {
-    match host.read_file(path, buffer) {
-        Ok(bytes) => Some(bytes),
-        Err(unread) => {
-            say_unread(host.console().err, program, path, unread);
-            None
-        }
+    let read = host.read_file(path, buffer);
+    if let Err(unread) = read {
+        say_unread(host.console().err, program, path, unread);
     }
+    read
 }
 
 // The file that argument i names, in the same way; `-` names standard input.
@@ -94,8 +97,8 @@ pub fn read_argument<H: Host>(
     program: &[u8],
     i: usize,
     buffer: &mut [u8],
-) -> Option<usize>
-    ensures { IfSome result (λ n. n ≤ length buffer.new) }
+) -> Result<usize, Unread>
+    ensures { MatchResult result (λ n. n ≤ length buffer.new) (λ unread. unread.bytes ≤ length buffer.new) }
 {
     if is_argument(host, i, b"-") {
         return read_standard(host, program, buffer);
@@ -107,14 +110,17 @@ pub fn read_argument<H: Host>(
             let err = host.console().err;
             say(err, program);
             complain(err, b": the name of a file is missing, or too long\n");
-            None
+            Err(Unread {
+                bytes: 0,
+                why: None,
+            })
         }
     }
 }
 
 // What a program with one input works on, in the same way: the file that its first word names, or standard input.
-pub fn read_only<H: Host>(host: &H, program: &[u8], buffer: &mut [u8]) -> Option<usize>
-    ensures { IfSome result (λ n. n ≤ length buffer.new) }
+pub fn read_only<H: Host>(host: &H, program: &[u8], buffer: &mut [u8]) -> Result<usize, Unread>
+    ensures { MatchResult result (λ n. n ≤ length buffer.new) (λ unread. unread.bytes ≤ length buffer.new) }
 {
     if host.word_count() < 2 {
         return read_standard(host, program, buffer);

@@ -20,7 +20,7 @@ pub struct Given<'a> {
 const NO_FILE: i32 = 2;
 
 // Copies as many bytes as there is room for: how many.
-pub fn copy_front(bytes: &[u8], into: &mut [u8]) -> usize
+fn copy_front(bytes: &[u8], into: &mut [u8]) -> usize
     ensures { result ≤ length into.new }
 {
     let n = bytes.len().min(into.len());
@@ -57,6 +57,6 @@ impl Host for Given<'_> {
         if self.word_at(self.named) == Some(path) {
             return Ok(copy_front(self.file?, buffer));
         }
-        Err(Unread::Because(Error::from_raw_os_error(NO_FILE)))
+        Err(Unread::from(Error::from_raw_os_error(NO_FILE)))
     }
 }

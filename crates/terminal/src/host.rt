@@ -1,5 +1,5 @@
 // Whatever a program is started by: the system, or a start in C (`given`).
-ghost use Rattle.std.specs.Prelude.{length, IfOk, IfSome, ◌≤◌};
+ghost use Rattle.std.specs.Prelude.{length, IfSome, MatchResult, ◌≤◌};
 
 use crate::console::Console;
 use crate::input::{Unread, read_all};
@@ -22,7 +22,7 @@ pub trait Host {
 
     // The file of this name, as much of it as the buffer holds: how many bytes.
     fn read_file(&self, path: &[u8], buffer: &mut [u8]) -> Result<usize, Unread>
-        ensures in_bounds { IfOk result (λ n. n ≤ length buffer.new) };
+        ensures in_bounds { MatchResult result (λ n. n ≤ length buffer.new) (λ unread. unread.bytes ≤ length buffer.new) };
 }
 
 // The number by which the system says that bytes are no text.
@@ -56,7 +56,7 @@ impl Host for LibcRuntime {
     // Std opens a file by a name that is text, and by no other.
     fn read_file(&self, path: &[u8], buffer: &mut [u8]) -> Result<usize, Unread> {
         let Ok(name) = from_utf8(path) else {
-            return Err(Unread::Because(Error::from_raw_os_error(NO_TEXT)));
+            return Err(Unread::from(Error::from_raw_os_error(NO_TEXT)));
         };
         let mut file = File::open(self, name)?;
         read_all(&mut file, Some(*self), buffer)

@@ -1,20 +1,27 @@
 // Input, read to its end or until a buffer is full.
-ghost use Rattle.std.specs.Prelude.{length, IfOk, ◌≤◌};
+ghost use Rattle.std.specs.Prelude.{length, MatchResult, Some, ◌≡◌, ◌≤◌};
 
 use crate::waiting::{PATIENCE, worth_another};
 use std::io::{Error, Read};
 use std::rt::HostRuntime;
 
-// Why reading failed: the system's reason; or the stream stayed not ready for as long as is waited.
+// What is known where reading failed: how many bytes came before, at the front of the buffer; and why, where the system says it. It says
+// nothing of a stream that stayed not ready for as long as is waited.
 #[derive(Clone, Copy)]
-pub enum Unread {
-    Because(Error),
-    Unready,
+pub struct Unread {
+    pub bytes: usize,
+    pub why: Option<Error>,
 }
 
+// Nothing came before.
 impl From<Error> for Unread {
+    ghost from_gives = { λ why unread. unread ≡ record { bytes = 0; why = Some why } };
+
     fn from(why: Error) -> Unread {
-        Unread::Because(why)
+        Unread {
+            bytes: 0,
+            why: Some(why),
+        }
     }
 }
 
@@ -24,7 +31,7 @@ fn read_some<R: Read>(
     clock: Option<HostRuntime>,
     buffer: &mut [u8],
 ) -> Result<usize, Unread>
-    ensures { IfOk result (λ n. n ≤ length buffer.old) }
+    ensures { MatchResult result (λ n. n ≤ length buffer.old) (λ unread. unread.bytes ≡ 0) }
 {
     for _ in 0..PATIENCE {
         match from.read(buffer) {
@@ -33,12 +40,15 @@ fn read_some<R: Read>(
             }
             Err(why) => {
                 if !worth_another(why, clock) {
-                    return Err(Unread::Because(why));
+                    return Err(Unread::from(why));
                 }
             }
         }
     }
-    Err(Unread::Unready)
+    Err(Unread {
+        bytes: 0,
+        why: None,
+    })
 }
 
 // What a reader has, to its end, or as much of it as the buffer holds: how many bytes. No `for`: how far one turn goes, the reader says.
@@ -47,15 +57,20 @@ pub fn read_all<R: Read>(
     clock: Option<HostRuntime>,
     buffer: &mut [u8],
 ) -> Result<usize, Unread>
-    ensures { IfOk result (λ n. n ≤ length buffer.new) }
+    ensures { MatchResult result (λ n. n ≤ length buffer.new) (λ unread. unread.bytes ≤ length buffer.new) }
 {
     let mut done = 0;
     while done < buffer.len() {
-        let more = read_some(from, clock, &mut buffer[done..])?;
-        if more == 0 {
-            break;
+        match read_some(from, clock, &mut buffer[done..]) {
+            Ok(0) => break,
+            Ok(more) => done += more,
+            Err(unread) => {
+                return Err(Unread {
+                    bytes: done,
+                    ..unread
+                });
+            }
         }
-        done += more;
     }
     Ok(done)
 }
