@@ -2,6 +2,7 @@
 --
 --   ample_number       == the outcome's number is the figure's own refusal, 2 to 5, or 0
 --   outcome_of         == the outcome of two lists that are those of a figure
+--   told-listed        == the list beside an answer holds its shots
 --   told-refused       == the answer is a refusal where the figure has one
 use Prim.Native.Nat.{ℕ, ◌*◌, ◌≤◌}
 use mathlib.Core.Path.{◌≡◌, sym, ◌∙◌, ap, ap₂}
@@ -15,6 +16,7 @@ use borrow.Author.Tests.{eq-eqb, ne_eqb}
 use Rattle.std.specs.Prelude.{Result, Ok, Err}
 use Rattle.std.specs.Result.{is_err}
 use Rattle.sum.proofs.Sum.{le-or}
+use Rattle.refusal.specs.declared.Refusal.TheVariants as because
 use Rattle.refusal.specs.Refusals.{refusal_no}
 use Rattle.refusal.proofs.Refusals.{refusal-some}
 use Rattle.rule.specs.Rules.{in_range}
@@ -23,12 +25,15 @@ use Rattle.outline.specs.Promise.{refusal}
 use Rattle.table.specs.Entry.{entry_count}
 use Rattle.piece.specs.declared.Mode.TheVariants.{Straight}
 use Rattle.demands.specs.Promise.{Asked, asked, drawn, rule_of, frame_shots, Outcome, refused, outcome}
+use Rattle.demands.specs.Refusals.{Condition}
 use Rattle.demands.specs.Demands.{Words}
-use Rattle.demands.proofs.Outcome.{accepted, short, outcome-figure, outcome-table, outcome-list, outcome-accepted}
-use Rattle.demands.proofs.Room.{ample}
+use Rattle.demands.proofs.Outcome.{accepted, short, outcome-figure, outcome-table, outcome-list, outcome-accepted, outcome-zero}
+use Rattle.demands.proofs.Refusals.{outcome-number, number-none}
+use Rattle.demands.proofs.Room.{lengths-kept, ample}
 use Rattle.fracture.specs.declared.Fractured.{Fractured}
 use Rattle.fracture.specs.declared.Denial.{Denial}
 use Rattle.fracture.specs.Told.{told}
+use Rattle.preparation.specs.Lines.{Listed}
 
 module _ (ask : Asked) (range : in_range ask.threshold ask.weight ≡ true) (words : Words ask.figure) (entries : 14400 ≤ length ask.table)
     (room : 900 ≤ length ask.list) where
@@ -59,6 +64,20 @@ module _ (ask : Asked) (range : in_range ask.threshold ask.weight ≡ true) (wor
       let z : refusal_no d.why ≡ refusal ask.figure = ap (λ (o : Outcome). o.number) e ∙ ample_number in
       let some = refusal-some d.why in
       sym (ap not (ne_eqb (refusal ask.figure) 0 (λ n. omega arith)))
+
+pub told-listed : (ask : Asked) (a : Result Fractured Denial) (table list : List ℕ) → told a table list ≡ outcome ask → Listed a (length list)
+unfolding told Condition accepted
+told-listed ask (Ok f) table list e =
+    let zero : 0 ≡ (outcome ask).number = ap (λ (o : Outcome). o.number) e in
+    let n : f.shots ≡ length (frame_shots ask.mode (drawn ask) (rule_of ask)) =
+    ap (λ (o : Outcome). o.shots) (e ∙ outcome-zero ask (sym zero))
+    in
+    let l : length list ≡ length ask.list = ap (λ (o : Outcome). length o.list) e ∙ (lengths-kept ask).1 in
+    elim (le-or (4 * length (frame_shots ask.mode (drawn ask) (rule_of ask))) (length ask.list)) [
+      | inl h ↦ omega (arith, n, l)
+      | inr h ↦ absurd (number-none ask (sym (outcome-number ask) ∙ sym zero) because.List h)
+    ]
+told-listed ask (Err d) table list e = tt
 
 pub outcome_of : (f : Figure) (l ns : List ℕ) (t w : ℕ) (table list : List ℕ) {o : Outcome} → o ≡ outcome (asked Straight l ns t w table list)
     → l ≡ f.numbers → ns ≡ f.lengths → o ≡ outcome (record { mode = Straight; figure = f; threshold = t; weight = w; table = table; list = list })

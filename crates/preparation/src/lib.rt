@@ -71,7 +71,7 @@ fn read_and_run<H: Host>(host: &H) -> Status {
     let mut job = [0u8; MOST_BYTES + 1];
     let mut table = [0u32; ENTRIES];
     let mut list = [0u16; NUMBERS];
-    let Some(n) = read_only(host, b"prep", &mut job) else {
+    let Ok(n) = read_only(host, b"prep", &mut job) else {
         return Status::Failed;
     };
     told(console.err, run(console, &job[..n], &mut table, &mut list))

@@ -1,5 +1,7 @@
 // The lines that the job program prints (docs/SCOPE.md, docs/JOB.md), and its help.
+ghost use Rattle.std.specs.Prelude.{length, ◌*◌, ◌≡◌, ◌≤◌};
 ghost use Rattle.terminal.specs.Output.{Remembers};
+ghost use Rattle.preparation.specs.Lines.{Listed};
 
 use fracture::{Denial, Fractured};
 use refusal::{Fault, Refusal};
@@ -29,10 +31,11 @@ pub fn print_refused(out: Output, fault: Fault) -> Output
 
 // The line of a shot, by its four numbers.
 fn print_shot(out: Output, shot: &[u16]) -> Output
+    requires { length shot.now ≡ 4 }
     ensures { Remembers out result }
 {
     let [x_low, y_low, x_high, y_high] = shot else {
-        return out;
+        unreachable!();
     };
     let left = print_number(out, b"", u64::from(*x_low));
     let low = print_number(left, b" ", u64::from(*y_low));
@@ -43,10 +46,12 @@ fn print_shot(out: Output, shot: &[u16]) -> Output
 
 // The lines of so many shots of a list.
 fn print_shots(out: Output, list: &[u16], shots: u32) -> Output
+    requires { 4 * shots ≤ length list.now }
     ensures { Remembers out result }
 {
+    let listed = &list[..4 * (shots as usize)];
     let mut next = out;
-    for shot in list.chunks_exact(4).take(shots as usize) {
+    for shot in listed.chunks_exact(4) {
         next = print_shot(next, shot);
     }
     next
@@ -54,6 +59,7 @@ fn print_shots(out: Output, list: &[u16], shots: u32) -> Output
 
 // The rest of the lines of an outline that was fractured.
 pub fn print_done(out: Output, done: Fractured, list: &[u16]) -> Output
+    requires { 4 * done.shots ≤ length list.now }
     ensures { Remembers out result }
 {
     let counted = print_number(out, b" shots ", u64::from(done.shots));
@@ -78,6 +84,7 @@ pub fn print_outline(
     answer: Result<Fractured, Denial>,
     list: &[u16],
 ) -> Output
+    requires { Listed answer (length list.now) }
     ensures { Remembers out result }
 {
     let named = print_number(out, b"outline ", k as u64);

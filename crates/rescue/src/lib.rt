@@ -98,7 +98,7 @@ fn help(console: Console) -> Status {
 fn read_and_run<H: Host>(host: &H) -> Status {
     let mut job = [0u8; MOST_BYTES + 1];
     let mut room = [0u8; MOST_BYTES];
-    let Some(n) = read_only(host, b"salvage", &mut job) else {
+    let Ok(n) = read_only(host, b"salvage", &mut job) else {
         return Status::Failed;
     };
     run(host.console(), &job[..n], &mut room)

@@ -218,7 +218,7 @@ fn walk_asked<H: Host>(host: &H, page: &mut Page, first: usize) -> Result<(), St
     requires { first ≤ 2 }
 {
     let mut job = [0u8; MOST_BYTES + 1];
-    let n = read_argument(host, b"walk", first, &mut job).ok_or(Status::Failed)?;
+    let n = read_argument(host, b"walk", first, &mut job).map_err(|_| Status::Failed)?;
     walk_job(
         page,
         &job[..n],

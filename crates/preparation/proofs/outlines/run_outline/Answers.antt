@@ -6,8 +6,11 @@ use native.Mathlib.Omega.{arith}
 use Rattle.number.proofs.Bytes.{AllBytes}
 use Rattle.preparation.specs.Outlines.{is_refused}
 use Rattle.preparation.proofs.Accepted.{sound-accepted, figure_words}
-use Rattle.preparation.proofs.Fracturing.{told-refused}
+use Rattle.preparation.proofs.Fracturing.{told-listed, told-refused}
 use Rattle.preparation.proofs.outlines.run_outline.Goals as goal
+
+pub print_outline-requires : goal.print_outline-requires
+print_outline-requires c = told-listed _ c.fracture_outline-answer.result _ _ c.fracture_outline-answer.ensures
 
 pub returns : goal.returns
 unfolding is_refused
