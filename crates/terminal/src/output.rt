@@ -65,23 +65,30 @@ pub fn flush(out: Output) -> Output
 }
 
 // Room for a byte: where the buffer is full, what is held is written.
-fn make_room(out: Output) -> Output
-    ensures { (result.held < 255) × Remembers out result }
+fn make_room(out: &mut Output)
+    ensures { (out.new.held < 255) × Remembers out.old out.new }
 {
-    if out.held < 255 {
-        return out;
+    if 255 <= out.held {
+        *out = flush(*out);
     }
-    flush(out)
 }
 
-// A byte more.
-fn print_byte(out: Output, byte: u8) -> Output
-    ensures { Remembers out result }
+// A byte more, in place: the buffer is not moved for each.
+fn put_byte(out: &mut Output, byte: u8)
+    ensures { Remembers out.old out.new }
 {
-    let mut next = make_room(out);
-    next.bytes[usize::from(next.held)] = byte;
-    next.held += 1;
-    next
+    make_room(out);
+    out.bytes[usize::from(out.held)] = byte;
+    out.held += 1;
+}
+
+// A word more, in place.
+fn put(out: &mut Output, word: &[u8])
+    ensures { Remembers out.old out.new }
+{
+    for byte in word {
+        put_byte(out, *byte);
+    }
 }
 
 // A word more. Not by `write!`, which promises nothing of a failure that is forgotten; by value, as the callers' proofs have it.
@@ -89,9 +96,7 @@ pub fn print(out: Output, word: &[u8]) -> Output
     ensures { Remembers out result }
 {
     let mut next = out;
-    for byte in word {
-        next = print_byte(next, *byte);
-    }
+    put(&mut next, word);
     next
 }
 
@@ -101,13 +106,16 @@ pub fn print_number(out: Output, word: &[u8], n: u64) -> Output
 {
     let mut digits = [0u8; 20];
     let count = io::decimal(n, &mut digits);
-    print(print(out, word), &digits[..count])
+    let mut next = out;
+    put(&mut next, word);
+    put(&mut next, &digits[..count]);
+    next
 }
 
 // Text as `write!` puts it together. It gives no error: the output keeps in mind whether a write failed.
 impl Write for Output {
     fn write_str(&mut self, text: &str) -> fmt::Result {
-        *self = print(*self, text.as_bytes());
+        put(self, text.as_bytes());
         Ok(())
     }
 }
@@ -134,7 +142,8 @@ pub fn finish(out: Output) -> bool
 pub fn write_now(out: &mut Output, words: &[u8])
     ensures { Remembers out.old out.new }
 {
-    *out = flush(print(*out, words));
+    put(out, words);
+    *out = flush(*out);
 }
 
 // Whether all words went that were written at once.
