@@ -1,7 +1,7 @@
 // A figure of a job, unpacked; and the numbers by which figures and edges are asked for.
 use figure::{MOST_CORNERS, MOST_RINGS};
 use job::Header;
-use job::read::{Part, locate};
+use job::read::{Part, locate, take};
 use job::unpack::unpack;
 use refusal::Fault;
 use std::rt::Stderr;
@@ -18,18 +18,18 @@ pub struct Figure {
     rings: usize,
 }
 
-// The bytes of a part of a job.
+// The bytes of a part of a job, to be shown.
 pub(crate) fn part_of(job: &[u8], part: Part) -> &[u8] {
     job.get(part.start..part.end).unwrap_or(&[])
 }
 
 impl Figure {
-    // Figure k of a job that was read.
+    // Figure k of a job that was read: what `take` promises of its bytes is unpacked, and where they lie is for the walk, which shows them.
     pub fn new(job: &[u8], header: Header, k: usize) -> Result<Figure, Fault> {
         let mut corners = [0; 2 * MOST_CORNERS];
         let mut lengths = [0; MOST_RINGS];
+        let said = unpack(take(job, k)?, &mut corners, &mut lengths)?;
         let part = locate(job, header.next, k)?;
-        let said = unpack(part_of(job, part), &mut corners, &mut lengths)?;
         Ok(Figure {
             part,
             corners,
@@ -51,13 +51,13 @@ impl Figure {
 }
 
 // The first n of some items; all of them where there are fewer.
-pub fn front<T>(items: &[T], n: usize) -> &[T] {
+pub(crate) fn front<T>(items: &[T], n: usize) -> &[T] {
     &items[..n.min(items.len())]
 }
 
 // How a program says that a number is wanted; or, around the number that was asked for, that there is nothing of it.
 #[derive(Clone, Copy)]
-pub struct Wording<'a> {
+pub(crate) struct Wording<'a> {
     pub wanted: &'a [u8],
     pub none: &'a [u8],
     pub has: &'a [u8],
@@ -65,7 +65,7 @@ pub struct Wording<'a> {
 
 impl Wording<'_> {
     // The number of one of so many, from 0; or the status where there is none, which was told.
-    pub fn number(self, err: Stderr, asked: Option<usize>, count: usize) -> Result<usize, Status> {
+    pub(crate) fn number(self, err: Stderr, asked: Option<usize>, count: usize) -> Result<usize, Status> {
         let Some(n) = asked else {
             return Err(complain(err, self.wanted));
         };
