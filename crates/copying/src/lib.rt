@@ -9,6 +9,7 @@ pub fn put<T: Copy>(items: &[T], out: &mut [T], at: usize)
     requires { at + length items.now ≤ length out.old }
     ensures { out.new ≡ sets out.old at items.now }
 {
-    let end = at + items.len();
-    out[at..end].copy_from_slice(items);
+    for i in 0..items.len() {
+        out[at + i] = items[i];
+    }
 }
