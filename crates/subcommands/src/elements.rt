@@ -46,7 +46,10 @@ fn print_plate(console: Console, plate: Plate, list: &[u16]) -> Status {
         sliver: plate.sliver,
         cuts: plate.cuts,
     };
-    ended(print_done(y, done, list), false)
+    if 4 * (done.shots as usize) <= list.len() {
+        return ended(print_done(y, done, list), false);
+    }
+    ended(y, false)
 }
 
 // An element, fractured and printed.
@@ -62,6 +65,6 @@ fn run(console: Console, element: &[u8]) -> Status {
 // The subcommand: its file is word 2.
 pub fn element_words<H: Host>(host: &H) -> Result<Status, Status> {
     let mut element = [0u8; MOST_ELEMENT];
-    let n = read_argument(host, b"pinarewhemi", 2, &mut element).ok_or(Status::Failed)?;
+    let n = read_argument(host, b"pinarewhemi", 2, &mut element).map_err(|_| Status::Failed)?;
     Ok(run(host.console(), &element[..n]))
 }

@@ -1,7 +1,7 @@
 // `pinarewhemi fracture`: every figure of a job or of a drawing, by straight cuts or by pinwheels too, undivided or by a largest side. It
 // prints what the job program prints.
 use crate::chosen::refuse_figure;
-use crate::lines::ended;
+use crate::lines::{ended, print_answer};
 use crate::options::{Options, options_from};
 use crate::sources::{DIVIDED_NUMBERS, figure_of, front, read_job, refuse_job};
 use division::fracture_divided;
@@ -9,7 +9,7 @@ use fracture::{Denial, ENTRIES, Fractured, fracture, fracture_pinwheel};
 use job::read::whole;
 use job::{Header, MOST_BYTES};
 use piece::Mode;
-use preparation::lines::{print_job, print_outline, print_refused};
+use preparation::lines::{print_job, print_refused};
 use terminal::console::Console;
 use terminal::host::Host;
 use terminal::output::{Output, nothing_yet};
@@ -69,7 +69,7 @@ fn run_figure(
         refuse_figure(out.console.err, k, figure, denial.why);
     }
     Ran {
-        out: print_outline(out, k, answer, list),
+        out: print_answer(out, k, answer, list),
         refused: answer.is_err(),
     }
 }

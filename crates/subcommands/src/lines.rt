@@ -1,9 +1,25 @@
 // Lines of the subcommands, and how they end.
+use fracture::{Denial, Fractured};
+use preparation::lines::print_outline;
 use terminal::arguments::number_argument;
 use terminal::errors::{complain, complain_of};
 use terminal::host::Host;
 use terminal::output::{Output, finish};
 use terminal::status::Status;
+
+// The lines of outline k, as the job program prints them, where the list holds its shots, as every fracture sees to.
+pub fn print_answer(
+    out: Output,
+    k: usize,
+    answer: Result<Fractured, Denial>,
+    list: &[u16],
+) -> Output {
+    match answer {
+        Ok(done) if list.len() < 4 * (done.shots as usize) => out,
+        Ok(done) => print_outline(out, k, Ok(done), list),
+        Err(denial) => print_outline(out, k, Err(denial), list),
+    }
+}
 
 // Writes the last of the output, and gives the status.
 pub fn ended(out: Output, refused: bool) -> Status {

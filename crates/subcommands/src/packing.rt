@@ -12,7 +12,7 @@ use terminal::status::Status;
 // Packs the drawing that word 2 names, and writes the job.
 pub fn pack_words<H: Host>(host: &H) -> Result<Status, Status> {
     let mut text = [0u8; MOST_TEXT + 1];
-    let n = read_argument(host, b"pinarewhemi", 2, &mut text).ok_or(Status::Failed)?;
+    let n = read_argument(host, b"pinarewhemi", 2, &mut text).map_err(|_| Status::Failed)?;
     let mut job = [0u8; MOST_BYTES];
     let bytes = packed(host, 2, &text[..n], &mut job)?;
     let written = print(nothing_yet(host.console()), front(&job, bytes));
@@ -31,6 +31,6 @@ fn list_job(console: Console, job: &[u8]) -> Status {
 // Lists the job that word 2 names. One byte more than the longest is read, so that a longer one shows.
 pub fn list_words<H: Host>(host: &H) -> Result<Status, Status> {
     let mut job = [0u8; MOST_BYTES + 1];
-    let n = read_argument(host, b"pinarewhemi", 2, &mut job).ok_or(Status::Failed)?;
+    let n = read_argument(host, b"pinarewhemi", 2, &mut job).map_err(|_| Status::Failed)?;
     Ok(list_job(host.console(), &job[..n]))
 }

@@ -72,7 +72,7 @@ fn job_of<H: Host>(host: &H, i: usize, bytes: &[u8], job: &mut [u8]) -> Result<u
 // drawing is packed.
 pub fn read_job<H: Host>(host: &H, i: usize, job: &mut [u8]) -> Result<usize, Status> {
     let mut text = [0u8; MOST_TEXT + 1];
-    let n = read_argument(host, b"pinarewhemi", i, &mut text).ok_or(Status::Failed)?;
+    let n = read_argument(host, b"pinarewhemi", i, &mut text).map_err(|_| Status::Failed)?;
     job_of(host, i, &text[..n], job)
 }
 

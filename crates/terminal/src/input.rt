@@ -61,16 +61,14 @@ pub fn read_all<R: Read>(
 {
     let mut done = 0;
     while done < buffer.len() {
-        match read_some(from, clock, &mut buffer[done..]) {
-            Ok(0) => break,
-            Ok(more) => done += more,
-            Err(unread) => {
-                return Err(Unread {
-                    bytes: done,
-                    ..unread
-                });
-            }
+        let more = read_some(from, clock, &mut buffer[done..]).map_err(|unread| Unread {
+            bytes: done,
+            ..unread
+        })?;
+        if more == 0 {
+            break;
         }
+        done += more;
     }
     Ok(done)
 }
