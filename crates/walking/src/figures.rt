@@ -65,7 +65,12 @@ pub(crate) struct Wording<'a> {
 
 impl Wording<'_> {
     // The number of one of so many, from 0; or the status where there is none, which was told.
-    pub(crate) fn number(self, err: Stderr, asked: Option<usize>, count: usize) -> Result<usize, Status> {
+    pub(crate) fn number(
+        self,
+        err: Stderr,
+        asked: Option<usize>,
+        count: usize,
+    ) -> Result<usize, Status> {
         let Some(n) = asked else {
             return Err(complain(err, self.wanted));
         };
