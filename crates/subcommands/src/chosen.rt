@@ -25,7 +25,7 @@ pub fn choose<H: Host>(host: &H) -> Result<Chosen, Status> {
     let err = host.console().err;
     let header = header_of(err, job)?;
     let k = figure_number(host, 3, header.outlines)?;
-    let figure = figure_of(err, job, header, k)?;
+    let figure = figure_of(err, job, k)?;
     Ok(Chosen { k, header, figure })
 }
 

@@ -86,7 +86,7 @@ fn run_accepted(
     let mut out = print_job(nothing_yet(console), header.outlines);
     let mut refused = false;
     for k in 0..header.outlines as usize {
-        let figure = figure_of(console.err, job, header, k)?;
+        let figure = figure_of(console.err, job, k)?;
         let ran = run_figure(&figure, k, header, options, &mut table, &mut list, out);
         out = ran.out;
         refused = refused || ran.refused;

@@ -88,6 +88,6 @@ pub fn header_of(err: Stderr, job: &[u8]) -> Result<Header, Status> {
 }
 
 // Figure k of a job that was accepted.
-pub fn figure_of(err: Stderr, job: &[u8], header: Header, k: usize) -> Result<Figure, Status> {
-    Figure::new(job, header, k).map_err(|fault| refuse_job(err, job, fault))
+pub fn figure_of(err: Stderr, job: &[u8], k: usize) -> Result<Figure, Status> {
+    Figure::new(job, k).map_err(|fault| refuse_job(err, job, fault))
 }

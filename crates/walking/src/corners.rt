@@ -1,5 +1,4 @@
 // Steps 1 and 2: the bytes of the figure, its corners, and the edge.
-use crate::figures::part_of;
 use crate::page::{Page, show};
 use job::Header;
 use job::read::Part;
@@ -21,6 +20,11 @@ pub struct Edge {
 struct Corner {
     x: u16,
     y: u16,
+}
+
+// The bytes of a part of a job, to be shown.
+fn part_of(job: &[u8], part: Part) -> &[u8] {
+    job.get(part.start..part.end).unwrap_or(&[])
 }
 
 // Step 1: the bytes.

@@ -1,37 +1,28 @@
 // A figure of a job, unpacked; and the numbers by which figures and edges are asked for.
 use figure::{MOST_CORNERS, MOST_RINGS};
-use job::Header;
-use job::read::{Part, locate, take};
+use job::read::take;
 use job::unpack::unpack;
 use refusal::Fault;
 use std::rt::Stderr;
 use terminal::errors::{complain, complain_of};
 use terminal::status::Status;
 
-// Its bytes; and the coordinates of its corners and how many corners each of its rings has, at the front of two lists.
+// The coordinates of its corners and how many corners each of its rings has, at the front of two lists.
 #[derive(Clone, Copy)]
 pub struct Figure {
-    pub part: Part,
     corners: [u16; 2 * MOST_CORNERS],
     lengths: [u16; MOST_RINGS],
     numbers: usize,
     rings: usize,
 }
 
-// The bytes of a part of a job, to be shown.
-pub(crate) fn part_of(job: &[u8], part: Part) -> &[u8] {
-    job.get(part.start..part.end).unwrap_or(&[])
-}
-
 impl Figure {
-    // Figure k of a job that was read: what `take` promises of its bytes is unpacked, and where they lie is for the walk, which shows them.
-    pub fn new(job: &[u8], header: Header, k: usize) -> Result<Figure, Fault> {
+    // Figure k of a job that was read: what `take` promises of its bytes is unpacked.
+    pub fn new(job: &[u8], k: usize) -> Result<Figure, Fault> {
         let mut corners = [0; 2 * MOST_CORNERS];
         let mut lengths = [0; MOST_RINGS];
         let said = unpack(take(job, k)?, &mut corners, &mut lengths)?;
-        let part = locate(job, header.next, k)?;
         Ok(Figure {
-            part,
             corners,
             lengths,
             numbers: 2 * (said.corners as usize),

@@ -23,7 +23,7 @@ use ends::{print_runs, print_shots};
 use explanation::{figures as reasons, jobs};
 use figures::{Figure, Wording, front};
 use fracture::{Denial, ENTRIES, Fractured, NUMBERS, fracture};
-use job::read::whole;
+use job::read::{Part, locate, whole};
 use job::{Header, MOST_BYTES};
 use lines::{print_exposure, print_grid};
 use page::{Page, show};
@@ -41,12 +41,13 @@ use terminal::status::Status;
 // An edge of a fractured figure has no more runs: 15, of four numbers each.
 const MOST_RUNS: usize = 60;
 
-// One edge of figure k of a job that was read.
+// One edge of figure k of a job that was read, and where the figure's bytes lie, which the walk shows.
 #[derive(Clone, Copy)]
 struct Asked<'a> {
     job: &'a [u8],
     header: Header,
     k: usize,
+    part: Part,
     figure: &'a Figure,
     edge: Edge,
 }
@@ -81,7 +82,7 @@ impl Asked<'_> {
     // The figure before this one in the job, where there is one and its grid has no fewer entries.
     fn earlier(self, entries: usize) -> Option<Figure> {
         let before = self.k.checked_sub(1)?;
-        let figure = Figure::new(self.job, self.header, before).ok()?;
+        let figure = Figure::new(self.job, before).ok()?;
         let sheet = Sheet::new(figure.corners(), figure.lengths()).ok()?;
         if entries_of(&sheet) < entries {
             return None;
@@ -143,7 +144,7 @@ fn walk_down(page: &mut Page, asked: Asked<'_>, sheet: &Sheet) -> Result<(), Den
 fn walk_drawn(page: &mut Page, asked: Asked<'_>, sheet: &Sheet) -> Result<(), Denial> {
     let figure = asked.figure;
     let lies = sheet.lies_of(asked.edge);
-    print_bytes(page, asked.job, asked.header, figure.part, asked.k);
+    print_bytes(page, asked.job, asked.header, asked.part, asked.k);
     print_corners(page, figure.corners(), figure.lengths(), asked.edge);
     print_grid(page, sheet, lies);
     print_exposure(page, sheet, lies);
@@ -196,7 +197,8 @@ fn walk_job(
     let err = page.console().err;
     let header = whole(job).map_err(|fault| refuse_job(err, job, fault))?;
     let k = figure_number(err, header, k)?;
-    let figure = Figure::new(job, header, k).map_err(|fault| refuse_job(err, job, fault))?;
+    let figure = Figure::new(job, k).map_err(|fault| refuse_job(err, job, fault))?;
+    let part = locate(job, header.next, k).map_err(|fault| refuse_job(err, job, fault))?;
     let sheet = Sheet::new(figure.corners(), figure.lengths()).map_err(|why| refuse_figure(
         err, k, &figure, why,
     ))?;
@@ -206,6 +208,7 @@ fn walk_job(
         job,
         header,
         k,
+        part,
         figure: &figure,
         edge,
     };
