@@ -113,8 +113,8 @@ fn turns_of(columns: usize, rows: usize) -> Turns
     Turns::Few
 }
 
-// The fracture of the grid of a figure, by its size. Where there is no pinwheel straight cuts give the same. The two sizes that take the
-// large store are two calls: what has two callers the compiler does not put in place, and the store would else be in the frame of every call.
+// The fracture of the grid of a figure, by its size. Where there is no pinwheel straight cuts give the same. The two sizes that go by the
+// fill are two calls: what has two callers the compiler does not put in place, and what it needs would else be in the frame of every call.
 fn fracture_sized(
     columns: usize,
     rows: usize,

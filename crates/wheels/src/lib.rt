@@ -128,7 +128,9 @@ fn fill_in<const N: usize>(
 }
 
 // Fills the table with the cost of every piece of the grid in the pinwheel mode, in the order of entries. What it held there has no
-// influence, and what lies beyond the entries stays as it was.
+// influence, and what lies beyond the entries stays as it was. The compiler never puts it in place: its store is off the stack when the shots
+// are written.
+#[inline(never)]
 pub fn fill(
     xs: &[u16],
     ys: &[u16],
