@@ -104,7 +104,9 @@ pub(crate) fn begin(job: &[u8], from: Cursor) -> Result<Read, Fault>
     })
 }
 
-// Past one figure: its rings, after what announces them.
+// Past one figure: its rings, after what announces them. Always put in place, as what calls it: a call costs as much as some numbers of the
+// figure.
+#[inline(always)]
 fn outline(job: &[u8], from: Cursor) -> Result<Cursor, Fault>
     ensures { past_told result ≡ past (outline job.now from.at) }
 {
@@ -113,6 +115,7 @@ fn outline(job: &[u8], from: Cursor) -> Result<Cursor, Fault>
 }
 
 // Past k figures.
+#[inline(always)]
 fn outlines(job: &[u8], from: Cursor, k: usize) -> Result<Cursor, Fault>
     ensures { past_told result ≡ past (outlines job.now k from.at) }
 {
@@ -167,6 +170,7 @@ pub fn check(job: &[u8]) -> Result<Job, Fault>
 }
 
 // Where figure k stands, by reading k figures and then one more.
+#[inline(always)]
 pub fn locate(job: &[u8], first: Cursor, k: usize) -> Result<Part, Fault>
     ensures { located_told result ≡ located job.now k first.at }
 {

@@ -47,7 +47,8 @@ fn three(a: u8, b: u8, d: u8) -> u32
 
 impl Cursor {
     // The number at the cursor, or the byte at fault: where the bytes end, or the last byte read. A value is held to no range here:
-    // that is for whoever wanted it.
+    // that is for whoever wanted it. Numbers of two bytes and of three leave at one place: from a place each the compiler puts the value
+    // together byte by byte, as the reason of a fault lies where the value's first byte does.
     pub fn number(self, s: &[u8]) -> Result<Read, Fault>
         ensures settled { read_told result ≡ number s.now self.at }
         ensures bytes { AllBytes s.now }
@@ -65,23 +66,22 @@ impl Cursor {
         if b == 0 {
             return Err(Refusal::Padded.at(at1));
         }
-        if b < 128 {
-            return Ok(Read {
-                value: two(a, b),
-                next: Cursor { at: at + 2 },
-            });
-        }
-        let at2 = at + 2;
-        let d = byte(s, at2)?;
-        if 128 <= d {
-            return Err(Refusal::Range.at(at2));
-        }
-        if d == 0 {
-            return Err(Refusal::Padded.at(at2));
-        }
+        let (value, past) = if b < 128 {
+            (two(a, b), at + 2)
+        } else {
+            let at2 = at + 2;
+            let d = byte(s, at2)?;
+            if 128 <= d {
+                return Err(Refusal::Range.at(at2));
+            }
+            if d == 0 {
+                return Err(Refusal::Padded.at(at2));
+            }
+            (three(a, b, d), at + 3)
+        };
         Ok(Read {
-            value: three(a, b, d),
-            next: Cursor { at: at + 3 },
+            value,
+            next: Cursor { at: past },
         })
     }
 }

@@ -54,8 +54,8 @@ returns-then-d-eq0-clause-settled c =
     let d = c.in_ok-d.ensures.there in
     rw c.at-then-d-eq0.ensures (number_padded_three _ _ a.0 (omega arith) b.0 (omega arith) d.0 (omega arith))
 
-pub returns-clause-settled : goal.returns-clause-settled
-returns-clause-settled c =
+pub returns-else-d-eq0-clause-settled : goal.returns-else-d-eq0-clause-settled
+returns-else-d-eq0-clause-settled c =
     let a = c.in_ok-a.ensures.there in
     let b = c.in_ok-b.ensures.there in
     let d = c.in_ok-d.ensures.there in
