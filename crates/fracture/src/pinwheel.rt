@@ -63,8 +63,7 @@ impl Manner for Pinwheels {
     }
 }
 
-// The fracture of a grid of few columns and rows: its table by straight cuts is lowered. It stands apart, so that such a call makes no room on the
-// stack for the store of the pinwheel fill.
+// The fracture of a grid of few columns and rows: its table by straight cuts is lowered, which needs no store.
 fn fracture_few(
     columns: usize,
     rows: usize,
@@ -113,8 +112,8 @@ fn turns_of(columns: usize, rows: usize) -> Turns
     Turns::Few
 }
 
-// The fracture of the grid of a figure, by its size. Where there is no pinwheel straight cuts give the same. The two sizes that go by the
-// fill are two calls: what has two callers the compiler does not put in place, and what it needs would else be in the frame of every call.
+// The fracture of the grid of a figure, by its size. Where there is no pinwheel straight cuts give the same. Grids of more columns and
+// grids of more rows go by the pinwheel fill, whose store lies in its own frame: a call of another size makes no room for it.
 fn fracture_sized(
     columns: usize,
     rows: usize,
