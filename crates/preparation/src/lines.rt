@@ -57,8 +57,8 @@ fn print_shots(out: Output, list: &[u16], shots: u32) -> Output
     next
 }
 
-// The rest of the lines of an outline that was fractured.
-pub fn print_done(out: Output, done: Fractured, list: &[u16]) -> Output
+// The rest of the lines of an outline that was fractured, whose shots the list holds.
+pub fn print_listed(out: Output, done: Fractured, list: &[u16]) -> Output
     requires { 4 * done.shots ≤ length list.now }
     ensures { Remembers out result }
 {
@@ -69,6 +69,19 @@ pub fn print_done(out: Output, done: Fractured, list: &[u16]) -> Output
     print_shots(ended, list, done.shots)
 }
 
+// The same beside any list: of a shorter one the shots that stand whole in it. It prints the numbers by itself: through a function of both
+// the programs would copy the output once more for each outline.
+pub fn print_done(out: Output, done: Fractured, list: &[u16]) -> Output
+    ensures { Remembers out result }
+{
+    let shots = (done.shots as usize).min(list.len() / 4);
+    let counted = print_number(out, b" shots ", u64::from(done.shots));
+    let priced = print_number(counted, b" cost ", u64::from(done.cost));
+    let measured = print_number(priced, b" sliver ", u64::from(done.sliver));
+    let ended = print(measured, b"\n");
+    print_shots(ended, list, shots as u32)
+}
+
 // The rest of the line of an outline that was refused.
 fn print_reason(out: Output, why: Refusal) -> Output
     ensures { Remembers out result }
@@ -77,14 +90,30 @@ fn print_reason(out: Output, why: Refusal) -> Output
     print(told, b"\n")
 }
 
-// The lines of outline k.
-pub fn print_outline(
+// The lines of outline k; where it was fractured, the list holds its shots.
+pub fn print_listed_outline(
     out: Output,
     k: usize,
     answer: Result<Fractured, Denial>,
     list: &[u16],
 ) -> Output
     requires { Listed answer (length list.now) }
+    ensures { Remembers out result }
+{
+    let named = print_number(out, b"outline ", k as u64);
+    match answer {
+        Ok(done) => print_listed(named, done, list),
+        Err(denial) => print_reason(named, denial.why),
+    }
+}
+
+// The same beside any list: of a shorter one the shots that stand whole in it.
+pub fn print_outline(
+    out: Output,
+    k: usize,
+    answer: Result<Fractured, Denial>,
+    list: &[u16],
+) -> Output
     ensures { Remembers out result }
 {
     let named = print_number(out, b"outline ", k as u64);

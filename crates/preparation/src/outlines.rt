@@ -8,7 +8,7 @@ ghost use Rattle.fracture.specs.Told.{told};
 ghost use Rattle.terminal.specs.Output.{Remembers};
 ghost use Rattle.preparation.specs.Outlines.{Indexed, Admitted, said, is_refused, any_refused, Fronts};
 
-use crate::lines::print_outline;
+use crate::lines::print_listed_outline;
 use explanation::figures;
 use figure::{MOST_CORNERS, MOST_RINGS};
 use fracture::{Denial, Fractured, fracture};
@@ -113,7 +113,7 @@ fn run_outline(
 {
     let answer = fracture_outline(out.console.err, job, index, k, header, table, list);
     Ran {
-        out: print_outline(out, k, answer, list),
+        out: print_listed_outline(out, k, answer, list),
         refused: answer.is_err(),
     }
 }

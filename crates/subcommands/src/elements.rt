@@ -4,7 +4,7 @@ use crate::lines::ended;
 use explanation::texts::say_text;
 use fracture::{ENTRIES, Fractured, NUMBERS};
 use gdsii::{Plate, Unplated, fracture_boundary};
-use preparation::lines::print_done;
+use preparation::lines::print_listed;
 use terminal::arguments::read_argument;
 use terminal::console::Console;
 use terminal::errors::{say, say_number};
@@ -47,7 +47,7 @@ fn print_plate(console: Console, plate: Plate, list: &[u16]) -> Status {
         cuts: plate.cuts,
     };
     if 4 * (done.shots as usize) <= list.len() {
-        return ended(print_done(y, done, list), false);
+        return ended(print_listed(y, done, list), false);
     }
     ended(y, false)
 }

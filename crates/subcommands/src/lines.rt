@@ -1,6 +1,6 @@
 // Lines of the subcommands, and how they end.
 use fracture::{Denial, Fractured};
-use preparation::lines::print_outline;
+use preparation::lines::print_listed_outline;
 use terminal::arguments::number_argument;
 use terminal::errors::{complain, complain_of};
 use terminal::host::Host;
@@ -16,8 +16,8 @@ pub fn print_answer(
 ) -> Output {
     match answer {
         Ok(done) if list.len() < 4 * (done.shots as usize) => out,
-        Ok(done) => print_outline(out, k, Ok(done), list),
-        Err(denial) => print_outline(out, k, Err(denial), list),
+        Ok(done) => print_listed_outline(out, k, Ok(done), list),
+        Err(denial) => print_listed_outline(out, k, Err(denial), list),
     }
 }
 

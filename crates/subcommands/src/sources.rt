@@ -89,5 +89,5 @@ pub fn header_of(err: Stderr, job: &[u8]) -> Result<Header, Status> {
 
 // Figure k of a job that was accepted.
 pub fn figure_of(err: Stderr, job: &[u8], k: usize) -> Result<Figure, Status> {
-    Figure::new(job, k).map_err(|fault| refuse_job(err, job, fault))
+    Figure::taken(job, k).map_err(|fault| refuse_job(err, job, fault))
 }

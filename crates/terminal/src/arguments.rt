@@ -84,7 +84,7 @@ pub fn read_file<H: Host>(
 ) -> Result<usize, Unread>
     ensures { MatchResult result (λ n. n ≤ length buffer.new) (λ unread. unread.bytes ≤ length buffer.new) }
 {
-    let read = host.read_file(path, buffer);
+    let read = host.read_counted(path, buffer);
     if let Err(unread) = read {
         say_unread(host.console().err, program, path, unread);
     }

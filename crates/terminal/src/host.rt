@@ -1,5 +1,5 @@
 // Whatever a program is started by: the system, or a start in C (`given`).
-ghost use Rattle.std.specs.Prelude.{length, IfSome, MatchResult, ◌≤◌};
+ghost use Rattle.std.specs.Prelude.{length, IfOk, IfSome, MatchResult, ◌≤◌};
 
 use crate::console::Console;
 use crate::input::{Unread, read_all};
@@ -22,7 +22,21 @@ pub trait Host {
 
     // The file of this name, as much of it as the buffer holds: how many bytes.
     fn read_file(&self, path: &[u8], buffer: &mut [u8]) -> Result<usize, Unread>
-        ensures in_bounds { MatchResult result (λ n. n ≤ length buffer.new) (λ unread. unread.bytes ≤ length buffer.new) };
+        ensures in_bounds { IfOk result (λ n. n ≤ length buffer.new) };
+
+    // The same; and where reading failed, no more bytes are told than the buffer has. Of a host that has no answer of its own to this, it is
+    // that of `read_file`, cut to the buffer.
+    fn read_counted(&self, path: &[u8], buffer: &mut [u8]) -> Result<usize, Unread>
+        ensures in_bounds { MatchResult result (λ n. n ≤ length buffer.new) (λ unread. unread.bytes ≤ length buffer.new) }
+    {
+        match self.read_file(path, buffer) {
+            Ok(bytes) => Ok(bytes),
+            Err(unread) => Err(Unread {
+                bytes: unread.bytes.min(buffer.len()),
+                why: unread.why,
+            }),
+        }
+    }
 }
 
 // The number by which the system says that bytes are no text.
@@ -53,8 +67,12 @@ impl Host for LibcRuntime {
         self.arg(i, into).ok()
     }
 
-    // Std opens a file by a name that is text, and by no other.
     fn read_file(&self, path: &[u8], buffer: &mut [u8]) -> Result<usize, Unread> {
+        self.read_counted(path, buffer)
+    }
+
+    // Std opens a file by a name that is text, and by no other.
+    fn read_counted(&self, path: &[u8], buffer: &mut [u8]) -> Result<usize, Unread> {
         let Ok(name) = from_utf8(path) else {
             return Err(Unread::from(Error::from_raw_os_error(NO_TEXT)));
         };

@@ -1,6 +1,10 @@
 // A figure of a job, unpacked; and the numbers by which figures and edges are asked for.
+ghost use Rattle.std.specs.Prelude.{length, IfOk, ◌≤◌, ◌<◌};
+ghost use Rattle.job.specs.Steps.{located, IsRead};
+
 use figure::{MOST_CORNERS, MOST_RINGS};
-use job::read::take;
+use job::Header;
+use job::read::{locate, take};
 use job::unpack::unpack;
 use refusal::Fault;
 use std::rt::Stderr;
@@ -18,10 +22,27 @@ pub struct Figure {
 
 impl Figure {
     // Figure k of a job that was read: what `take` promises of its bytes is unpacked.
-    pub fn new(job: &[u8], k: usize) -> Result<Figure, Fault> {
+    pub fn taken(job: &[u8], k: usize) -> Result<Figure, Fault> {
         let mut corners = [0; 2 * MOST_CORNERS];
         let mut lengths = [0; MOST_RINGS];
         let said = unpack(take(job, k)?, &mut corners, &mut lengths)?;
+        Ok(Figure {
+            corners,
+            lengths,
+            numbers: 2 * (said.corners as usize),
+            rings: said.rings as usize,
+        })
+    }
+
+    // Figure k of a job by its header: only the bytes up to its last are read. Where these lie `locate` says, which is not refused then.
+    pub fn new(job: &[u8], header: Header, k: usize) -> Result<Figure, Fault>
+        ensures { IfOk result (λ figure. IsRead (located job.now k header.next.at)) }
+    {
+        let mut corners = [0; 2 * MOST_CORNERS];
+        let mut lengths = [0; MOST_RINGS];
+        let part = locate(job, header.next, k)?;
+        let bytes = job.get(part.start..part.end).unwrap_or(&[]);
+        let said = unpack(bytes, &mut corners, &mut lengths)?;
         Ok(Figure {
             corners,
             lengths,
@@ -42,13 +63,15 @@ impl Figure {
 }
 
 // The first n of some items; all of them where there are fewer.
-pub(crate) fn front<T>(items: &[T], n: usize) -> &[T] {
+pub fn front<T>(items: &[T], n: usize) -> &[T]
+    ensures { length result.now ≤ n }
+{
     &items[..n.min(items.len())]
 }
 
 // How a program says that a number is wanted; or, around the number that was asked for, that there is nothing of it.
 #[derive(Clone, Copy)]
-pub(crate) struct Wording<'a> {
+pub struct Wording<'a> {
     pub wanted: &'a [u8],
     pub none: &'a [u8],
     pub has: &'a [u8],
@@ -56,12 +79,9 @@ pub(crate) struct Wording<'a> {
 
 impl Wording<'_> {
     // The number of one of so many, from 0; or the status where there is none, which was told.
-    pub(crate) fn number(
-        self,
-        err: Stderr,
-        asked: Option<usize>,
-        count: usize,
-    ) -> Result<usize, Status> {
+    pub fn number(self, err: Stderr, asked: Option<usize>, count: usize) -> Result<usize, Status>
+        ensures { IfOk result (λ n. n < count) }
+    {
         let Some(n) = asked else {
             return Err(complain(err, self.wanted));
         };

@@ -82,7 +82,7 @@ impl Asked<'_> {
     // The figure before this one in the job, where there is one and its grid has no fewer entries.
     fn earlier(self, entries: usize) -> Option<Figure> {
         let before = self.k.checked_sub(1)?;
-        let figure = Figure::new(self.job, before).ok()?;
+        let figure = Figure::taken(self.job, before).ok()?;
         let sheet = Sheet::new(figure.corners(), figure.lengths()).ok()?;
         if entries_of(&sheet) < entries {
             return None;
@@ -197,7 +197,7 @@ fn walk_job(
     let err = page.console().err;
     let header = whole(job).map_err(|fault| refuse_job(err, job, fault))?;
     let k = figure_number(err, header, k)?;
-    let figure = Figure::new(job, k).map_err(|fault| refuse_job(err, job, fault))?;
+    let figure = Figure::taken(job, k).map_err(|fault| refuse_job(err, job, fault))?;
     let part = locate(job, header.next, k).map_err(|fault| refuse_job(err, job, fault))?;
     let sheet = Sheet::new(figure.corners(), figure.lengths()).map_err(|why| refuse_figure(
         err, k, &figure, why,

@@ -9,8 +9,8 @@ use Rattle.preparation.proofs.Accepted.{sound-accepted, figure_words}
 use Rattle.preparation.proofs.Fracturing.{told-listed, told-refused}
 use Rattle.preparation.proofs.outlines.run_outline.Goals as goal
 
-pub print_outline-requires : goal.print_outline-requires
-print_outline-requires c = told-listed _ c.fracture_outline-answer.result _ _ c.fracture_outline-answer.ensures
+pub print_listed_outline-requires : goal.print_listed_outline-requires
+print_listed_outline-requires c = told-listed _ c.fracture_outline-answer.result _ _ c.fracture_outline-answer.ensures
 
 pub returns : goal.returns
 unfolding is_refused
@@ -21,5 +21,5 @@ returns c =
     let range = (sound-accepted s c.args.header c.requires.admitted.sound).range in record {
       refused_value = c.is_err.ensures.value
           ∙ told-refused _ range words c.requires.in_bounds.0 c.requires.in_bounds.1 c.fracture_outline-answer.result _ _ c.fracture_outline-answer.ensures;
-      remembers = c.print_outline.ensures;
+      remembers = c.print_listed_outline.ensures;
     }
